@@ -1,0 +1,182 @@
+-- The rules of a trace, one definition each. The history of an entry is all that stands before it, oldest
+-- first, and a distance is the later cycle minus the earlier cycle.
+use Rattle.std.specs.Prelude.{ℕ, ◌+◌, ◌*◌, ◌/◌, Bool, true, false, ◌&&◌, ◌||◌, not, ◌==◌, nat_lt, nat_le, List, [], ◌∷◌, count_by}
+use Rattle.std.specs.List.{list_any}
+use Rattle.ddr_timing.specs.declared.config.Config.{Config}
+use Rattle.ddr_timing.specs.declared.geometry.Geometry.{Geometry}
+use Rattle.ddr_timing.specs.declared.timing.Timing.{Timing}
+use Rattle.ddr_trace.specs.declared.command.Command.{Command}
+use Rattle.ddr_trace.specs.declared.command.Command.TheVariants.{Act, Rd, Wr, Pre, PreAll, Refresh}
+use Rattle.ddr_trace.specs.declared.command.Entry.{Entry}
+use Rattle.ddr_trace.specs.declared.rule.Rule.{Rule}
+use Rattle.ddr_trace.specs.declared.rule.Rule.TheVariants as rule
+use Rattle.ddr_trace.specs.Commands.{is_activate, is_read, is_write, is_column, is_precharge, is_refresh, is_same_kind, is_same_rank, is_same_group, is_other_group, is_same_bank, is_other_bank, row_of}
+
+-- Rules on two commands: which comes earlier, which later, which pairs of the two, and the least distance.
+pub record Spacing : Type 0 where
+  pub earlier : Command → Bool
+  pub later : Command → Bool
+  pub pairs : Command → Command → Bool
+  pub at_least : ℕ
+
+abbrev pub rcd : Timing → Spacing
+rcd t = record { earlier = is_activate; later = is_column; pairs = is_same_bank; at_least = t.rcd }
+
+abbrev pub ras : Timing → Spacing
+ras t = record { earlier = is_activate; later = is_precharge; pairs = is_same_bank; at_least = t.ras }
+
+abbrev pub rc : Timing → Spacing
+rc t = record { earlier = is_activate; later = is_activate; pairs = is_same_bank; at_least = t.rc }
+
+abbrev pub rp : Timing → Spacing
+rp t = record { earlier = is_precharge; later = is_activate; pairs = is_same_bank; at_least = t.rp }
+
+abbrev pub rrd_l : Timing → Spacing
+rrd_l t = record { earlier = is_activate; later = is_activate; pairs = is_other_bank; at_least = t.rrd_l }
+
+abbrev pub rrd_s : Timing → Spacing
+rrd_s t = record { earlier = is_activate; later = is_activate; pairs = is_other_group; at_least = t.rrd_s }
+
+abbrev pub ccd_l : Timing → Spacing
+ccd_l t = record { earlier = is_column; later = is_column; pairs = λ a b. is_same_kind a b && is_same_group a b; at_least = t.ccd_l }
+
+abbrev pub ccd_s : Timing → Spacing
+ccd_s t = record { earlier = is_column; later = is_column; pairs = λ a b. is_same_kind a b && is_other_group a b; at_least = t.ccd_s }
+
+-- from the end of the write's data, WL + 4 after the command
+abbrev pub wtr_l : Timing → Spacing
+wtr_l t = record { earlier = is_write; later = is_read; pairs = is_same_group; at_least = t.cwl + 4 + t.wtr_l }
+
+abbrev pub wtr_s : Timing → Spacing
+wtr_s t = record { earlier = is_write; later = is_read; pairs = is_other_group; at_least = t.cwl + 4 + t.wtr_s }
+
+abbrev pub rtp : Timing → Spacing
+rtp t = record { earlier = is_read; later = is_precharge; pairs = is_same_bank; at_least = t.rtp }
+
+abbrev pub wr : Timing → Spacing
+wr t = record { earlier = is_write; later = is_precharge; pairs = is_same_bank; at_least = t.cwl + 4 + t.wr }
+
+abbrev pub rtw : Timing → Spacing
+rtw t = record { earlier = is_read; later = is_write; pairs = is_same_rank; at_least = t.rtw }
+
+abbrev pub rp_ref : Timing → Spacing
+rp_ref t = record { earlier = is_precharge; later = is_refresh; pairs = is_same_rank; at_least = t.rp }
+
+abbrev pub rfc : Timing → Spacing
+rfc t = record { earlier = is_refresh; later = λ _. true; pairs = is_same_rank; at_least = t.rfc }
+
+-- the two are a pair that the rule speaks of, and stand too close
+abbrev pub is_too_close : Spacing → Entry → Entry → Bool
+is_too_close s a b = s.earlier a.command && s.later b.command && s.pairs a.command b.command && nat_lt b.cycle (a.cycle + s.at_least)
+
+-- the entry is the later one of a pair that is too close
+abbrev pub breaks_spacing : Spacing → List Entry → Entry → Bool
+breaks_spacing s history e = list_any (λ a. is_too_close s a e) history
+
+-- some earlier entry, with what stands between it and the present place, passes the test
+abbrev pub some_earlier : (Entry → List Entry → Bool) → List Entry → Bool
+some_earlier test [] = false
+some_earlier test (a ∷ between) = test a between || some_earlier test between
+
+-- ORDER: the cycle is above that of the entry before, not below start, and below end.
+abbrev pub last_cycle_below : List Entry → ℕ → Bool
+last_cycle_below [] cycle = true
+last_cycle_below (a ∷ []) cycle = nat_lt a.cycle cycle
+last_cycle_below (a ∷ b ∷ later) cycle = last_cycle_below (b ∷ later) cycle
+
+abbrev pub breaks_order : ℕ → ℕ → List Entry → Entry → Bool
+breaks_order start end history e = not (last_cycle_below history e.cycle && nat_le start e.cycle && nat_lt e.cycle end)
+
+-- PLACE: the rank is 0, and group, bank, row and line lie in the geometry.
+abbrev pub is_bank_in : Geometry → ℕ → ℕ → ℕ → Bool
+is_bank_in g rank group bank = rank == 0 && nat_lt group g.groups && nat_lt bank 4
+
+abbrev pub is_in : Geometry → Command → Bool
+is_in g (Act rank group bank row) = is_bank_in g rank group bank && nat_lt row g.rows
+is_in g (Rd rank group bank row line) = is_bank_in g rank group bank && nat_lt row g.rows && nat_lt line (g.columns / 8)
+is_in g (Wr rank group bank row line) = is_bank_in g rank group bank && nat_lt row g.rows && nat_lt line (g.columns / 8)
+is_in g (Pre rank group bank) = is_bank_in g rank group bank
+is_in g (PreAll rank) = rank == 0
+is_in g (Refresh rank) = rank == 0
+
+-- The ACT has opened its bank, and no precharge of the bank stands between.
+abbrev pub stands_open : Entry → List Entry → Bool
+stands_open a between = is_activate a.command && not (list_any (λ p. is_precharge p.command && is_same_bank p.command a.command) between)
+
+-- the bank that the command is for is active
+abbrev pub is_bank_active : List Entry → Command → Bool
+is_bank_active history command = some_earlier (λ a between. stands_open a between && is_same_bank a.command command) history
+
+-- the bank that the command is for is active with the command's row
+abbrev pub is_row_open : List Entry → Command → Bool
+is_row_open history command =
+    some_earlier (λ a between. stands_open a between && is_same_bank a.command command && row_of a.command == row_of command) history
+
+-- some bank of the command's rank is active
+abbrev pub is_rank_active : List Entry → Command → Bool
+is_rank_active history command = some_earlier (λ a between. stands_open a between && is_same_rank a.command command) history
+
+-- STATE: an ACT finds its bank idle, a read or a write finds it active, and a REF finds all banks idle.
+abbrev pub breaks_state : List Entry → Command → Bool
+breaks_state history (Act rank group bank row) = is_bank_active history (Act rank group bank row)
+breaks_state history (Rd rank group bank row line) = not (is_bank_active history (Rd rank group bank row line))
+breaks_state history (Wr rank group bank row line) = not (is_bank_active history (Wr rank group bank row line))
+breaks_state history (Refresh rank) = is_rank_active history (Refresh rank)
+breaks_state history (Pre rank group bank) = false
+breaks_state history (PreAll rank) = false
+
+-- ROW: the row of a read or a write is the open row of its bank.
+abbrev pub breaks_row : List Entry → Command → Bool
+breaks_row history command = is_column command && not (is_row_open history command)
+
+-- FAW: an ACT and the fourth ACT of the rank after it.
+abbrev pub breaks_faw : Timing → List Entry → Entry → Bool
+breaks_faw t history e = some_earlier (λ a between.
+    is_activate a.command && is_activate e.command && is_same_rank a.command e.command
+    && count_by (λ m. is_activate m.command && is_same_rank m.command e.command) between == 3
+    && nat_lt e.cycle (a.cycle + t.faw)) history
+
+-- how many REFs of the command's rank the history has
+abbrev pub refresh_count : List Entry → Command → ℕ
+refresh_count history command = count_by (λ a. is_refresh a.command && is_same_rank a.command command) history
+
+-- REF_LATE: the k-th REF, k from 1, is at or before start + (k + 8) * REFI.
+abbrev pub breaks_ref_late : Timing → ℕ → List Entry → Entry → Bool
+breaks_ref_late t start history e =
+    is_refresh e.command && nat_lt (start + (refresh_count history e.command + 1 + 8) * t.refi) e.cycle
+
+-- REF_GAP: a REF and the next one are at most 9 * REFI apart.
+abbrev pub breaks_ref_gap : Timing → List Entry → Entry → Bool
+breaks_ref_gap t history e = some_earlier (λ a between.
+    is_refresh a.command && is_refresh e.command && is_same_rank a.command e.command
+    && refresh_count between e.command == 0
+    && nat_lt (a.cycle + 9 * t.refi) e.cycle) history
+
+-- REF_LATE at the trace's end: of K REFs the next one is due no later than start + (K + 9) * REFI.
+abbrev pub ends_late : Timing → ℕ → ℕ → List Entry → Bool
+ends_late t start end entries = nat_lt (start + (refresh_count entries (Refresh 0) + 9) * t.refi) end
+
+-- the entry breaks the rule, after its history, in a trace of this start and end
+abbrev pub breaks : Config → ℕ → ℕ → Rule → List Entry → Entry → Bool
+breaks c start end rule.Order history e = breaks_order start end history e
+breaks c start end rule.Place history e = not (is_in c.geometry e.command)
+breaks c start end rule.State history e = breaks_state history e.command
+breaks c start end rule.Row history e = breaks_row history e.command
+breaks c start end rule.Rcd history e = breaks_spacing (rcd c.timing) history e
+breaks c start end rule.Ras history e = breaks_spacing (ras c.timing) history e
+breaks c start end rule.Rc history e = breaks_spacing (rc c.timing) history e
+breaks c start end rule.Rp history e = breaks_spacing (rp c.timing) history e
+breaks c start end rule.RrdL history e = breaks_spacing (rrd_l c.timing) history e
+breaks c start end rule.RrdS history e = breaks_spacing (rrd_s c.timing) history e
+breaks c start end rule.Faw history e = breaks_faw c.timing history e
+breaks c start end rule.CcdL history e = breaks_spacing (ccd_l c.timing) history e
+breaks c start end rule.CcdS history e = breaks_spacing (ccd_s c.timing) history e
+breaks c start end rule.WtrL history e = breaks_spacing (wtr_l c.timing) history e
+breaks c start end rule.WtrS history e = breaks_spacing (wtr_s c.timing) history e
+breaks c start end rule.Rtp history e = breaks_spacing (rtp c.timing) history e
+breaks c start end rule.Wr history e = breaks_spacing (wr c.timing) history e
+breaks c start end rule.Rtw history e = breaks_spacing (rtw c.timing) history e
+breaks c start end rule.RpRef history e = breaks_spacing (rp_ref c.timing) history e
+breaks c start end rule.Rfc history e = breaks_spacing (rfc c.timing) history e
+breaks c start end rule.RefLate history e = breaks_ref_late c.timing start history e
+breaks c start end rule.RefGap history e = breaks_ref_gap c.timing history e
