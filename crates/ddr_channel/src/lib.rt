@@ -1,13 +1,15 @@
-// A library with one function.
+//! One channel of a DDR4 memory controller, cycle by cycle.
+//!
+//! Below stand the rows (`ddr_row_array`), the rules of a trace (`ddr_trace`), the requests
+//! (`ddr_address_map`) and the configuration (`ddr_timing`). `channel` is the channel with its calls;
+//! `waiting` is a pending request, `bus` what may be issued next, `choice` what a cycle does, and
+//! `transfer` how a column command moves its data.
 #![tactic(auto)]
 
-ghost use Rattle.std.specs.Prelude.{◌≡◌};
-ghost use Rattle.ddr_channel.specs.Echo.{echo_of};
-
-// The `ensures` clause is the contract: what `echo` returns is `echo_of` of its argument, a definition
-// in `specs/Echo.antt`, which a caller's clause can cite too.
-pub fn echo(x: usize) -> usize
-    ensures { result ≡ echo_of x }
-{
-    x
-}
+mod bus;
+pub mod channel;
+pub mod choice;
+pub mod promise;
+mod queue;
+mod transfer;
+pub mod waiting;

@@ -1,0 +1,12 @@
+pub mod MemoryLemmas
+pub mod LegalLemmas
+pub mod MayLemmas
+pub mod OpenRowLemmas
+pub mod SoundLemmas
+pub mod HistoryLemmas
+pub mod PromiseLemmas
+pub mod ChoiceLemmas
+pub mod QueueLemmas
+pub mod ChannelLemmas
+pub mod WholeLemmas
+pub mod StandsLemmas

@@ -1,0 +1,39 @@
+-- What every state of a channel keeps.
+use Rattle.std.specs.Prelude.{◌≡◌, ℕ, ◌+◌, ◌<◌, ◌≤◌, ◌/◌, List, [], ◌∷◌, length, Some, slice_get}
+use Rattle.std.specs.List.{AllByRecursion}
+use Rattle.ddr_timing.specs.declared.config.Config.{Config}
+use Rattle.ddr_trace.specs.declared.command.Entry.{Entry}
+use Rattle.ddr_trace.specs.Legality.{IsLegal}
+use Rattle.ddr_address_map.specs.declared.place.Place.{Place}
+use Rattle.ddr_address_map.specs.declared.request.Kind.TheVariants.{Read, Write}
+use Rattle.ddr_address_map.specs.Requests.{Completion}
+use Rattle.ddr_channel.specs.declared.waiting.Waiting.{Waiting}
+use Rattle.ddr_channel.specs.Commands.{column_at, entry}
+use Rattle.ddr_channel.specs.Cycle.{service_time}
+use Rattle.ddr_channel.specs.State.{State, pending_count}
+
+-- the place's digits lie in the geometry, and for now in group 0 and bank 0
+pub record IsServed (config : Config) (p : Place) : Type 0 where
+  pub group : p.group ≡ 0
+  pub bank : p.bank ≡ 0
+  pub row : p.row < config.geometry.rows
+  pub line : p.line < config.geometry.columns / 8
+
+-- the column command of the completion stands in the trace, and the completion is due when its data have passed
+pub record IsTraced (config : Config) (trace : List Entry) (d : Completion) : Type 0 where
+  pub place : Place
+  pub at : ℕ
+  pub there : slice_get trace at ≡ Some (entry d.issued (column_at d.echo.kind place))
+  pub due : d.due ≡ d.issued + service_time config d.echo.kind
+
+-- due one after another, the first not before this cycle
+abbrev pub AreDue : ℕ → List Completion → Type 0
+AreDue first [] = Unit {0}
+AreDue first (d ∷ ds) = (first ≤ d.due) × AreDue (d.due + 1) ds
+
+pub record IsSound (s : State) : Type 0 where
+  pub legal : IsLegal s.config s.start s.now s.trace
+  pub due : AreDue s.now s.flight
+  pub traced : AllByRecursion (IsTraced s.config s.trace) s.flight
+  pub room : length s.flight + length s.done ≤ s.config.limits.done
+  pub served : AllByRecursion (λ w. IsServed s.config w.request.place) s.pending

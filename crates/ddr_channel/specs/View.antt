@@ -1,0 +1,34 @@
+-- What a channel's fields stand for.
+use Rattle.std.specs.Prelude.{◌≡◌, ℕ, ◌+◌, ◌^◌, ◌≤◌, List, length}
+use Rattle.ddr_address_map.specs.declared.request.Kind.TheVariants.{Read, Write}
+use Rattle.ddr_channel.specs.declared.channel.Channel.TheInside.{Inside}
+use Rattle.ddr_channel.specs.Kept.{Kept, state_of, AgreesWith}
+use Rattle.ddr_channel.specs.Sound.{IsSound}
+use Rattle.ddr_channel.specs.State.{pending_count}
+
+abbrev pub kept_of : Inside → Kept
+kept_of a = record {
+  config = a.config;
+  start = a.start;
+  now = a.now;
+  pending = a.pending.items;
+  flight = a.flight.items;
+  done = a.done.items;
+  trace = a.trace.items;
+  rows = a.rows;
+}
+
+-- what the fields keep, beside what every state does
+pub record IsWhole (a : Inside) : Type 0 where
+  pub sound : IsSound (state_of (kept_of a))
+  pub begun : a.start ≤ a.now
+  pub clock : a.now ≤ 2 ^ 62
+  -- the counts of pending requests, which the queues have room for
+  pub reads : a.reads ≡ pending_count Read a.pending.items
+  pub writes : a.writes ≡ pending_count Write a.pending.items
+  pub reads_fit : a.reads ≤ a.config.limits.reads
+  pub writes_fit : a.writes ≤ a.config.limits.writes
+  pub pending_room : a.pending.capacity ≡ a.config.limits.reads + a.config.limits.writes
+  pub flight_room : a.flight.capacity ≡ a.config.limits.done
+  pub done_room : a.done.capacity ≡ a.config.limits.done
+  pub agrees : AgreesWith a.config a.trace.items a.rows

@@ -1,0 +1,15 @@
+//! The data mask of a write, on the 64 bytes of a burst.
+ghost use Rattle.std.specs.Prelude.{◌≡◌, length};
+ghost use Rattle.ddr_row_array.specs.Merge.{merged};
+
+/// Puts a byte of `line` over each byte of the burst whose bit is set in `mask`.
+pub fn merge(burst: &mut [u8], mask: u64, line: &[u8; 64])
+    requires { length burst.old ≡ 64 }
+    ensures { burst.new ≡ merged mask line.now burst.old }
+{
+    for i in 0..64 {
+        if (mask >> i) & 1 == 1 {
+            burst[i] = line[i];
+        }
+    }
+}

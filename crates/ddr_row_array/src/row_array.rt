@@ -1,0 +1,198 @@
+//! The bytes of one rank's rows, and the open row of each bank.
+ghost use Rattle.std.specs.Prelude.{◌≡◌, ℕ, ◌<◌, ◌==◌, ◌&&◌, ◌↔◌, false, if◌then◌else◌, List, length, Some, None, IsTrue, IsSome, IfSome, OnSome, OnOk, OnErr, IfOk, is_some, unwrap_or};
+ghost use Rattle.std.specs.Bool.{OnTrue, OnFalse};
+ghost use Rattle.std.specs.Option.{ForSome, option_copied, option_copied_mut};
+ghost use Rattle.std.specs.Borrow.{sem};
+ghost use Rattle.ddr_row_array.specs.Changes.{IsFresh, SameShape, SameBytes, Rewrites};
+ghost use Rattle.ddr_row_array.specs.Lending.{LendsOpenLine, LendsBurst};
+ghost use Rattle.ddr_row_array.specs.Merge.{merged};
+ghost use Rattle.ddr_row_array.specs.Rows.{bank_count, row_count, line_count, open_row, is_stored, cells, open_burst};
+ghost use Rattle.ddr_row_array.specs.Writes.{ChangesLineAlone};
+
+use crate::merge::merge;
+use crate::slot::{RowAddress, Slot};
+use ddr_timing::config::Config;
+use ddr_timing::geometry::Geometry;
+use std::alloc::{AllocError, Global};
+use std::collections::BTreeMap;
+use std::marker::Model;
+
+/// The row that a bank's sense amplifiers hold, and the slot that has its bytes.
+#[derive(Clone, Copy)]
+struct OpenRow {
+    row: u32,
+    slot: usize,
+}
+
+/// The bytes of one rank's rows, and the open row of each bank.
+///
+/// A bank is named by its number in the rank, group * 4 + bank. A row takes memory once `ensure` is first
+/// called for it; a byte that was never written is 0.
+#[derive(Drop)]
+pub struct RowArray {
+    alloc: Global,
+    geometry: Geometry,
+    opened: Vec<Option<OpenRow>>,
+    slots: Vec<Slot>,
+    index: BTreeMap<RowAddress, usize>,
+}
+
+impl Model for RowArray {
+    ghost use Rattle.ddr_row_array.specs.Rows.{Rows};
+
+    ghost Value = { Rows };
+
+    ghost use Rattle.ddr_row_array.specs.View.{rows_of, IsSound};
+
+    ghost view = { rows_of };
+
+    ghost invariant = { IsSound };
+}
+
+impl RowArray {
+    /// A row array in which every bank is idle and every byte is 0.
+    pub fn open(alloc: Global, config: &Config) -> Result<RowArray, AllocError>
+        ensures { IfOk result (IsFresh config.now) }
+    {
+        let banks = config.geometry.groups as usize * 4;
+        Ok(RowArray {
+            alloc,
+            geometry: config.geometry,
+            opened: vec![in alloc; None; banks]?,
+            slots: Vec::new(alloc),
+            index: BTreeMap::new(alloc),
+        })
+    }
+
+    /// Makes the row's storage, with zeros, if it is not there. No byte changes.
+    pub fn ensure(&mut self, bank: u32, row: u32) -> Result<(), AllocError>
+        requires bank_in { bank < bank_count self.old }
+        requires row_in { row < row_count self.old }
+        ensures ok { OnOk result (IsTrue (is_stored self.new bank row)) }
+        ensures others { (b r : ℕ) → (b == bank && r == row) ≡ false → is_stored self.new b r ≡ is_stored self.old b r }
+        ensures kept { (b r : ℕ) → IsTrue (is_stored self.old b r) → IsTrue (is_stored self.new b r) }
+        ensures opened { (b : ℕ) → open_row self.new b ≡ open_row self.old b }
+        ensures bytes { (b r l : ℕ) → cells self.new b r l ≡ cells self.old b r l }
+        ensures shape { SameShape self.old self.new }
+        ensures err { OnErr result (self.new ≡ self.old) }
+    {
+        let address = RowAddress { bank, row };
+        if self.index.contains_key(&address) {
+            return Ok(());
+        }
+        let bytes = vec![in self.alloc; 0; self.geometry.columns as usize * 8]?;
+        self.slots.reserve(1)?;
+        self.index.insert(address, self.slots.len())?;
+        self.slots.push(Slot { address, bytes })?;
+        Ok(())
+    }
+
+    /// Opens the row of an idle bank.
+    pub fn activate(&mut self, bank: u32, row: u32)
+        requires bank_in { bank < bank_count self.old }
+        requires row_in { row < row_count self.old }
+        requires idle { open_row self.old bank ≡ None }
+        requires stored { IsTrue (is_stored self.old bank row) }
+        ensures opened { (b : ℕ) → open_row self.new b ≡ (if b == bank then Some row else open_row self.old b) }
+        ensures bytes { SameBytes self.old self.new }
+    {
+        let slot = self.index[&RowAddress { bank, row }];
+        self.opened[bank as usize] = Some(OpenRow { row, slot });
+    }
+
+    /// Makes the bank idle.
+    pub fn precharge(&mut self, bank: u32)
+        requires { bank < bank_count self.old }
+        ensures opened { (b : ℕ) → open_row self.new b ≡ (if b == bank then None else open_row self.old b) }
+        ensures bytes { SameBytes self.old self.new }
+    {
+        self.opened[bank as usize] = None;
+    }
+
+    /// Whether the bank has an open row, and the row that line.
+    fn has_burst(&self, bank: u32, line: u32) -> bool
+        ensures { result ≡ is_some (open_burst self.now bank line) }
+    {
+        let opened = self.opened.get(bank as usize);
+        line < self.geometry.columns / 8 && matches!(opened, Some(Some(_)))
+    }
+
+    /// The 64 bytes of a line of the bank's open row, which is there.
+    fn open_line(&self, bank: u32, line: u32) -> &[u8]
+        requires { IsSome (open_burst self.now bank line) }
+        ensures { open_burst self.now bank line ≡ Some result.now }
+    {
+        let open = self.opened[bank as usize].unwrap();
+        self.slots[open.slot].line(line)
+    }
+
+    /// The 64 bytes of a line of the bank's open row, which is there, for writing.
+    fn open_line_mut(&mut self, bank: u32, line: u32) -> &mut [u8]
+        requires { IsSome (open_burst self.old bank line) }
+        ensures* writes_back { sem 𝓛 (LendsOpenLine self.entry bank line result) }
+        ensures value { open_burst self.old bank line ≡ Some result.now }
+        ensures only_the_line { ChangesLineAlone self.old bank line }
+    {
+        let open = self.opened[bank as usize].unwrap();
+        self.slots[open.slot].line_mut(line)
+    }
+
+    /// The 64 bytes of a line of the bank's open row. `None` exactly where the bank is idle or the row has
+    /// no such line.
+    pub fn burst(&self, bank: u32, line: u32) -> Option<&[u8]>
+        ensures value { option_copied result ≡ open_burst self.now bank line }
+        ensures length { IfSome result (λ burst. length burst.now ≡ 64) }
+    {
+        if self.has_burst(bank, line) {
+            Some(self.open_line(bank, line))
+        } else {
+            None
+        }
+    }
+
+    /// The 64 bytes of a line of the bank's open row, for writing. `None` exactly where the bank is idle or
+    /// the row has no such line.
+    pub fn burst_mut(&mut self, bank: u32, line: u32) -> Option<&mut [u8]>
+        ensures* writes_back { sem 𝓛 (LendsBurst self.entry bank line result) }
+        ensures value { option_copied_mut result ≡ open_burst self.old bank line }
+        ensures only_the_line { OnSome result (ChangesLineAlone self.old bank line) }
+    {
+        if self.has_burst(bank, line) {
+            Some(self.open_line_mut(bank, line))
+        } else {
+            None
+        }
+    }
+
+    /// Replaces, in a line of the bank's open row, each byte whose bit of `mask` is set (bit i for byte i)
+    /// by the byte of `bytes`, and says whether there was such a line. Where there was none, nothing changes.
+    pub fn write(&mut self, bank: u32, line: u32, mask: u64, bytes: &[u8; 64]) -> bool
+        ensures there { result ≡ is_some (open_burst self.old bank line) }
+        ensures written { OnTrue result (ForSome (open_row self.old bank) (λ row. Rewrites self.old self.new bank row line (merged mask bytes.now (cells self.old bank row line)))) }
+        ensures unchanged { OnFalse result (self.new ≡ self.old) }
+    {
+        let there = self.has_burst(bank, line);
+        if there {
+            merge(self.open_line_mut(bank, line), mask, bytes);
+        }
+        there
+    }
+
+    /// Copies the 64 bytes of a line of the bank's open row, and says whether there was such a line. Where
+    /// there was none, nothing is copied.
+    pub fn read(&self, bank: u32, line: u32, into: &mut [u8; 64]) -> bool
+        ensures there { result ≡ is_some (open_burst self.now bank line) }
+        ensures copied { into.new ≡ unwrap_or (open_burst self.now bank line) into.old }
+    {
+        match self.burst(bank, line) {
+            Some(burst) => {
+                into.copy_from_slice(burst);
+                true
+            }
+            None => false,
+        }
+    }
+}
+
+#[cfg(test)]
+mod tests;

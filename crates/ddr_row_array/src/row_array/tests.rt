@@ -1,0 +1,124 @@
+//! Rows opened, written, closed and read again, by hand calculation.
+use super::*;
+use ddr_timing::geometry::Digit;
+use ddr_timing::limits::Limits;
+use ddr_timing::timing::Timing;
+use std::test::Fail;
+
+/// A small rank: 16 banks of 16 rows, each of 8 lines.
+fn small() -> Config {
+    Config {
+        timing: Timing {
+            cl: 4,
+            cwl: 3,
+            rcd: 4,
+            rp: 4,
+            ras: 10,
+            rc: 14,
+            rrd_s: 2,
+            rrd_l: 3,
+            faw: 12,
+            ccd_s: 4,
+            ccd_l: 5,
+            wtr_s: 2,
+            wtr_l: 4,
+            wr: 5,
+            rtp: 3,
+            rtw: 7,
+            rfc: 20,
+            refi: 200,
+            postpone: 2,
+        },
+        geometry: Geometry {
+            version: 1,
+            channels: 2,
+            groups: 4,
+            rows: 16,
+            columns: 64,
+            map: [
+                Digit::Column,
+                Digit::Group,
+                Digit::Bank,
+                Digit::Row,
+                Digit::Channel,
+            ],
+            bank_xor: false,
+        },
+        limits: Limits {
+            ports: 2,
+            window: 4,
+            intake: 8,
+            reads: 8,
+            writes: 8,
+            done: 8,
+            low: 2,
+            high: 6,
+            cap: 1000,
+        },
+    }
+}
+
+/// The first four bytes of a line of the bank's open row.
+fn first_four(rows: &RowArray, bank: u32, line: u32) -> Option<[u8; 4]> {
+    let mut bytes = [0xee; 64];
+    if rows.read(bank, line, &mut bytes) {
+        Some([bytes[0], bytes[1], bytes[2], bytes[3]])
+    } else {
+        None
+    }
+}
+
+#[test]
+fn write_is_read_back(rt: HostRuntime) -> Result<(), Fail> {
+    let mut rows = RowArray::open(rt.alloc(), &small())?;
+    rows.ensure(0, 0)?;
+    rows.activate(0, 0);
+
+    let mut bytes = [0x77; 64];
+    bytes[0] = 0x0a;
+    bytes[1] = 0x0b;
+    bytes[2] = 0x0c;
+    bytes[3] = 0x0d;
+    assert!(rt; rows.write(0, 0, 0xf, &bytes));
+    assert!(rt; first_four(&rows, 0, 0) == Some([0x0a, 0x0b, 0x0c, 0x0d]));
+    let burst = rows.burst(0, 0).ok_or("the row is open")?;
+    assert_eq!(rt; burst.len(), 64);
+    assert!(rt; burst.iter().skip(4).all(|b| *b == 0), "masked bytes stay");
+    assert!(rt; first_four(&rows, 0, 1) == Some([0; 4]), "the next line");
+    assert!(rt; first_four(&rows, 0, 7) == Some([0; 4]), "the last line");
+    assert!(rt; first_four(&rows, 0, 8) == None, "past the last line");
+    assert!(rt; !rows.write(0, 8, 0xf, &bytes));
+    assert!(rt; first_four(&rows, 1, 0) == None, "another bank is idle");
+    assert!(rt; rows.burst(16, 0).is_none(), "there is no bank 16");
+
+    rows.precharge(0);
+    assert!(rt; rows.burst(0, 0).is_none(), "the bank is idle");
+    assert!(rt; first_four(&rows, 0, 0) == None);
+    assert!(rt; !rows.write(0, 0, 0xf, &bytes));
+
+    rows.ensure(0, 1)?;
+    rows.activate(0, 1);
+    assert!(rt; first_four(&rows, 0, 0) == Some([0; 4]), "another row");
+    rows.precharge(0);
+
+    rows.ensure(0, 0)?;
+    rows.activate(0, 0);
+    assert!(rt; first_four(&rows, 0, 0) == Some([0x0a, 0x0b, 0x0c, 0x0d]), "the bytes stay");
+    Ok(())
+}
+
+#[test]
+fn lent_line_is_written(rt: HostRuntime) -> Result<(), Fail> {
+    let mut rows = RowArray::open(rt.alloc(), &small())?;
+    assert!(rt; rows.burst_mut(5, 3).is_none(), "the bank is idle");
+    rows.ensure(5, 15)?;
+    rows.activate(5, 15);
+    assert!(rt; rows.burst_mut(5, 8).is_none(), "past the last line");
+    if let Some(burst) = rows.burst_mut(5, 3) {
+        burst.copy_from_slice(&[0x5a; 64]);
+    }
+    assert!(rt; first_four(&rows, 5, 3) == Some([0x5a; 4]));
+    assert!(rt; first_four(&rows, 5, 2) == Some([0; 4]), "the line before");
+    assert!(rt; first_four(&rows, 5, 4) == Some([0; 4]), "the line after");
+    Ok(())
+}
