@@ -71,6 +71,7 @@ impl Channel {
     pub fn open(alloc: Global, config: &Config, first_cycle: u64) -> Result<Channel, AllocError>
         requires { first_cycle ≤ 2 ^ 62 }
         ensures state { IfOk result (λ c. state_of c ≡ opened config.now first_cycle) }
+        ensures config { IfOk result (λ c. c.config ≡ config.now) }
         ensures stands { IfOk result (λ c. StandsFor c []) }
     {
         let limits = config.limits;
@@ -107,6 +108,7 @@ impl Channel {
         ensures ok { OnOk result (state_of self.new ≡ after_admit request (state_of self.old)) }
         ensures full { IsErr result ↔ IsTrue (is_queue_full (state_of self.old) request.echo.kind) }
         ensures err { IfErr result (λ r. (r ≡ request) × (self.new ≡ self.old)) }
+        ensures config { self.new.config ≡ self.old.config }
         ensures stands { (calls : List Call) → StandsFor self.old calls → StandsFor self.new (calls ++ Admit request ∷ []) }
     {
         if self.is_full(request.echo.kind) {
@@ -120,7 +122,8 @@ impl Channel {
     fn enqueue(&mut self, request: Req)
         requires served { IsServed self.old.config request.place }
         requires room { is_queue_full (state_of self.old) request.echo.kind ≡ false }
-        ensures { state_of self.new ≡ after_admit request (state_of self.old) }
+        ensures state { state_of self.new ≡ after_admit request (state_of self.old) }
+        ensures config { self.new.config ≡ self.old.config }
     {
         let kind = request.echo.kind;
         let admitted = self.now;
@@ -174,7 +177,9 @@ impl Channel {
     fn rest(&mut self)
         requires clock { self.old.now < 2 ^ 62 }
         requires chosen { choice_of (completed (state_of self.old)) ≡ choice.Nothing }
-        ensures { state_of self.new ≡ after_cycle (state_of self.old) }
+        ensures state { state_of self.new ≡ after_cycle (state_of self.old) }
+        ensures config { self.new.config ≡ self.old.config }
+        ensures clock { self.new.now ≡ self.old.now + 1 }
     {
         complete(&mut self.flight, &mut self.done, self.now);
         self.now += 1;
@@ -186,6 +191,8 @@ impl Channel {
         requires chosen { choice_of (completed (state_of self.old)) ≡ choice.Act 0 }
         ensures ok { OnOk result (state_of self.new ≡ after_cycle (state_of self.old)) }
         ensures err { OnErr result (state_of self.new ≡ state_of self.old) }
+        ensures config { self.new.config ≡ self.old.config }
+        ensures clock { OnOk result (self.new.now ≡ self.old.now + 1) }
     {
         let (_, place) = self.oldest();
         let bank = bank_number(place);
@@ -203,6 +210,8 @@ impl Channel {
         requires chosen { choice_of (completed (state_of self.old)) ≡ choice.Pre 0 }
         ensures ok { OnOk result (state_of self.new ≡ after_cycle (state_of self.old)) }
         ensures err { OnErr result (state_of self.new ≡ state_of self.old) }
+        ensures config { self.new.config ≡ self.old.config }
+        ensures clock { OnOk result (self.new.now ≡ self.old.now + 1) }
     {
         let (_, place) = self.oldest();
         record(&mut self.trace, self.now, precharge_at(place))?;
@@ -218,6 +227,8 @@ impl Channel {
         requires chosen { choice_of (completed (state_of self.old)) ≡ choice.Column 0 }
         ensures ok { OnOk result (state_of self.new ≡ after_cycle (state_of self.old)) }
         ensures err { OnErr result (state_of self.new ≡ state_of self.old) }
+        ensures config { self.new.config ≡ self.old.config }
+        ensures clock { OnOk result (self.new.now ≡ self.old.now + 1) }
     {
         let (kind, place) = self.oldest();
         record(&mut self.trace, self.now, column_at(kind, place))?;
@@ -239,6 +250,8 @@ impl Channel {
         ensures ok { OnOk result (state_of self.new ≡ after_cycle (state_of self.old)) }
         ensures spent { IsErrOf result ClockSpent ↔ (self.old.now ≡ last_cycle) }
         ensures err { OnErr result (state_of self.new ≡ state_of self.old) }
+        ensures config { self.new.config ≡ self.old.config }
+        ensures clock { OnOk result (self.new.now ≡ self.old.now + 1) }
         ensures stands { OnOk result ((calls : List Call) → StandsFor self.old calls → StandsFor self.new (calls ++ Cycle ∷ [])) }
     {
         if self.now == LAST_CYCLE {
@@ -255,6 +268,8 @@ impl Channel {
         requires { self.old.now < 2 ^ 62 }
         ensures ok { OnOk result (state_of self.new ≡ after_cycle (state_of self.old)) }
         ensures err { OnErr result (state_of self.new ≡ state_of self.old) }
+        ensures config { self.new.config ≡ self.old.config }
+        ensures clock { OnOk result (self.new.now ≡ self.old.now + 1) }
     {
         match self.choice() {
             Choice::Nothing => {
@@ -282,6 +297,7 @@ impl Channel {
         ensures rest { state_of self.new ≡ after_pop (state_of self.old) }
         ensures right { (calls : List Call) → StandsFor self.old calls
             → IfSome result (IsNextAnswer (run self.old.config self.old.start calls)) }
+        ensures config { self.new.config ≡ self.old.config }
         ensures stands { (calls : List Call) → StandsFor self.old calls → StandsFor self.new (calls ++ Pop ∷ []) }
     {
         self.done.pop_front()

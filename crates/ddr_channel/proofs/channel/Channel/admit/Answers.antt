@@ -24,4 +24,4 @@ pub returns-clause-stands : goal.returns-clause-stands
 returns-clause-stands c = λ calls stands.
     let kind = ap (λ (r : Request). r.echo.kind) (sym c.request.view_is) in
     let not_full = ap (is_queue_full (state_of c.args.self.now)) kind ∙ told c.is_full.result _ c.is_full.ensures c.if-is_full.false in
-    stands_admitted c.args.self.now c.enqueue.new.self c.args.request calls stands c.requires not_full c.enqueue.ensures
+    stands_admitted c.args.self.now c.enqueue.new.self c.args.request calls stands c.requires not_full c.enqueue.ensures.state

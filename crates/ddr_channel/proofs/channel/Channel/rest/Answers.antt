@@ -33,8 +33,8 @@ invariant_of-self c =
       agrees = whole.agrees;
     }
 
-pub returns : goal.returns
-returns c =
+pub returns-clause-state : goal.returns-clause-state
+returns-clause-state c =
     let k = kept_of c.self.inside in
     let chosen = ap (λ (j : Kept). choice_of (completed (state_of j))) c.self.view_is ∙ c.requires.chosen in
     after_rest k c.complete.new.flight.items c.complete.new.done.items chosen
