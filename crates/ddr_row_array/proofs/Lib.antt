@@ -1,7 +1,8 @@
-pub mod Addresses
-pub mod Bursts
-pub mod Fresh
-pub mod Lines
-pub mod Opened
-pub mod Places
-pub mod Slots
+mod Addresses
+mod Bursts
+pub mod Cells
+mod Fresh
+mod Lines
+mod Opened
+mod Places
+mod Slots

@@ -1,7 +1,8 @@
 -- What a write of 64 bytes leaves of a row array.
 use Rattle.std.specs.Prelude.{◌≡◌, ℕ, ◌+◌, ◌*◌, Bool, if◌then◌else◌, List, [], ◌∷◌, ◌++◌, length, take, drop}
 use Rattle.std.specs.Option.{ForSome, option_map_or}
-use Rattle.ddr_row_array.specs.Rows.{Rows, StoredRow, is_row, open_row}
+use Rattle.ddr_row_array.specs.Merge.{merged}
+use Rattle.ddr_row_array.specs.Rows.{Rows, StoredRow, is_row, open_row, cells}
 use Rattle.ddr_row_array.specs.Changes.{Rewrites}
 
 -- the bytes, with `new` over as many of them from place `start` on
@@ -27,3 +28,8 @@ with_burst a bank line new =
 abbrev pub ChangesLineAlone : Rows → ℕ → ℕ → Type 0
 ChangesLineAlone a bank line =
     ForSome (open_row a bank) (λ row. (w : List ℕ) → length w ≡ 64 → Rewrites a (with_burst a bank line w) bank row line w)
+
+-- the line of the bank's open row has the given bytes where the mask has a bit, and nothing else changes
+abbrev pub MergesLine : Rows → Rows → ℕ → ℕ → ℕ → List ℕ → Type 0
+MergesLine old new bank line mask bytes =
+    ForSome (open_row old bank) (λ row. Rewrites old new bank row line (merged mask bytes (cells old bank row line)))

@@ -1,13 +1,12 @@
 //! The bytes of one rank's rows, and the open row of each bank.
 ghost use Rattle.std.specs.Prelude.{◌≡◌, ℕ, ◌<◌, ◌==◌, ◌&&◌, ◌↔◌, false, if◌then◌else◌, List, length, Some, None, IsTrue, IsSome, IfSome, OnSome, OnOk, OnErr, IfOk, is_some, unwrap_or};
 ghost use Rattle.std.specs.Bool.{OnTrue, OnFalse};
-ghost use Rattle.std.specs.Option.{ForSome, option_copied, option_copied_mut};
+ghost use Rattle.std.specs.Option.{option_copied, option_copied_mut};
 ghost use Rattle.std.specs.Borrow.{sem};
-ghost use Rattle.ddr_row_array.specs.Changes.{IsFresh, SameShape, SameBytes, Rewrites};
+ghost use Rattle.ddr_row_array.specs.Changes.{IsFresh, SameShape, SameBytes};
 ghost use Rattle.ddr_row_array.specs.Lending.{LendsOpenLine, LendsBurst};
-ghost use Rattle.ddr_row_array.specs.Merge.{merged};
 ghost use Rattle.ddr_row_array.specs.Rows.{bank_count, row_count, line_count, open_row, is_stored, cells, open_burst};
-ghost use Rattle.ddr_row_array.specs.Writes.{ChangesLineAlone};
+ghost use Rattle.ddr_row_array.specs.Writes.{ChangesLineAlone, MergesLine};
 
 use crate::merge::merge;
 use crate::slot::{RowAddress, Slot};
@@ -64,12 +63,14 @@ impl RowArray {
         })
     }
 
-    /// Makes the row's storage, with zeros, if it is not there. No byte changes.
+    /// Makes the row's storage, with zeros, if it is not there. No byte changes, and nothing at all where
+    /// memory runs out.
     pub fn ensure(&mut self, bank: u32, row: u32) -> Result<(), AllocError>
         requires bank_in { bank < bank_count self.old }
         requires row_in { row < row_count self.old }
         ensures ok { OnOk result (IsTrue (is_stored self.new bank row)) }
-        ensures others { (b r : ℕ) → (b == bank && r == row) ≡ false → is_stored self.new b r ≡ is_stored self.old b r }
+        ensures others { (b r : ℕ) → (b == bank && r == row) ≡ false
+            → is_stored self.new b r ≡ is_stored self.old b r }
         ensures kept { (b r : ℕ) → IsTrue (is_stored self.old b r) → IsTrue (is_stored self.new b r) }
         ensures opened { (b : ℕ) → open_row self.new b ≡ open_row self.old b }
         ensures bytes { (b r l : ℕ) → cells self.new b r l ≡ cells self.old b r l }
@@ -87,23 +88,25 @@ impl RowArray {
         Ok(())
     }
 
-    /// Opens the row of an idle bank.
+    /// Opens a stored row of an idle bank, so that bursts go to it (JESD79-4, "ACTIVATE Command").
     pub fn activate(&mut self, bank: u32, row: u32)
         requires bank_in { bank < bank_count self.old }
         requires row_in { row < row_count self.old }
         requires idle { open_row self.old bank ≡ None }
         requires stored { IsTrue (is_stored self.old bank row) }
-        ensures opened { (b : ℕ) → open_row self.new b ≡ (if b == bank then Some row else open_row self.old b) }
+        ensures opened { (b : ℕ)
+            → open_row self.new b ≡ (if b == bank then Some row else open_row self.old b) }
         ensures bytes { SameBytes self.old self.new }
     {
         let slot = self.index[&RowAddress { bank, row }];
         self.opened[bank as usize] = Some(OpenRow { row, slot });
     }
 
-    /// Makes the bank idle.
+    /// Makes the bank idle, whether or not it had an open row (JESD79-4, "PRECHARGE Command").
     pub fn precharge(&mut self, bank: u32)
         requires { bank < bank_count self.old }
-        ensures opened { (b : ℕ) → open_row self.new b ≡ (if b == bank then None else open_row self.old b) }
+        ensures opened { (b : ℕ)
+            → open_row self.new b ≡ (if b == bank then None else open_row self.old b) }
         ensures bytes { SameBytes self.old self.new }
     {
         self.opened[bank as usize] = None;
@@ -155,6 +158,7 @@ impl RowArray {
     pub fn burst_mut(&mut self, bank: u32, line: u32) -> Option<&mut [u8]>
         ensures* writes_back { sem 𝓛 (LendsBurst self.entry bank line result) }
         ensures value { option_copied_mut result ≡ open_burst self.old bank line }
+        ensures length { IfSome result (λ burst. length burst.now ≡ 64) }
         ensures only_the_line { OnSome result (ChangesLineAlone self.old bank line) }
     {
         if self.has_burst(bank, line) {
@@ -165,10 +169,12 @@ impl RowArray {
     }
 
     /// Replaces, in a line of the bank's open row, each byte whose bit of `mask` is set (bit i for byte i)
-    /// by the byte of `bytes`, and says whether there was such a line. Where there was none, nothing changes.
+    /// by the byte of `bytes`, and says whether there was such a line. Where there was none, nothing
+    /// changes. The mask is the data mask of a write (JESD79-4, "Write Data Mask"), with a set bit for a
+    /// byte that is written.
     pub fn write(&mut self, bank: u32, line: u32, mask: u64, bytes: &[u8; 64]) -> bool
         ensures there { result ≡ is_some (open_burst self.old bank line) }
-        ensures written { OnTrue result (ForSome (open_row self.old bank) (λ row. Rewrites self.old self.new bank row line (merged mask bytes.now (cells self.old bank row line)))) }
+        ensures written { OnTrue result (MergesLine self.old self.new bank line mask bytes.now) }
         ensures unchanged { OnFalse result (self.new ≡ self.old) }
     {
         let there = self.has_burst(bank, line);

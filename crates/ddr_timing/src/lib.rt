@@ -3,10 +3,21 @@
 //!
 //! Nothing of the repository stands below this crate, and every other crate stands on it. `timing`,
 //! `geometry` and `limits` are the three parts of a configuration, each with its ranges and relations
-//! as facts on the type; `key` names the keys of the text; `config` reads the text.
+//! as facts on the type, and `config` is the whole, with `Config::read`. A text is read in three steps:
+//! `toml` makes a table of it; `check` looks for the first fault of the table, by the keys of `key`;
+//! `values` takes the values of a table without a fault. Both look into the table by `table`, and
+//! `order` reads the text of the one value that lists words. `error` has the refusals, and `profile` a
+//! sample text.
 #![tactic(auto)]
 
+mod check;
 pub mod config;
+pub mod error;
 pub mod geometry;
+pub mod key;
 pub mod limits;
+mod order;
+pub mod profile;
+mod table;
 pub mod timing;
+mod values;

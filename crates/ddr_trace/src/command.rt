@@ -1,4 +1,6 @@
 //! Commands on a channel's command bus.
+ghost use Rattle.std.specs.Prelude.{◌≡◌, ◌+◌, ◌&&◌, ◌==◌, nat_lt};
+ghost use Rattle.ddr_trace.specs.Commands.{bank_of, group_of, is_activate, is_column, is_of_all_banks, is_precharge, is_refresh, is_same_bank, is_same_group, is_same_rank, rank_of, row_of};
 
 /// A DDR4 command (JESD79-4, "Command truth table"), with the place that it is for.
 #[derive(Clone, Copy, Debug, PartialEq, Eq)]
@@ -27,11 +29,19 @@ pub enum Command {
         line: u32,
     },
     /// PRE: closes the row of a bank.
-    Pre { rank: u32, group: u32, bank: u32 },
+    Pre {
+        rank: u32,
+        group: u32,
+        bank: u32,
+    },
     /// PREA: closes the rows of all banks.
-    PreAll { rank: u32 },
+    PreAll {
+        rank: u32,
+    },
     /// REF: refreshes the rank.
-    Refresh { rank: u32 },
+    Refresh {
+        rank: u32,
+    },
 }
 
 /// A command and the clock cycle in which it stands on the bus.
@@ -39,4 +49,148 @@ pub enum Command {
 pub struct Entry {
     pub cycle: u64,
     pub command: Command,
+}
+
+impl Command {
+    pub(crate) fn is_activate(&self) -> bool
+        ensures { result ≡ is_activate self.now }
+    {
+        matches!(self, Command::Act { .. })
+    }
+
+    pub(crate) fn is_column(&self) -> bool
+        ensures { result ≡ is_column self.now }
+    {
+        matches!(self, Command::Rd { .. } | Command::Wr { .. })
+    }
+
+    pub(crate) fn is_precharge(&self) -> bool
+        ensures { result ≡ is_precharge self.now }
+    {
+        matches!(self, Command::Pre { .. } | Command::PreAll { .. })
+    }
+
+    pub(crate) fn is_refresh(&self) -> bool
+        ensures { result ≡ is_refresh self.now }
+    {
+        matches!(self, Command::Refresh { .. })
+    }
+
+    pub(crate) fn rank(&self) -> u32
+        ensures { result ≡ rank_of self.now }
+    {
+        match *self {
+            Command::Act { rank, .. }
+            | Command::Rd { rank, .. }
+            | Command::Wr { rank, .. }
+            | Command::Pre { rank, .. }
+            | Command::PreAll { rank }
+            | Command::Refresh { rank } => rank,
+        }
+    }
+
+    /// The bank group, 0 where the command names none.
+    fn group(&self) -> u32
+        ensures { result ≡ group_of self.now }
+    {
+        match *self {
+            Command::Act { group, .. }
+            | Command::Rd { group, .. }
+            | Command::Wr { group, .. }
+            | Command::Pre { group, .. } => group,
+            Command::PreAll { .. } | Command::Refresh { .. } => 0,
+        }
+    }
+
+    /// The bank in its group, 0 where the command names none.
+    fn bank(&self) -> u32
+        ensures { result ≡ bank_of self.now }
+    {
+        match *self {
+            Command::Act { bank, .. }
+            | Command::Rd { bank, .. }
+            | Command::Wr { bank, .. }
+            | Command::Pre { bank, .. } => bank,
+            Command::PreAll { .. } | Command::Refresh { .. } => 0,
+        }
+    }
+
+    /// The row, 0 where the command names none.
+    fn row(&self) -> u32
+        ensures { result ≡ row_of self.now }
+    {
+        match *self {
+            Command::Act { row, .. } | Command::Rd { row, .. } | Command::Wr { row, .. } => row,
+            _ => 0,
+        }
+    }
+
+    /// Whether this is an ACT of the other command's row number.
+    pub(crate) fn opens_row_of(&self, other: &Command) -> bool
+        ensures { result ≡ (is_activate self.now && row_of self.now == row_of other.now) }
+    {
+        self.is_activate() && self.row() == other.row()
+    }
+
+    fn is_of_all_banks(&self) -> bool
+        ensures { result ≡ is_of_all_banks self.now }
+    {
+        matches!(self, Command::PreAll { .. })
+    }
+
+    pub(crate) fn is_same_rank(&self, other: &Command) -> bool
+        ensures { result ≡ is_same_rank self.now other.now }
+    {
+        self.rank() == other.rank()
+    }
+
+    /// Whether this is an ACT of the other command's rank.
+    pub(crate) fn is_activate_of_rank(&self, other: &Command) -> bool
+        ensures { result ≡ (is_activate self.now && is_same_rank self.now other.now) }
+    {
+        self.is_activate() && self.is_same_rank(other)
+    }
+
+    /// Whether this is a REF of the other command's rank.
+    pub(crate) fn is_refresh_of_rank(&self, other: &Command) -> bool
+        ensures { result ≡ (is_refresh self.now && is_same_rank self.now other.now) }
+    {
+        self.is_refresh() && self.is_same_rank(other)
+    }
+
+    /// Whether this is a precharge of the other command's bank.
+    pub(crate) fn is_precharge_of_bank(&self, other: &Command) -> bool
+        ensures { result ≡ (is_precharge self.now && is_same_bank self.now other.now) }
+    {
+        self.is_precharge() && self.is_same_bank(other)
+    }
+
+    pub(crate) fn is_same_group(&self, other: &Command) -> bool
+        ensures { result ≡ is_same_group self.now other.now }
+    {
+        self.is_same_rank(other) && self.group() == other.group()
+    }
+
+    /// Whether both are of one bank; PREA is of every bank of its rank.
+    pub(crate) fn is_same_bank(&self, other: &Command) -> bool
+        ensures { result ≡ is_same_bank self.now other.now }
+    {
+        self.is_same_rank(other)
+            && (self.is_of_all_banks()
+                || other.is_of_all_banks()
+                || (self.group() == other.group() && self.bank() == other.bank()))
+    }
+}
+
+impl Entry {
+    /// Whether the entry stands fewer than `clocks` after the earlier one.
+    pub(crate) fn is_within(&self, clocks: u32, earlier: &Entry) -> bool
+        ensures { result ≡ nat_lt self.now.cycle (earlier.now.cycle + clocks) }
+    {
+        let cycle = self.cycle;
+        match earlier.cycle.checked_add(u64::from(clocks)) {
+            Some(end) => cycle < end,
+            None => true,
+        }
+    }
 }

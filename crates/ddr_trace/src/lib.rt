@@ -5,5 +5,12 @@
 //! `specs/Rules.antt` defines; `checker` finds the first fault; `text` writes a trace.
 #![tactic(auto)]
 
+mod banks;
+pub mod checker;
 pub mod command;
 pub mod rule;
+mod spacing;
+#[cfg(test)]
+mod tests;
+pub mod text;
+mod window;

@@ -1,4 +1,6 @@
 //! Rows opened, written, closed and read again, by hand calculation.
+ghost use Rattle.std.specs.Prelude.{◌≡◌};
+
 use super::*;
 use ddr_timing::geometry::Digit;
 use ddr_timing::limits::Limits;
@@ -6,7 +8,10 @@ use ddr_timing::timing::Timing;
 use std::test::Fail;
 
 /// A small rank: 16 banks of 16 rows, each of 8 lines.
-fn small() -> Config {
+fn small() -> Config
+    ensures groups { result.geometry.groups ≡ 4 }
+    ensures rows { result.geometry.rows ≡ 16 }
+{
     Config {
         timing: Timing {
             cl: 4,
@@ -110,15 +115,15 @@ fn write_is_read_back(rt: HostRuntime) -> Result<(), Fail> {
 #[test]
 fn lent_line_is_written(rt: HostRuntime) -> Result<(), Fail> {
     let mut rows = RowArray::open(rt.alloc(), &small())?;
-    assert!(rt; rows.burst_mut(5, 3).is_none(), "the bank is idle");
     rows.ensure(5, 15)?;
     rows.activate(5, 15);
-    assert!(rt; rows.burst_mut(5, 8).is_none(), "past the last line");
     if let Some(burst) = rows.burst_mut(5, 3) {
         burst.copy_from_slice(&[0x5a; 64]);
     }
     assert!(rt; first_four(&rows, 5, 3) == Some([0x5a; 4]));
     assert!(rt; first_four(&rows, 5, 2) == Some([0; 4]), "the line before");
     assert!(rt; first_four(&rows, 5, 4) == Some([0; 4]), "the line after");
+    assert!(rt; rows.burst_mut(5, 8).is_none(), "past the last line");
+    assert!(rt; rows.burst_mut(4, 3).is_none(), "another bank is idle");
     Ok(())
 }

@@ -39,13 +39,14 @@ use denote.Triple.Walked.{Stays, walk_of, stay_dropped, Goes-dropped, Goes-spent
 use denote.Triple.Table.{framed}
 use Rattle.std.specs.contracts.option.Option as option
 use Rattle.std.proofs.VecSteps.Element.{Some-of, none_of}
-use Rattle.std.proofs.mem.Facts.{says_two}
+use Rattle.std.proofs.mem.Facts.{says_three}
 use Rattle.ddr_row_array.specs.Rows.{open_burst}
 use Rattle.ddr_row_array.specs.Writes.{ChangesLineAlone, with_burst}
 use Rattle.ddr_row_array.specs.contracts.row_array.RowArray.{the_row as R}
 use Rattle.ddr_row_array.specs.contracts.row_array.RowArray.burst_mut as f
 use Rattle.ddr_row_array.specs.contracts.row_array.RowArray.has_burst as g
 use Rattle.ddr_row_array.specs.contracts.row_array.RowArray.open_line_mut as h
+use Rattle.ddr_row_array.proofs.Bursts.{length-open_burst}
 use Rattle.ddr_row_array.proofs.Slots.{none_from_missing}
 use Rattle.ddr_row_array.proofs.row_array.RowArray.TheLaws.{the_field_shared}
 use Rattle.ddr_row_array.proofs.row_array.RowArray.has_burst.Met as g_thm
@@ -137,7 +138,7 @@ burst_mut_spec {M = M} 𝓤 𝓛 𝓜 𝓡 wired =
     returns ! (look_at ! 0 refl) $ free_all ! refl $
     use1 𝓛 (‵ ((option.the_row Lent).own_val (Some s) (live 1 (of_list (lent ∷ [])) ∷ []))) (Some-of 𝓛 Lent s lent) $
     suffices ! _ (ends_at 𝓛 f.ended stayed c y (live 1 (of_list (lent ∷ []))) (Some s) (tt, (tt, (tt, tt))) (tt, (tt, (tt, tt)))) $
-    nothing ! $ nothing ! $ fjoin ! $ nothing ! $ fjoin ! $ nothing ! $ fjoin ! $ join ! $ nothing ! $ move ! (2 ∷ 0 ∷ []) $ join ! $ join ! $ frame ! $ says_two ! (sym value, alone) $ done !))))))
+    nothing ! $ nothing ! $ fjoin ! $ nothing ! $ fjoin ! $ nothing ! $ fjoin ! $ join ! $ nothing ! $ move ! (2 ∷ 0 ∷ []) $ join ! $ join ! $ frame ! $ says_three ! (sym value, length-open_burst now bank line s.now value, alone) $ done !))))))
     (λ t. let Lent = MutSlice (named 0) κ u8 in
     let missing : open_burst now bank line ≡ None = none_from_missing (open_burst now bank line) (sym said ∙ falsehood r t) in
     sets_last ! (agg ! (and_then ! (lit ! tt) (no_more !))) refl (tt, (record { fits = lit< tt }, tt)) $
@@ -147,4 +148,4 @@ burst_mut_spec {M = M} 𝓤 𝓛 𝓜 𝓡 wired =
     use1 𝓛 (‵ (fres γ (R.coded.code now))) (𝓛.names.obs-res γ (R.coded.code now)) $ move ! (1 ∷ []) $
     use0 𝓛 (‵ ((option.the_row Lent).own_val None (live 0 (of_list []) ∷ []))) (none_of 𝓛 Lent) $
     suffices ! _ (ends_at 𝓛 f.ended stayed c y (live 0 (of_list [])) None (tt, (tt, (tt, tt))) (tt, (tt, (tt, tt)))) $
-    nothing ! $ nothing ! $ fjoin ! $ nothing ! $ fjoin ! $ nothing ! $ fjoin ! $ join ! $ nothing ! $ move ! (2 ∷ 0 ∷ []) $ join ! $ join ! $ frame ! $ says_two ! (sym missing, tt) $ done !))))))))
+    nothing ! $ nothing ! $ fjoin ! $ nothing ! $ fjoin ! $ nothing ! $ fjoin ! $ join ! $ nothing ! $ move ! (2 ∷ 0 ∷ []) $ join ! $ join ! $ frame ! $ says_three ! (sym missing, tt, tt) $ done !))))))))

@@ -1,0 +1,9 @@
+pub mod BankLemmas
+pub mod Earlier
+pub mod CheckerLemmas
+pub mod CountedLemmas
+pub mod FaultLemmas
+pub mod Lowest
+pub mod PairLemmas
+pub mod TextLemmas
+pub mod WindowLemmas

@@ -1,0 +1,28 @@
+-- The names of the rules, as reports print them.
+use Rattle.std.specs.Prelude.{ℕ, List, codes}
+use Rattle.ddr_trace.specs.declared.rule.Rule.{Rule}
+use Rattle.ddr_trace.specs.declared.rule.Rule.TheVariants as rule
+
+abbrev pub name_of : Rule → List ℕ
+name_of rule.Order = codes "ORDER"
+name_of rule.Place = codes "PLACE"
+name_of rule.State = codes "STATE"
+name_of rule.Row = codes "ROW"
+name_of rule.Rcd = codes "RCD"
+name_of rule.Ras = codes "RAS"
+name_of rule.Rc = codes "RC"
+name_of rule.Rp = codes "RP"
+name_of rule.RrdL = codes "RRD_L"
+name_of rule.RrdS = codes "RRD_S"
+name_of rule.Faw = codes "FAW"
+name_of rule.CcdL = codes "CCD_L"
+name_of rule.CcdS = codes "CCD_S"
+name_of rule.WtrL = codes "WTR_L"
+name_of rule.WtrS = codes "WTR_S"
+name_of rule.Rtp = codes "RTP"
+name_of rule.Wr = codes "WR"
+name_of rule.Rtw = codes "RTW"
+name_of rule.RpRef = codes "RP_REF"
+name_of rule.Rfc = codes "RFC"
+name_of rule.RefLate = codes "REF_LATE"
+name_of rule.RefGap = codes "REF_GAP"

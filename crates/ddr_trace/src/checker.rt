@@ -1,0 +1,91 @@
+//! The checker: which rule an entry breaks after its history, and the first fault of a trace.
+//!
+//! It is a plain scan of the whole history, and keeps no state from one entry to the next. Below stand
+//! `banks`, `spacing` and `window`, one function for each kind of rule.
+ghost use Rattle.std.specs.Prelude.{◌↔◌, IfNone, IfSome, IsNone};
+ghost use Rattle.ddr_trace.specs.declared.rule.Rule.{Rule};
+ghost use Rattle.ddr_trace.specs.Rules.{breaks};
+ghost use Rattle.ddr_trace.specs.Legality.{IsFirstFault, IsLegal, IsLowestBroken, IsRefreshed, KeepsRules};
+ghost use Rattle.ddr_trace.specs.Pairs.{IsLowest};
+
+use crate::command::Entry;
+use crate::rule::Rule;
+use crate::{banks, spacing, window};
+use ddr_timing::config::Config;
+
+/// A rule that a trace breaks, and where.
+#[derive(Clone, Copy, Debug, PartialEq, Eq)]
+pub struct Fault {
+    /// The place of the entry, counted from 0; the number of entries where the trace's end breaks the rule.
+    pub place: usize,
+    pub rule: Rule,
+}
+
+/// The lowest place of the trace that breaks a rule, with the lowest rule broken there. The trace goes from
+/// `start` to `end`, which is the first cycle behind it. Each entry is compared with every entry before it.
+pub fn first_fault(entries: &[Entry], config: &Config, start: u64, end: u64) -> Option<Fault>
+    ensures none { IsNone result
+        ↔ (IsLegal config.now start end entries.now × IsRefreshed config.now start end entries.now) }
+    ensures fault { IfSome result
+        (λ f. IsFirstFault config.now start end entries.now f.place f.rule) }
+{
+    for (place, entry) in entries.iter().enumerate() {
+        if let Some(rule) = lowest_of_all(&entries[..place], entry, config, start, end) {
+            return Some(Fault { place, rule });
+        }
+    }
+    if window::ends_late(entries, &config.timing, start, end) {
+        return Some(Fault {
+            place: entries.len(),
+            rule: Rule::RefLate,
+        });
+    }
+    None
+}
+
+/// The lowest rule that `entry` breaks after `history`, the two on refresh among them.
+fn lowest_of_all(
+    history: &[Entry],
+    entry: &Entry,
+    config: &Config,
+    start: u64,
+    end: u64,
+) -> Option<Rule>
+    ensures { IsLowest (λ r. breaks config.now start end r history.now entry.now) result }
+{
+    if let Some(rule) = lowest_broken(history, entry, config, start, end) {
+        return Some(rule);
+    }
+    if window::breaks_ref_late(history, entry, &config.timing, start) {
+        return Some(Rule::RefLate);
+    }
+    window::breaks_ref_gap(history, entry, &config.timing).then_some(Rule::RefGap)
+}
+
+/// The lowest rule on commands (all rules but the two on refresh) that `entry` would break after `history`,
+/// in a trace of this start and end.
+pub fn lowest_broken(
+    history: &[Entry],
+    entry: &Entry,
+    config: &Config,
+    start: u64,
+    end: u64,
+) -> Option<Rule>
+    ensures kept { IfNone result (KeepsRules config.now start end history.now entry.now) }
+    ensures broken { IfSome result (IsLowestBroken config.now start end history.now entry.now) }
+{
+    if window::breaks_order(history, entry, start, end) {
+        return Some(Rule::Order);
+    }
+    if !banks::is_in(&config.geometry, &entry.command) {
+        return Some(Rule::Place);
+    }
+    if banks::breaks_state(history, &entry.command) {
+        return Some(Rule::State);
+    }
+    if banks::breaks_row(history, &entry.command) {
+        return Some(Rule::Row);
+    }
+    let faw = window::breaks_faw(history, entry, &config.timing).then_some(Rule::Faw);
+    Rule::lower(faw, spacing::lowest_spacing(history, entry, &config.timing))
+}

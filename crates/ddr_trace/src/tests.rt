@@ -1,0 +1,4 @@
+//! Traces worked out by hand, with the timing of the sample configuration.
+mod rules;
+mod sample;
+mod text;
