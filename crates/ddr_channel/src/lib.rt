@@ -13,3 +13,6 @@ pub mod promise;
 mod queue;
 mod transfer;
 pub mod waiting;
+
+#[cfg(test)]
+mod tests;
