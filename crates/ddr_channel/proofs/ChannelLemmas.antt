@@ -1,7 +1,7 @@
 -- What the calls of a channel make of its fields.
-use Rattle.std.proofs.Common.{◌≡◌, ◌↔◌, IsTrue, ℕ, zero, suc, ◌+◌, ◌*◌, ◌<◌, ◌≤◌, Bool, true, false, not, cond, eqb, ltb, List, [], ◌∷◌, ◌++◌, Option, Some, None, length, drop, refl, sym, ap, ap₂, subst, ◌∙◌, inl, inr, arith}
+use Rattle.std.proofs.Common.{◌≡◌, ◌↔◌, IsTrue, ℕ, suc, ◌+◌, ◌*◌, ◌<◌, ◌≤◌, Bool, true, false, not, cond, eqb, ltb, List, [], ◌∷◌, ◌++◌, Option, Some, None, length, drop, refl, sym, ap, ap₂, subst, ◌∙◌, arith}
 use Rattle.std.proofs.Math.Path.{fun_ext}
-use Rattle.std.specs.List.{AllByRecursion, filter, slice_get, remove}
+use Rattle.std.specs.List.{filter, slice_get}
 use Rattle.std.specs.Option.{IsSomeAnd}
 use Rattle.std.proofs.lemmas.Bool.{eqb-true, true≢false, false≢true, eq-eqb, leb-false}
 use Rattle.std.proofs.lemmas.List.{length-append}
@@ -13,20 +13,19 @@ use Rattle.ddr_trace.specs.Rules.{is_bank_active, is_row_open}
 use Rattle.ddr_address_map.specs.declared.place.Place.{Place}
 use Rattle.ddr_address_map.specs.declared.request.Kind.{Kind}
 use Rattle.ddr_address_map.specs.declared.request.Kind.TheVariants.{Read, Write}
-use Rattle.ddr_address_map.specs.Requests.{Request, Completion}
+use Rattle.ddr_address_map.specs.Requests.{Completion}
 use Rattle.ddr_row_array.specs.Rows.{Rows, open_row, cells}
 use Rattle.ddr_row_array.specs.Changes.{SameShape}
 use Rattle.ddr_channel.specs.declared.choice.Choice.{Choice}
 use Rattle.ddr_channel.specs.declared.choice.Choice.TheVariants as choice
 use Rattle.ddr_channel.specs.declared.waiting.Waiting.{Waiting}
 use Rattle.ddr_channel.specs.Choice.{bus_of, has_room, choice_for, choice_among, choice_of}
-use Rattle.ddr_channel.specs.Commands.{activate_at, precharge_at, column_at, column_of, may, entry}
+use Rattle.ddr_channel.specs.Commands.{activate_at, precharge_at, column_at, column_of, entry}
 use Rattle.ddr_channel.specs.Cycle.{completed, recorded, completion_of, cells_after, served, issued, ticked, after_cycle}
 use Rattle.ddr_channel.specs.Kept.{Kept, state_of, IsOpen, AgreesWith}
-use Rattle.ddr_channel.specs.Memory.{LineAddress, bank_number, line_of}
-use Rattle.ddr_channel.specs.Sound.{IsServed, IsSound}
+use Rattle.ddr_channel.specs.Memory.{LineAddress, bank_number}
+use Rattle.ddr_channel.specs.Sound.{IsServed}
 use Rattle.ddr_channel.specs.State.{State, is_same_kind, pending_count, queue_size, is_queue_full}
-use Rattle.ddr_channel.proofs.ChoiceLemmas.{column_open, activate_idle}
 use Rattle.ddr_channel.proofs.OpenRowLemmas.{active_after_column, row_after_column, active_after_activate, row_after_activate, active_after_precharge}
 use Rattle.ddr_channel.proofs.SoundLemmas.{Allows, choice_allowed, act_on, precharge_on, serve_on, length-filter}
 
@@ -194,9 +193,9 @@ agrees_activate config trace cycle p old new here idle agrees shape opened = rec
   rows_are = shape.rows ∙ agrees.rows_are;
   lines = shape.lines ∙ agrees.lines;
   opened = λ q is.
-    let same = same_bank config p q here is in
-    let idle' : is_bank_active trace (activate_at q) ≡ false = ap₂ (λ g b. is_bank_active trace (activate_at (record q { group = g; bank = b }))) (sym same.0) (sym same.1) ∙ idle in
-    subst (IsOpen (trace ++ entry cycle (activate_at p) ∷ []) q)
+      let same = same_bank config p q here is in
+      let idle' : is_bank_active trace (activate_at q) ≡ false = ap₂ (λ g b. is_bank_active trace (activate_at (record q { group = g; bank = b }))) (sym same.0) (sym same.1) ∙ idle in
+      subst (IsOpen (trace ++ entry cycle (activate_at p) ∷ []) q)
       (sym (opened (bank_number q) ∙ ap (λ b. cond b (Some p.row) (open_row old (bank_number q))) (eq-eqb (bank_number q) (bank_number p) (sym same.2))))
       (active_after_activate trace cycle p q same.0 same.1, row_after_activate trace cycle p q same.0 same.1 idle');
 }
@@ -208,8 +207,8 @@ agrees_precharge config trace cycle p old new here agrees shape opened = record 
   rows_are = shape.rows ∙ agrees.rows_are;
   lines = shape.lines ∙ agrees.lines;
   opened = λ q is.
-    let same = same_bank config p q here is in
-    subst (IsOpen (trace ++ entry cycle (precharge_at p) ∷ []) q)
+      let same = same_bank config p q here is in
+      subst (IsOpen (trace ++ entry cycle (precharge_at p) ∷ []) q)
       (sym (opened (bank_number q) ∙ ap (λ b. cond b None (open_row old (bank_number q))) (eq-eqb (bank_number q) (bank_number p) (sym same.2))))
       (active_after_precharge trace cycle p q same.0 same.1);
 }

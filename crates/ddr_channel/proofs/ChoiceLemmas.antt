@@ -1,13 +1,13 @@
 -- What the first rule that a column command breaks says of its bank, and so of the choice.
-use Rattle.std.proofs.Common.{◌≡◌, ℕ, ◌+◌, ◌<◌, ◌≤◌, Bool, true, false, ◌&&◌, not, cond, eqb, ltb, ◌/◌, ◌||◌, zero, suc, IsTrue, List, refl, sym, ap, subst, ◌∙◌, inl, inr, arith}
-use Rattle.std.proofs.lemmas.Bool.{and_parts, and_from, and_left, not-true, not-false, cases_Bool, true≢false, false≢true, lt-ltb}
+use Rattle.std.proofs.Common.{◌≡◌, ℕ, ◌+◌, ◌<◌, Bool, true, false, ◌&&◌, not, cond, eqb, ltb, ◌/◌, ◌||◌, zero, suc, IsTrue, List, refl, sym, ap, subst, ◌∙◌, inl, inr, arith}
+use Rattle.std.proofs.lemmas.Bool.{not-true, not-false, cases_Bool, true≢false, false≢true, lt-ltb}
 use Rattle.ddr_timing.specs.declared.config.Config.{Config}
 use Rattle.ddr_trace.specs.declared.command.Command.{Command}
 use Rattle.ddr_trace.specs.declared.command.Entry.{Entry}
 use Rattle.ddr_trace.specs.declared.rule.Rule.{Rule}
 use Rattle.ddr_trace.specs.declared.rule.Rule.TheVariants as rule
 use Rattle.ddr_trace.specs.Rules.{breaks, is_bank_active, is_row_open}
-use Rattle.ddr_trace.specs.Legality.{number, KeepsRules, IsLowestBroken}
+use Rattle.ddr_trace.specs.Legality.{number, IsLowestBroken}
 use Rattle.ddr_address_map.specs.declared.place.Place.{Place}
 use Rattle.ddr_address_map.specs.declared.request.Kind.{Kind}
 use Rattle.ddr_address_map.specs.declared.request.Kind.TheVariants.{Read, Write}
@@ -17,7 +17,7 @@ use Rattle.ddr_channel.specs.declared.choice.Choice.TheVariants as choice
 use Rattle.ddr_channel.specs.Choice.{choice_for}
 use Rattle.ddr_channel.specs.Commands.{Bus, activate_at, precharge_at, column_at, column_of, may, is_on_other_row, entry}
 use Rattle.ddr_channel.specs.Sound.{IsServed}
-use Rattle.ddr_channel.proofs.MayLemmas.{may_keeps, keeps_may, broken_may}
+use Rattle.ddr_channel.proofs.MayLemmas.{may_keeps, broken_may}
 
 -- STATE and ROW of a column command, whichever kind it is
 column_state : (kind : Kind) (p : Place) (trace : List Entry) (c : Config) (start end now : ℕ) → breaks c start end rule.State trace (entry now (column_at kind p)) ≡ not (is_bank_active trace (activate_at p))
@@ -31,9 +31,10 @@ column_row Write p trace c start end now = refl
 -- a legal column command finds its row open
 pub column_open : (b : Bus) (kind : Kind) (p : Place) → may b (column_at kind p) ≡ true → (is_bank_active b.trace (activate_at p) ≡ true) × (is_row_open b.trace (activate_at p) ≡ true)
 column_open b kind p legal =
-    let kept = may_keeps b (column_at kind p) legal in
-    (not-false _ (sym (column_state kind p b.trace b.config b.start (b.now + 1) b.now) ∙ kept rule.State (omega arith)),
-     not-false _ (sym (column_row kind p b.trace b.config b.start (b.now + 1) b.now) ∙ kept rule.Row (omega arith)))
+    let kept = may_keeps b (column_at kind p) legal in (
+      not-false _ (sym (column_state kind p b.trace b.config b.start (b.now + 1) b.now) ∙ kept rule.State (omega arith)),
+      not-false _ (sym (column_row kind p b.trace b.config b.start (b.now + 1) b.now) ∙ kept rule.Row (omega arith)),
+    )
 
 -- a legal ACT finds its bank idle
 pub activate_idle : (b : Bus) (p : Place) → may b (activate_at p) ≡ true → is_bank_active b.trace (activate_at p) ≡ false
@@ -95,7 +96,7 @@ pub choice_at_state : (b : Bus) (room : Bool) (r : Request) → IsLowestBroken b
 choice_at_state b room r broken =
     let idle : is_bank_active b.trace (activate_at r.place) ≡ false = not-true _ (sym (column_state r.echo.kind r.place b.trace b.config b.start (b.now + 1) b.now) ∙ broken.broken) in
     choice_by b room r false (may b (activate_at r.place)) false (may b (precharge_at r.place)) (broken_column b r.echo.kind r.place rule.State broken) refl
-      (on_other_row b r.place false (is_row_open b.trace (activate_at r.place)) idle refl) refl
+    (on_other_row b r.place false (is_row_open b.trace (activate_at r.place)) idle refl) refl
     ∙ no_column room _
 
 -- the bank is active with another row
@@ -105,7 +106,7 @@ choice_at_row b room r broken =
     let active : is_bank_active b.trace (activate_at r.place) ≡ true = not-false _ (sym (column_state r.echo.kind r.place b.trace b.config b.start (b.now + 1) b.now) ∙ broken.lowest rule.State (omega arith)) in
     let closed : is_row_open b.trace (activate_at r.place) ≡ false = not-true _ (sym (column_row r.echo.kind r.place b.trace b.config b.start (b.now + 1) b.now) ∙ broken.broken) in
     choice_by b room r false false true (may b (precharge_at r.place)) (broken_column b r.echo.kind r.place rule.Row broken) (active_refuses b r.place active)
-      (on_other_row b r.place true false active closed) refl
+    (on_other_row b r.place true false active closed) refl
     ∙ no_column room _
 
 -- the row is open, and the column command is too early
@@ -115,14 +116,14 @@ choice_at_later b room r which later broken =
     let active : is_bank_active b.trace (activate_at r.place) ≡ true = not-false _ (sym (column_state r.echo.kind r.place b.trace b.config b.start (b.now + 1) b.now) ∙ broken.lowest rule.State (omega arith)) in
     let row : is_row_open b.trace (activate_at r.place) ≡ true = not-false _ (sym (column_row r.echo.kind r.place b.trace b.config b.start (b.now + 1) b.now) ∙ broken.lowest rule.Row (omega arith)) in
     choice_by b room r false false false (may b (precharge_at r.place)) (broken_column b r.echo.kind r.place which broken) (active_refuses b r.place active)
-      (on_other_row b r.place true true active row) refl
+    (on_other_row b r.place true true active row) refl
     ∙ no_column room _
 
 -- the clock has not gone on: no command is legal
 choice_at_order : (b : Bus) (room : Bool) (r : Request) → IsLowestBroken b.config b.start (b.now + 1) b.trace (entry b.now (column_of r)) rule.Order → choice_for b room 0 r ≡ choice.Nothing
 choice_at_order b room r broken =
     choice_by b room r false false (is_on_other_row b r.place) false (broken_column b r.echo.kind r.place rule.Order broken)
-      (broken_may b (activate_at r.place) rule.Order (omega arith) broken.broken) refl (broken_may b (precharge_at r.place) rule.Order (omega arith) broken.broken)
+    (broken_may b (activate_at r.place) rule.Order (omega arith) broken.broken) refl (broken_may b (precharge_at r.place) rule.Order (omega arith) broken.broken)
     ∙ no_column room _ ∙ no_precharge (is_on_other_row b r.place)
 
 -- a place that is served is in the geometry

@@ -1,14 +1,13 @@
 -- What every history keeps, call by call. The oldest pending request is always the one that is served, so the
 -- owners stand in the acceptance list in order, and the pending requests after them.
-use Rattle.std.proofs.Common.{◌≡◌, ℕ, zero, suc, ◌+◌, ◌<◌, ◌≤◌, Bool, true, false, ◌&&◌, not, cond, eqb, List, [], ◌∷◌, ◌++◌, Option, Some, None, map, length, take, drop, get_or, refl, sym, ap, ap₂, subst, ◌∙◌, inl, inr, arith}
+use Rattle.std.proofs.Common.{◌≡◌, ℕ, zero, suc, ◌+◌, ◌<◌, Bool, true, false, not, cond, eqb, List, [], ◌∷◌, ◌++◌, Option, Some, None, map, length, take, drop, get_or, refl, sym, ap, ap₂, subst, ◌∙◌, inl, inr, arith}
 use Rattle.std.specs.List.{AllByRecursion, filter, slice_get, remove, range_with_len, fold}
 use Rattle.std.specs.Option.{option_map}
-use Rattle.std.proofs.lemmas.Bool.{and_parts, cases_eq, cases_Bool}
-use Rattle.std.proofs.lemmas.List.{append_assoc, append-nil, length-append, length_push, length-map, map-append, take_at, take-append-le, take-append-drop, get_or_default}
+use Rattle.std.proofs.lemmas.Bool.{cases_eq}
+use Rattle.std.proofs.lemmas.List.{append_assoc, append-nil, length-append, length_push, length-map, map-append, take_at, take-append-le, take-append-drop}
 use Rattle.std.proofs.lemmas.List.Elements.{filter-append}
-use Rattle.std.proofs.lemmas.List.FromFn.{get_or-range_with_len}
 use Rattle.std.proofs.lemmas.Option.{slice_get_within}
-use Rattle.circular_buffer.proofs.Places.{slice_get-append_left, slice_get-append_right, slice_get-last}
+use Rattle.circular_buffer.proofs.Places.{slice_get-append_left, slice_get-append_right}
 use Rattle.ddr_timing.specs.declared.config.Config.{Config}
 use Rattle.ddr_trace.specs.declared.command.Command.{Command}
 use Rattle.ddr_trace.specs.declared.command.Entry.{Entry}
@@ -20,7 +19,7 @@ use Rattle.ddr_address_map.specs.Requests.{Request, Completion}
 use Rattle.ddr_channel.specs.declared.choice.Choice.{Choice}
 use Rattle.ddr_channel.specs.declared.choice.Choice.TheVariants as choice
 use Rattle.ddr_channel.specs.declared.waiting.Waiting.{Waiting}
-use Rattle.ddr_channel.specs.Choice.{bus_of, has_room, choice_for, choice_among, choice_of}
+use Rattle.ddr_channel.specs.Choice.{bus_of, has_room, choice_among, choice_of}
 use Rattle.ddr_channel.specs.Commands.{activate_at, precharge_at, column_at, column_of, entry}
 use Rattle.ddr_channel.specs.Cycle.{completed, recorded, completion_at, completion_of, cells_after, served, for_request, issued, ticked, after_cycle, last_cycle}
 use Rattle.ddr_channel.specs.History.{Call, Admit, Cycle, Pop, Owner, History, begun, with_owner, after_call, run}
@@ -29,7 +28,7 @@ use Rattle.ddr_channel.specs.Promise.{answer_to, right_answer, command_of, reque
 use Rattle.ddr_channel.specs.Sound.{IsServed, AreDue, IsSound}
 use Rattle.ddr_channel.specs.State.{State, after_admit, after_pop, is_queue_full}
 use Rattle.ddr_channel.proofs.MemoryLemmas.{cells_after-line_after}
-use Rattle.ddr_channel.proofs.SoundLemmas.{IsSound-opened, IsSound-after_cycle, IsSound-after_admit, IsSound-after_pop, Allows, choice_allowed, act_on, precharge_on, serve_on, due_from, due_now, due_later, due_after, none_due, AreDue-append, All-append, All-implies}
+use Rattle.ddr_channel.proofs.SoundLemmas.{IsSound-opened, IsSound-after_cycle, IsSound-after_admit, IsSound-after_pop, Allows, choice_allowed, act_on, precharge_on, serve_on, due_now, due_later, due_after, none_due, AreDue-append, All-append, All-implies}
 
 -- What a history keeps: the requests that were served, and that completions stand in order of their dues, those
 -- that are done before the cycle `next`.
@@ -93,7 +92,7 @@ keeps_admit next h r k =
 pub keeps_pop : (next : ℕ) (h : History) → Keeps next h → Keeps next (record h { state = after_pop h.state; popped = h.popped ++ take 1 h.state.done })
 keeps_pop next h k =
     let moved : (h.popped ++ take 1 h.state.done) ++ drop 1 h.state.done ≡ h.popped ++ h.state.done =
-        append_assoc h.popped (take 1 h.state.done) (drop 1 h.state.done) ∙ ap (λ (xs : List Completion). h.popped ++ xs) (take-append-drop 1 h.state.done) in
+    append_assoc h.popped (take 1 h.state.done) (drop 1 h.state.done) ∙ ap (λ (xs : List Completion). h.popped ++ xs) (take-append-drop 1 h.state.done) in
     record {
       served = k.served;
       split = k.split;
@@ -142,8 +141,8 @@ keeps_completed h k =
     let rest = filter (λ d. not (eqb d.due now)) h.state.flight in
     let ended : h.popped ++ (h.state.done ++ over) ≡ (h.popped ++ h.state.done) ++ over = sym (append_assoc h.popped h.state.done over) in
     let all : (h.popped ++ (h.state.done ++ over)) ++ rest ≡ (h.popped ++ h.state.done) ++ h.state.flight =
-        ap (λ (xs : List Completion). xs ++ rest) ended ∙ append_assoc (h.popped ++ h.state.done) over rest
-        ∙ ap (λ (xs : List Completion). (h.popped ++ h.state.done) ++ xs) (due_split now h.state.flight k.due) in
+    ap (λ (xs : List Completion). xs ++ rest) ended ∙ append_assoc (h.popped ++ h.state.done) over rest
+    ∙ ap (λ (xs : List Completion). (h.popped ++ h.state.done) ++ xs) (due_split now h.state.flight k.due) in
     record {
       served = k.served;
       split = k.split;
@@ -171,7 +170,7 @@ keeps_recorded next h c row k = record {
   placed = k.placed;
   cells = k.cells;
   commands = ap (λ (xs : List Entry). map Some xs) (filter-append (λ e. is_column e.command) h.state.trace (entry h.state.now c ∷ [])
-    ∙ ap (λ b. filter (λ e. is_column e.command) h.state.trace ++ cond b (entry h.state.now c ∷ []) []) row ∙ append-nil _) ∙ k.commands;
+      ∙ ap (λ b. filter (λ e. is_column e.command) h.state.trace ++ cond b (entry h.state.now c ∷ []) []) row ∙ append-nil _) ∙ k.commands;
   answers = k.answers;
   ended = k.ended;
   finished = k.finished;
@@ -221,7 +220,7 @@ keeps_served next h w ws pending due k =
     let split : h.accepted ≡ k.served ++ r ∷ requests_of ws = k.split ∙ ap (λ (p : List Waiting). k.served ++ requests_of p) pending in
     let whole : k.served ++ r ∷ requests_of ws ≡ (k.served ++ r ∷ []) ++ requests_of ws = sym (append_assoc k.served (r ∷ []) (requests_of ws)) in
     let here : slice_get h.accepted o.place ≡ Some r =
-        ap₂ slice_get split first ∙ slice_get-append_right k.served (r ∷ requests_of ws) n 0 (omega arith) in
+    ap₂ slice_get split first ∙ slice_get-append_right k.served (r ∷ requests_of ws) n 0 (omega arith) in
     let before : take o.place h.accepted ≡ k.served = ap₂ take first split ∙ take_at k.served (r ∷ requests_of ws) n refl in
     let length_served = length_push k.served r in
     let below : o.place < length h.accepted = slice_get_within h.accepted o.place r here in
@@ -234,15 +233,15 @@ keeps_served next h w ws pending due k =
       placed = All-append _ h.owners o k.placed below;
       cells = λ address. ap (λ (c : List ℕ). cells_after r (λ _. c) address) (k.cells address) ∙ cells_after-line_after r k.served address;
       commands =
-        ap (λ (xs : List Entry). map Some xs) (filter-append (λ m. is_column m.command) s.trace (e ∷ []) ∙ ap (λ b. filter (λ m. is_column m.command) s.trace ++ cond b (e ∷ []) []) (column_is r.echo.kind r.place))
-        ∙ map-append Some (filter (λ m. is_column m.command) s.trace) (e ∷ [])
-        ∙ ap₂ (λ (xs : List (Option Entry)) (x : Option Entry). xs ++ x ∷ []) k.commands (sym (ap (option_map (λ q. entry o.cycle (column_of q))) here))
-        ∙ sym (map-append (command_of h.accepted) h.owners (o ∷ []));
+          ap (λ (xs : List Entry). map Some xs) (filter-append (λ m. is_column m.command) s.trace (e ∷ []) ∙ ap (λ b. filter (λ m. is_column m.command) s.trace ++ cond b (e ∷ []) []) (column_is r.echo.kind r.place))
+          ∙ map-append Some (filter (λ m. is_column m.command) s.trace) (e ∷ [])
+          ∙ ap₂ (λ (xs : List (Option Entry)) (x : Option Entry). xs ++ x ∷ []) k.commands (sym (ap (option_map (λ q. entry o.cycle (column_of q))) here))
+          ∙ sym (map-append (command_of h.accepted) h.owners (o ∷ []));
       answers =
-        ap (λ (xs : List Completion). map Some xs) (sym (append_assoc (h.popped ++ s.done) s.flight (completion_of s r ∷ [])))
-        ∙ map-append Some (completions_of h) (completion_of s r ∷ [])
-        ∙ ap₂ (λ (xs : List (Option Completion)) (x : Option Completion). xs ++ x ∷ []) k.answers (sym (answer_is s h.accepted o r k.served here refl before (k.cells (line_of r.place))))
-        ∙ sym (map-append (right_answer s.config h.accepted) h.owners (o ∷ []));
+          ap (λ (xs : List Completion). map Some xs) (sym (append_assoc (h.popped ++ s.done) s.flight (completion_of s r ∷ [])))
+          ∙ map-append Some (completions_of h) (completion_of s r ∷ [])
+          ∙ ap₂ (λ (xs : List (Option Completion)) (x : Option Completion). xs ++ x ∷ []) k.answers (sym (answer_is s h.accepted o r k.served here refl before (k.cells (line_of r.place))))
+          ∙ sym (map-append (right_answer s.config h.accepted) h.owners (o ∷ []));
       ended = k.ended;
       finished = k.finished;
       due = due;
@@ -262,7 +261,7 @@ keeps_issued g w ws pending k (choice.Column place) allowed sound =
     let sound' = subst (λ (s : State). IsSound (ticked s)) done sound in
     subst (λ (s : State). Keeps (g.state.now + 1) (record (with_owner (choice.Column place) g) { state = ticked s })) (sym done)
     (subst (λ n. Keeps (g.state.now + 1) (record (with_owner (choice.Column n) g) { state = ticked (served 0 w.request g.state) })) (sym allowed.0)
-      (keeps_served (g.state.now + 1) g w ws pending sound'.due k))
+    (keeps_served (g.state.now + 1) g w ws pending sound'.due k))
 
 keeps_chosen : (g : History) (pending : List Waiting) → g.state.pending ≡ pending → Keeps (g.state.now + 1) g → IsSound (ticked (issued (choice_among (bus_of g.state) (has_room g.state) pending) g.state)) →
     Keeps (g.state.now + 1) (record (with_owner (choice_among (bus_of g.state) (has_room g.state) pending) g) { state = ticked (issued (choice_among (bus_of g.state) (has_room g.state) pending) g.state) })
@@ -295,7 +294,6 @@ issued_now (choice.Act place) s = for_now (slice_get s.pending place) (λ r. rec
 issued_now (choice.Pre place) s = for_now (slice_get s.pending place) (λ r. recorded (precharge_at r.place)) s (λ r. refl)
 issued_now (choice.Column place) s = for_now (slice_get s.pending place) (served place) s (λ r. refl)
 
-
 -- the owner of a command doesn't depend on the completion before it
 owner_alike : (c : Choice) (h : History) (after : State) → record (with_owner c (record h { state = completed h.state })) { state = after } ≡ record (with_owner c h) { state = after }
 owner_alike choice.Nothing h after = refl
@@ -313,7 +311,7 @@ kept_cycle config start h k =
       config_is = issued_config c (completed h.state) ∙ k.config_is;
       sound = sound;
       keeps = subst (λ (g : History). Keeps (after_cycle h.state).now g) (owner_alike c h (after_cycle h.state))
-        (subst (λ n. Keeps n (record (with_owner c (record h { state = completed h.state })) { state = after_cycle h.state })) (sym (issued_now c (completed h.state))) keeps);
+          (subst (λ n. Keeps n (record (with_owner c (record h { state = completed h.state })) { state = after_cycle h.state })) (sym (issued_now c (completed h.state))) keeps);
     }
 
 kept_if : (config : Config) (start : ℕ) (b : Bool) (old new : History) → IsKept config start old → IsKept config start new → IsKept config start (cond b old new)

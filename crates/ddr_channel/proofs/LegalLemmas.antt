@@ -1,18 +1,16 @@
 -- Lemmas on legal traces that grow, and on what may be issued.
-use Rattle.std.proofs.Common.{◌≡◌, ℕ, zero, suc, ◌+◌, ◌-◌, ◌<◌, ◌≤◌, Bool, true, false, ◌&&◌, not, cond, eqb, ltb, leb, List, [], ◌∷◌, ◌++◌, Option, Some, None, length, take, refl, sym, ap, ◌∙◌, inl, inr, arith}
-use Rattle.std.specs.List.{list_all, list_any, slice_get}
-use Rattle.std.proofs.lemmas.Bool.{and_parts, and_from, not-false, ltb-true, lt-ltb, and_left, and_right, cases_order}
+use Rattle.std.proofs.Common.{◌≡◌, ℕ, zero, suc, ◌+◌, ◌<◌, ◌≤◌, Bool, false, ◌&&◌, not, eqb, ltb, leb, List, [], ◌∷◌, ◌++◌, Option, Some, None, length, take, refl, sym, ap, ◌∙◌, inl, inr, arith}
+use Rattle.std.specs.List.{slice_get}
+use Rattle.std.proofs.lemmas.Bool.{and_parts, and_from, not-false, ltb-true, lt-ltb, and_right, cases_order}
 use Rattle.std.proofs.lemmas.List.{take-append-le, take_at, length_push}
 use Rattle.std.proofs.lemmas.Option.{slice_get_past}
 use Rattle.circular_buffer.proofs.Places.{slice_get-append_left, slice_get-last}
 use Rattle.ddr_timing.specs.declared.config.Config.{Config}
-use Rattle.ddr_trace.specs.declared.command.Command.{Command}
 use Rattle.ddr_trace.specs.declared.command.Entry.{Entry}
 use Rattle.ddr_trace.specs.declared.rule.Rule.{Rule}
 use Rattle.ddr_trace.specs.declared.rule.Rule.TheVariants as rule
-use Rattle.ddr_trace.specs.Rules.{breaks, breaks_order, last_cycle_below}
-use Rattle.ddr_trace.specs.Legality.{number, breaks_at, breaks_at_end, breaks_where, IsLegal, KeepsRules, IsLowestBroken}
-use Rattle.ddr_channel.specs.Commands.{Bus, may, entry, command_rules}
+use Rattle.ddr_trace.specs.Rules.{breaks, last_cycle_below}
+use Rattle.ddr_trace.specs.Legality.{number, breaks_at_end, breaks_where, IsLegal, KeepsRules}
 
 order_later : (a b : Bool) (cycle end : ℕ) → not ((a && b) && ltb cycle end) ≡ false → not ((a && b) && ltb cycle (end + 1)) ≡ false
 order_later a b cycle end kept =

@@ -1,14 +1,11 @@
 -- Lemmas on what may be issued, and how far apart column commands then are.
-use Rattle.std.proofs.Common.{◌≡◌, ℕ, zero, suc, ◌+◌, ◌-◌, ◌<◌, ◌≤◌, Bool, true, false, ◌&&◌, ◌||◌, not, cond, eqb, ltb, leb, List, [], ◌∷◌, ◌++◌, Option, Some, None, length, refl, sym, ap, ◌∙◌, inl, inr, arith}
+use Rattle.std.proofs.Common.{◌≡◌, ℕ, zero, suc, ◌+◌, ◌-◌, ◌<◌, ◌≤◌, Bool, true, false, ◌&&◌, ◌||◌, not, eqb, ltb, leb, List, [], ◌∷◌, Some, refl, sym, ap, ◌∙◌, inl, inr, arith}
 use Rattle.std.specs.List.{list_all, list_any, slice_get}
-use Rattle.std.proofs.lemmas.Bool.{and_parts, and_from, not-true, not-false, ltb-false, leb-true, le-leb, cases_Bool, true≢false}
-use Rattle.ddr_timing.specs.declared.config.Config.{Config}
-use Rattle.ddr_timing.specs.declared.timing.Timing.{Timing}
+use Rattle.std.proofs.lemmas.Bool.{and_parts, and_from, not-true, ltb-false, leb-true, cases_Bool, true≢false}
 use Rattle.ddr_trace.specs.declared.command.Command.{Command}
-use Rattle.ddr_trace.specs.declared.command.Entry.{Entry}
 use Rattle.ddr_trace.specs.declared.rule.Rule.{Rule}
 use Rattle.ddr_trace.specs.declared.rule.Rule.TheVariants as rule
-use Rattle.ddr_trace.specs.Rules.{Spacing, breaks, breaks_spacing, is_too_close, ccd_l, ccd_s, wtr_l, wtr_s, rtw}
+use Rattle.ddr_trace.specs.Rules.{breaks, is_too_close, ccd_l, ccd_s, wtr_l, wtr_s, rtw}
 use Rattle.ddr_trace.specs.Legality.{number, KeepsRules}
 use Rattle.ddr_address_map.specs.declared.place.Place.{Place}
 use Rattle.ddr_address_map.specs.declared.request.Kind.{Kind}

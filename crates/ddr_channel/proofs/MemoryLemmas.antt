@@ -8,7 +8,7 @@ use Rattle.ddr_address_map.specs.declared.request.Kind.{Kind}
 use Rattle.ddr_address_map.specs.declared.request.Kind.TheVariants.{Read, Write}
 use Rattle.ddr_address_map.specs.Requests.{Request}
 use Rattle.ddr_row_array.specs.Merge.{merged}
-use Rattle.ddr_channel.specs.Cycle.{line_served, burst_after, cells_after}
+use Rattle.ddr_channel.specs.Cycle.{line_served, cells_after}
 use Rattle.ddr_channel.specs.Memory.{LineAddress, line_of, is_same_line, is_write_kind, byte_over, line_over, line_after}
 
 -- two functions that agree on a range list the same there

@@ -1,10 +1,10 @@
 -- Lemmas on the open row of a bank after one more command.
-use Rattle.std.proofs.Common.{◌≡◌, ℕ, ◌+◌, ◌<◌, ◌≤◌, Bool, true, false, ◌&&◌, ◌||◌, not, cond, eqb, List, [], ◌∷◌, ◌++◌, Option, Some, None, refl, sym, ap, ap₂, ◌∙◌, inl, inr, arith}
+use Rattle.std.proofs.Common.{◌≡◌, ℕ, Bool, true, false, ◌&&◌, ◌||◌, not, eqb, List, [], ◌∷◌, ◌++◌, refl, sym, ap, ap₂, ◌∙◌, inl, inr}
 use Rattle.std.specs.List.{list_any}
 use Rattle.std.proofs.lemmas.List.Folds.{list_any-append}
-use Rattle.std.proofs.lemmas.Bool.{and_parts, and_from, eq-eqb, ne_eqb, cases_eq}
+use Rattle.std.proofs.lemmas.Bool.{eq-eqb, ne_eqb, cases_eq}
 use Rattle.ddr_trace.specs.declared.command.Command.{Command}
-use Rattle.ddr_trace.specs.declared.command.Command.TheVariants.{Act, Rd, Wr, Pre, PreAll, Refresh}
+use Rattle.ddr_trace.specs.declared.command.Command.TheVariants.{Act}
 use Rattle.ddr_trace.specs.declared.command.Entry.{Entry}
 use Rattle.ddr_trace.specs.Commands.{is_activate, is_precharge, is_same_bank, row_of}
 use Rattle.ddr_trace.specs.Rules.{some_earlier, stands_open, is_bank_active, is_row_open}
@@ -76,7 +76,7 @@ open_append-kept : (f : Bool → Entry → Bool) (xs : List Entry) (e : Entry) �
 unfolding closes
 open_append-kept f xs e kept =
     open_append f xs e ∙ ap (λ b. b || f (is_activate e.command) e) (some_earlier-same _ _ xs (λ a between.
-        ap (λ b. f b a) (ap (λ (p : Bool). stands_open a between && not (p && is_same_bank e.command a.command)) kept ∙ and_true (stands_open a between))))
+    ap (λ b. f b a) (ap (λ (p : Bool). stands_open a between && not (p && is_same_bank e.command a.command)) kept ∙ and_true (stands_open a between))))
 
 and_false : (x : Bool) → (x && false) ≡ false
 and_false true = refl
@@ -130,7 +130,7 @@ closed_by : (p q : Place) → p.group ≡ q.group → p.bank ≡ q.bank → (c :
     (((is_activate c && rest) && not (is_same_bank (precharge_at p) c)) && is_same_bank c (activate_at q)) ≡ false
 closed_by p q group bank (Act rank g b row) rest =
     let mirrored : is_same_bank (precharge_at p) (Act rank g b row) ≡ is_same_bank (Act rank g b row) (activate_at q) =
-        ap₂ ◌&&◌ (eqb-comm 0 rank) (ap₂ ◌&&◌ (ap (λ n. eqb n g) group ∙ eqb-comm q.group g) (ap (λ n. eqb n b) bank ∙ eqb-comm q.bank b)) in
+    ap₂ ◌&&◌ (eqb-comm 0 rank) (ap₂ ◌&&◌ (ap (λ n. eqb n g) group ∙ eqb-comm q.group g) (ap (λ n. eqb n b) bank ∙ eqb-comm q.bank b)) in
     ap (λ t. (rest && not t) && is_same_bank (Act rank g b row) (activate_at q)) mirrored ∙ not_both rest _
 closed_by p q group bank c rest = refl
 

@@ -1,5 +1,5 @@
 -- What every history keeps makes the channel's promise.
-use Rattle.std.proofs.Common.{◌≡◌, ℕ, zero, suc, ◌+◌, ◌<◌, ◌≤◌, List, [], ◌∷◌, ◌++◌, Option, Some, None, map, length, take, get_or, refl, sym, ap, ap₂, subst, ◌∙◌, arith}
+use Rattle.std.proofs.Common.{◌≡◌, ℕ, zero, suc, ◌+◌, ◌<◌, ◌≤◌, List, [], ◌∷◌, ◌++◌, Some, map, length, take, get_or, refl, sym, ap, ap₂, subst, ◌∙◌, arith}
 use Rattle.std.specs.List.{AllByRecursion, slice_get, range_with_len}
 use Rattle.std.specs.List.Sorted.{IsPermutation, IsStrictlyIncreasing}
 use Rattle.std.proofs.lemmas.List.{append_assoc, length-append, length_push, length-map}
@@ -11,10 +11,10 @@ use Rattle.circular_buffer.proofs.Places.{slice_get-append_right}
 use Rattle.ddr_timing.specs.declared.config.Config.{Config}
 use Rattle.ddr_address_map.specs.Requests.{Request, Completion}
 use Rattle.ddr_channel.specs.History.{Call, History, run}
-use Rattle.ddr_channel.specs.Memory.{LineAddress, line_of, line_over, line_after}
-use Rattle.ddr_channel.specs.Promise.{requests_of, completions_of, promised, KeepsPromise, AreCalls}
+use Rattle.ddr_channel.specs.Memory.{line_of, line_over, line_after}
+use Rattle.ddr_channel.specs.Promise.{requests_of, completions_of, KeepsPromise, AreCalls}
 use Rattle.ddr_channel.specs.Sound.{AreDue}
-use Rattle.ddr_channel.proofs.HistoryLemmas.{Keeps, IsKept, kept_run}
+use Rattle.ddr_channel.proofs.HistoryLemmas.{IsKept, kept_run}
 use Rattle.ddr_channel.proofs.MemoryLemmas.{line_over-line_after}
 use Rattle.ddr_channel.proofs.SoundLemmas.{due_from}
 
@@ -58,23 +58,23 @@ promise_from_kept config start h kept =
     let total : n + length s.pending ≡ length h.accepted = omega (arith, ap length k.split ∙ length-append k.served reqs, many) in
     record {
       each_once =
-        let from : n ≡ 0 + n = omega arith in
-        let all : range_with_len 0 (length h.accepted) ≡ map (λ o. o.place) h.owners ++ h.waiting =
-            sym (ap₂ ◌++◌ k.places (k.waiting ∙ ap (λ a. range_with_len a (length s.pending)) from) ∙ range-append 0 n (length s.pending) ∙ ap (range_with_len 0) total) in
-        subst (IsPermutation (range_with_len 0 (length h.accepted))) all (IsPermutation-refl _);
+          let from : n ≡ 0 + n = omega arith in
+          let all : range_with_len 0 (length h.accepted) ≡ map (λ o. o.place) h.owners ++ h.waiting =
+          sym (ap₂ ◌++◌ k.places (k.waiting ∙ ap (λ a. range_with_len a (length s.pending)) from) ∙ range-append 0 n (length s.pending) ∙ ap (range_with_len 0) total) in
+          subst (IsPermutation (range_with_len 0 (length h.accepted))) all (IsPermutation-refl _);
       pending = listed k.served reqs ∙ ap₂ (λ (xs : List Request) (ps : List ℕ). map (slice_get xs) ps) (sym k.split) (ap (range_with_len n) many ∙ sym k.waiting);
       commands = k.commands;
       answers = k.answers;
       in_order = increasing 0 (completions_of h) (AreDue-join 0 s.now (h.popped ++ s.done) s.flight (omega arith) k.ended k.finished k.due);
       promise = λ place r is.
-        let address = line_of r.place in
-        let here : get_or h.waiting place 0 ≡ n + place =
-            ap (λ (ps : List ℕ). get_or ps place 0) k.waiting ∙ get_or-range_with_len n (length s.pending) place 0 (omega (arith, slice_get_within reqs place r is, many)) in
-        ap (λ (c : List ℕ). line_over c (take place reqs) address) (k.cells address)
-        ∙ line_over-line_after k.served (take place reqs) address
-        ∙ ap (λ (xs : List Request). line_after xs address) (sym (ap₂ take here k.split ∙ take-append-add k.served reqs place));
+          let address = line_of r.place in
+          let here : get_or h.waiting place 0 ≡ n + place =
+          ap (λ (ps : List ℕ). get_or ps place 0) k.waiting ∙ get_or-range_with_len n (length s.pending) place 0 (omega (arith, slice_get_within reqs place r is, many)) in
+          ap (λ (c : List ℕ). line_over c (take place reqs) address) (k.cells address)
+          ∙ line_over-line_after k.served (take place reqs) address
+          ∙ ap (λ (xs : List Request). line_after xs address) (sym (ap₂ take here k.split ∙ take-append-add k.served reqs place));
       memory = λ address.
-        ap (λ (c : List ℕ). line_over c reqs address) (k.cells address) ∙ line_over-line_after k.served reqs address ∙ ap (λ (xs : List Request). line_after xs address) (sym k.split);
+          ap (λ (c : List ℕ). line_over c reqs address) (k.cells address) ∙ line_over-line_after k.served reqs address ∙ ap (λ (xs : List Request). line_after xs address) (sym k.split);
       legal = kept.sound.legal;
     }
 

@@ -1,8 +1,6 @@
 -- Lemmas on the completion that may be due now.
-use Rattle.std.proofs.Common.{◌≡◌, ℕ, ◌+◌, Bool, not, eqb, List, [], ◌∷◌, ◌++◌, Option, Some, None, drop, refl, sym, ap, ◌∙◌, subst, arith}
+use Rattle.std.proofs.Common.{◌≡◌, ℕ, not, eqb, List, [], ◌∷◌, Some, None, drop, refl, sym, ap, ◌∙◌}
 use Rattle.std.specs.List.{filter, slice_get}
-use Rattle.std.proofs.lemmas.List.{append-nil}
-use Rattle.circular_buffer.specs.Buffer.{Buffer, buffer}
 use Rattle.ddr_address_map.specs.Requests.{Completion}
 use Rattle.ddr_channel.specs.Sound.{AreDue}
 use Rattle.ddr_channel.proofs.SoundLemmas.{none_due, due_now, due_later}

@@ -1,5 +1,5 @@
 -- Each call keeps what every state of a channel keeps.
-use Rattle.std.proofs.Common.{◌≡◌, ℕ, zero, suc, ◌+◌, ◌<◌, ◌≤◌, Bool, true, false, ◌&&◌, not, cond, eqb, ltb, List, [], ◌∷◌, ◌++◌, Option, Some, None, length, drop, refl, sym, ap, ap₂, subst, ◌∙◌, inl, inr, arith}
+use Rattle.std.proofs.Common.{◌≡◌, ℕ, suc, ◌+◌, ◌<◌, ◌≤◌, Bool, true, false, ◌&&◌, not, cond, eqb, List, [], ◌∷◌, ◌++◌, Option, Some, length, refl, sym, ap, ap₂, subst, ◌∙◌, inl, inr, arith}
 use Rattle.std.specs.List.{AllByRecursion, filter, slice_get, remove}
 use Rattle.std.proofs.lemmas.Bool.{and_parts, ltb-true, and_right, cases_eq, eq-eqb, ne_eqb}
 use Rattle.std.proofs.lemmas.List.{length-append, length_push, length-drop}
@@ -8,7 +8,6 @@ use Rattle.circular_buffer.proofs.Places.{slice_get-append_left, slice_get-last}
 use Rattle.ddr_timing.specs.declared.config.Config.{Config}
 use Rattle.ddr_trace.specs.declared.command.Command.{Command}
 use Rattle.ddr_trace.specs.declared.command.Entry.{Entry}
-use Rattle.ddr_trace.specs.Legality.{IsLegal}
 use Rattle.ddr_address_map.specs.declared.place.Place.{Place}
 use Rattle.ddr_address_map.specs.declared.request.Kind.{Kind}
 use Rattle.ddr_address_map.specs.declared.request.Kind.TheVariants.{Read, Write}
@@ -16,10 +15,9 @@ use Rattle.ddr_address_map.specs.Requests.{Request, Completion}
 use Rattle.ddr_channel.specs.declared.choice.Choice.{Choice}
 use Rattle.ddr_channel.specs.declared.choice.Choice.TheVariants as choice
 use Rattle.ddr_channel.specs.declared.waiting.Waiting.{Waiting}
-use Rattle.ddr_channel.specs.Choice.{bus_of, has_room, choice_for, choice_among, choice_of}
+use Rattle.ddr_channel.specs.Choice.{bus_of, has_room, choice_for, choice_among}
 use Rattle.ddr_channel.specs.Commands.{Bus, activate_at, precharge_at, column_at, column_of, may, is_on_other_row, entry}
 use Rattle.ddr_channel.specs.Cycle.{completed, recorded, service_time, completion_of, served, for_request, issued, ticked, after_cycle}
-use Rattle.ddr_channel.specs.Memory.{LineAddress}
 use Rattle.ddr_channel.specs.Sound.{IsServed, IsTraced, AreDue, IsSound}
 use Rattle.ddr_channel.specs.State.{State, opened, after_admit, after_pop}
 use Rattle.ddr_channel.proofs.LegalLemmas.{IsLegal-later, IsLegal-append, not_at_end}
@@ -178,10 +176,10 @@ sound_served s w ws pending sound due room legal =
     record {
       legal = IsLegal-append s.config s.start (s.now + 1) s.trace (entry s.now command) (IsLegal-later s.config s.start s.now s.trace sound.legal) (may_keeps (bus_of s) command legal);
       due = AreDue-append (s.now + 1) s.flight (completion_of s r) due
-        (All-implies (IsTraced s.config s.trace) (λ d. d.due < s.now + service_time s.config r.echo.kind) s.flight (λ d t. due_before s d r.echo.kind r.place t legal) sound.traced)
-        (after_now s.config r.echo.kind s.now);
+          (All-implies (IsTraced s.config s.trace) (λ d. d.due < s.now + service_time s.config r.echo.kind) s.flight (λ d t. due_before s d r.echo.kind r.place t legal) sound.traced)
+          (after_now s.config r.echo.kind s.now);
       traced = All-append _ s.flight (completion_of s r) (All-implies _ _ s.flight (IsTraced-append s.config s.trace (entry s.now command)) sound.traced)
-        (record { place = r.place; at = length s.trace; there = slice_get-last s.trace (entry s.now command) (length s.trace) refl; due = refl });
+          (record { place = r.place; at = length s.trace; there = slice_get-last s.trace (entry s.now command) (length s.trace) refl; due = refl });
       room = one_more s (ltb-true _ _ room) (completion_of s r);
       served = served_rest s w ws pending sound.served;
     }

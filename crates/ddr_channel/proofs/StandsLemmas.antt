@@ -1,7 +1,6 @@
 -- A channel that stands for some calls stands, after one more, for those and that one.
-use Rattle.std.proofs.Common.{◌≡◌, ℕ, zero, suc, ◌+◌, Bool, true, false, cond, eqb, List, [], ◌∷◌, ◌++◌, Option, Some, None, map, length, drop, refl, sym, ap, ap₂, subst, ◌∙◌, arith}
-use Rattle.std.specs.List.{AllByRecursion, fold, slice_get}
-use Rattle.std.specs.Option.{option_map}
+use Rattle.std.proofs.Common.{◌≡◌, ℕ, zero, suc, Bool, true, false, cond, eqb, List, [], ◌∷◌, ◌++◌, Option, Some, None, map, length, refl, sym, ap, ap₂, subst, ◌∙◌}
+use Rattle.std.specs.List.{slice_get}
 use Rattle.std.proofs.lemmas.Bool.{ne_eqb}
 use Rattle.std.proofs.lemmas.List.{append_assoc}
 use Rattle.std.proofs.lemmas.List.Sums.{fold-append}
@@ -13,9 +12,9 @@ use Rattle.ddr_channel.specs.Commands.{activate_at, precharge_at}
 use Rattle.ddr_channel.specs.declared.choice.Choice.{Choice}
 use Rattle.ddr_channel.specs.declared.choice.Choice.TheVariants as choice
 use Rattle.ddr_channel.specs.declared.waiting.Waiting.{Waiting}
-use Rattle.ddr_channel.specs.History.{Call, Admit, Cycle, Pop, Owner, History, begun, with_owner, after_call, run}
+use Rattle.ddr_channel.specs.History.{Call, Admit, Cycle, Pop, History, begun, with_owner, after_call, run}
 use Rattle.ddr_channel.specs.Kept.{Kept, state_of}
-use Rattle.ddr_channel.specs.Promise.{right_answer, KeepsPromise, MayCall, AreCalls, StandsFor, IsNextAnswer}
+use Rattle.ddr_channel.specs.Promise.{right_answer, MayCall, AreCalls, StandsFor, IsNextAnswer}
 use Rattle.ddr_channel.specs.Sound.{IsServed}
 use Rattle.ddr_channel.specs.State.{State, opened, after_admit, after_pop, is_queue_full}
 use Rattle.ddr_channel.proofs.PromiseLemmas.{promise_kept}

@@ -1,6 +1,6 @@
 -- What a channel's fields keep, call by call.
-use Rattle.std.proofs.Common.{◌≡◌, ℕ, ◌+◌, ◌^◌, ◌<◌, ◌≤◌, Bool, true, false, cond, eqb, ltb, List, [], ◌∷◌, ◌++◌, Option, Some, None, length, drop, refl, sym, ap, ap₂, subst, ◌∙◌, arith}
-use Rattle.std.specs.List.{AllByRecursion, filter, slice_get}
+use Rattle.std.proofs.Common.{◌≡◌, ℕ, ◌+◌, ◌^◌, ◌<◌, ◌≤◌, true, false, cond, List, [], ◌∷◌, ◌++◌, Some, None, length, drop, sym, ap, ap₂, subst, ◌∙◌, arith}
+use Rattle.std.specs.List.{AllByRecursion, slice_get}
 use Rattle.std.specs.Option.{option_map}
 use Rattle.std.proofs.lemmas.Bool.{ltb-true}
 use Rattle.std.specs.Prelude.{Vec}
@@ -13,18 +13,18 @@ use Rattle.ddr_address_map.specs.declared.place.Place.{Place}
 use Rattle.ddr_address_map.specs.declared.request.Kind.{Kind}
 use Rattle.ddr_address_map.specs.declared.request.Kind.TheVariants.{Read, Write}
 use Rattle.ddr_address_map.specs.Requests.{Request, Completion}
-use Rattle.ddr_row_array.specs.Rows.{Rows, open_row, cells}
+use Rattle.ddr_row_array.specs.Rows.{Rows, open_row}
 use Rattle.ddr_row_array.specs.Changes.{SameShape}
 use Rattle.ddr_channel.specs.declared.channel.Channel.TheInside.{Inside}
 use Rattle.ddr_channel.specs.declared.choice.Choice.TheVariants as choice
 use Rattle.ddr_channel.specs.declared.waiting.Waiting.{Waiting}
-use Rattle.ddr_channel.specs.Choice.{bus_of, has_room, choice_of}
-use Rattle.ddr_channel.specs.Commands.{activate_at, precharge_at, column_at, column_of, may, entry}
+use Rattle.ddr_channel.specs.Choice.{bus_of, choice_of}
+use Rattle.ddr_channel.specs.Commands.{activate_at}
 use Rattle.ddr_channel.specs.Cycle.{completed, after_cycle}
 use Rattle.ddr_channel.specs.Kept.{Kept, state_of, IsOpen, AgreesWith}
 use Rattle.ddr_channel.specs.Memory.{bank_number}
 use Rattle.ddr_channel.specs.Sound.{IsServed, IsSound}
-use Rattle.ddr_channel.specs.State.{State, is_same_kind, pending_count}
+use Rattle.ddr_channel.specs.State.{is_same_kind, pending_count}
 use Rattle.ddr_channel.specs.View.{kept_of, IsWhole}
 use Rattle.ddr_channel.proofs.ChannelLemmas.{Oldest, allowed_of, idle_row, column_row_is, count_admit, count_served}
 use Rattle.ddr_channel.proofs.ChoiceLemmas.{column_open, activate_idle}
@@ -89,7 +89,7 @@ act_facts k kind place sound agrees chosen o =
     let served = served_oldest k.config k.pending kind place sound.served o in
     let allowed = allowed_of (state_of k) o.first o.younger (choice.Act 0) o.is chosen in
     let idle : is_bank_active k.trace (activate_at place) ≡ false =
-        ap (λ (p : Place). is_bank_active k.trace (activate_at p)) (sym o.place_is) ∙ activate_idle (bus_of (state_of k)) o.first.request.place allowed.1 in
+    ap (λ (p : Place). is_bank_active k.trace (activate_at p)) (sym o.place_is) ∙ activate_idle (bus_of (state_of k)) o.first.request.place allowed.1 in
     record { served = served; idle = idle; closed = idle_row k.trace place (open_row k.rows (bank_number place)) (agrees.opened place served) idle }
 
 -- a PRE was chosen: the place is served

@@ -1,5 +1,5 @@
 -- What a list of calls makes of a channel, with what became of each request.
-use Rattle.std.specs.Prelude.{ℕ, ◌^◌, Bool, ◌==◌, if◌then◌else◌, List, [], ◌∷◌, ◌++◌, length, take, fold, remove, slice_index}
+use Rattle.std.specs.Prelude.{ℕ, ◌==◌, if◌then◌else◌, List, [], ◌∷◌, ◌++◌, length, take, fold, remove, slice_index}
 use Rattle.ddr_timing.specs.declared.config.Config.{Config}
 use Rattle.ddr_address_map.specs.Requests.{Request, Completion}
 use Rattle.ddr_channel.specs.declared.choice.Choice.{Choice}

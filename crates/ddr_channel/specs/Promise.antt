@@ -1,12 +1,11 @@
 -- The channel's promise, over every list of calls.
-use Rattle.std.specs.Prelude.{◌≡◌, ℕ, ◌+◌, ◌<◌, ◌≤◌, ◌^◌, ◌/◌, Bool, List, ◌++◌, length, take, map, filter, Option, Some, None, option_map, slice_get, slice_index, IsPermutation}
+use Rattle.std.specs.Prelude.{◌≡◌, ℕ, List, ◌++◌, length, take, map, filter, Option, Some, option_map, slice_get, slice_index, IsPermutation}
 use Rattle.std.specs.List.Sorted.{IsStrictlyIncreasing}
 use Rattle.std.specs.List.{range_with_len, AllByRecursion}
 use Rattle.ddr_timing.specs.declared.config.Config.{Config}
 use Rattle.ddr_trace.specs.declared.command.Entry.{Entry}
 use Rattle.ddr_trace.specs.Commands.{is_column}
 use Rattle.ddr_trace.specs.Legality.{IsLegal}
-use Rattle.ddr_address_map.specs.declared.place.Place.{Place}
 use Rattle.ddr_address_map.specs.Requests.{Request, Completion}
 use Rattle.ddr_channel.specs.declared.waiting.Waiting.{Waiting}
 use Rattle.ddr_channel.specs.Commands.{column_of, entry}
@@ -50,7 +49,7 @@ pub record KeepsPromise (h : History) : Type 0 where
   pub in_order : IsStrictlyIncreasing (map (λ d. d.due) (completions_of h))
   -- what a pending request would read is what the writes accepted before it leave
   pub promise : (place : ℕ) (r : Request) → slice_get (requests_of h.state.pending) place ≡ Some r
-    → promised h.state place (line_of r.place) ≡ line_after (take (slice_index h.waiting place) h.accepted) (line_of r.place)
+      → promised h.state place (line_of r.place) ≡ line_after (take (slice_index h.waiting place) h.accepted) (line_of r.place)
   -- the rows, with all pending writes, are the memory after all that were accepted
   pub memory : (address : LineAddress) → line_over (h.state.cells address) (requests_of h.state.pending) address ≡ line_after h.accepted address
   pub legal : IsLegal h.state.config h.state.start h.state.now h.state.trace

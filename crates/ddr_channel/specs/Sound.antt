@@ -5,12 +5,10 @@ use Rattle.ddr_timing.specs.declared.config.Config.{Config}
 use Rattle.ddr_trace.specs.declared.command.Entry.{Entry}
 use Rattle.ddr_trace.specs.Legality.{IsLegal}
 use Rattle.ddr_address_map.specs.declared.place.Place.{Place}
-use Rattle.ddr_address_map.specs.declared.request.Kind.TheVariants.{Read, Write}
 use Rattle.ddr_address_map.specs.Requests.{Completion}
-use Rattle.ddr_channel.specs.declared.waiting.Waiting.{Waiting}
 use Rattle.ddr_channel.specs.Commands.{column_at, entry}
 use Rattle.ddr_channel.specs.Cycle.{service_time}
-use Rattle.ddr_channel.specs.State.{State, pending_count}
+use Rattle.ddr_channel.specs.State.{State}
 
 -- the place's digits lie in the geometry, and for now in group 0 and bank 0
 pub record IsServed (config : Config) (p : Place) : Type 0 where

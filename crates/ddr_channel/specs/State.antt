@@ -1,5 +1,5 @@
 -- The state of a channel, and what admission and the taking of completions make of it.
-use Rattle.std.specs.Prelude.{ℕ, ◌+◌, Bool, true, false, nat_le, nat_lt, List, [], ◌∷◌, ◌++◌, length, drop, count_by, replicate}
+use Rattle.std.specs.Prelude.{ℕ, Bool, true, false, nat_le, List, [], ◌∷◌, ◌++◌, drop, count_by, replicate}
 use Rattle.ddr_timing.specs.declared.config.Config.{Config}
 use Rattle.ddr_trace.specs.declared.command.Entry.{Entry}
 use Rattle.ddr_address_map.specs.declared.request.Kind.{Kind}

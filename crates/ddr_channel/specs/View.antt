@@ -1,5 +1,5 @@
 -- What a channel's fields stand for.
-use Rattle.std.specs.Prelude.{◌≡◌, ℕ, ◌+◌, ◌^◌, ◌≤◌, List, length}
+use Rattle.std.specs.Prelude.{◌≡◌, ◌+◌, ◌^◌, ◌≤◌}
 use Rattle.ddr_address_map.specs.declared.request.Kind.TheVariants.{Read, Write}
 use Rattle.ddr_channel.specs.declared.channel.Channel.TheInside.{Inside}
 use Rattle.ddr_channel.specs.Kept.{Kept, state_of, AgreesWith}

@@ -4,8 +4,8 @@ ghost use Rattle.ddr_trace.specs.Legality.{IsLowestBroken};
 ghost use Rattle.ddr_channel.specs.Bus.{bus_at};
 ghost use Rattle.ddr_channel.specs.Commands.{may, entry};
 
-use ddr_trace::checker::lowest_broken;
 use ddr_timing::config::Config;
+use ddr_trace::checker::lowest_broken;
 use ddr_trace::command::{Command, Entry};
 use ddr_trace::rule::Rule;
 

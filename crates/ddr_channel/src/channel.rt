@@ -15,14 +15,15 @@ ghost use Rattle.ddr_channel.specs.State.{opened, after_admit, after_pop, is_que
 use crate::bus::CommandBus;
 use crate::choice::{Choice, activate_at, choice_for, column_at, precharge_at};
 use crate::queue::{complete, push, record, take_oldest};
-use ddr_row_array::row_array::RowArray;
 use crate::transfer::{bank_number, transfer};
 use crate::waiting::Waiting;
 use circular_buffer::HeapCircularBuffer;
 use ddr_address_map::place::Place;
 use ddr_address_map::request::{Done, Kind, Req};
+use ddr_row_array::row_array::RowArray;
 use ddr_timing::config::Config;
 use ddr_trace::command::Entry;
+use ddr_trace::trace::Trace;
 use std::alloc::{AllocError, Global};
 use std::marker::Model;
 
@@ -324,5 +325,29 @@ impl Channel {
         ensures legal { IsLegal self.entry.now.config self.entry.now.start self.entry.now.now result.now }
     {
         self.trace.as_slice()
+    }
+
+    /// The commands so far, from the first cycle to the next one. The channel is given up.
+    pub fn into_trace(self) -> Trace
+        ensures value { result ≡ record { start = self.start; end = self.now; entries = self.trace } }
+        ensures legal { IsLegal self.config result.start result.end result.entries }
+    {
+        let Channel {
+            config: _,
+            start,
+            now,
+            pending: _,
+            reads: _,
+            writes: _,
+            flight: _,
+            done: _,
+            trace,
+            rows: _,
+        } = self;
+        Trace {
+            start,
+            end: now,
+            entries: trace,
+        }
     }
 }

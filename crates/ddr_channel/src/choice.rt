@@ -16,17 +16,11 @@ use ddr_trace::rule::Rule;
 pub enum Choice {
     Nothing,
     /// ACT of the request's row.
-    Act {
-        place: usize,
-    },
+    Act { place: usize },
     /// PRE of the request's bank.
-    Pre {
-        place: usize,
-    },
+    Pre { place: usize },
     /// The request's read or write.
-    Column {
-        place: usize,
-    },
+    Column { place: usize },
 }
 
 /// ACT of the place's row.

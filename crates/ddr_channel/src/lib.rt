@@ -11,8 +11,7 @@ pub mod channel;
 pub mod choice;
 pub mod promise;
 mod queue;
-mod transfer;
-pub mod waiting;
-
 #[cfg(test)]
 mod tests;
+mod transfer;
+pub mod waiting;

@@ -11,5 +11,4 @@ ghost use Rattle.ddr_channel.specs.Promise.{AreCalls, KeepsPromise};
 /// A law: it does nothing. That a channel stands for its calls is a clause of each call.
 pub fn channel_promise()
     ensures { (config : Config) (start : ℕ) (calls : List Call) → AreCalls config calls → KeepsPromise (run config start calls) }
-{
-}
+{}

@@ -4,8 +4,8 @@ ghost use Rattle.circular_buffer.specs.Buffer.{buffer};
 ghost use Rattle.ddr_channel.specs.Commands.{entry};
 ghost use Rattle.ddr_channel.specs.Sound.{AreDue};
 
-use circular_buffer::HeapCircularBuffer;
 use crate::waiting::Waiting;
+use circular_buffer::HeapCircularBuffer;
 use ddr_address_map::request::{Done, Req};
 use ddr_trace::command::{Command, Entry};
 use std::alloc::AllocError;
@@ -59,10 +59,12 @@ pub(crate) fn take_oldest(pending: &mut HeapCircularBuffer<Waiting>) -> Req
     ensures rest { pending.new ≡ buffer (drop 1 pending.old.items) pending.old.capacity }
 {
     match pending.pop_front() {
-        Some(Waiting {
-            request,
-            admitted: _,
-        }) => request,
+        Some(
+            Waiting {
+                request,
+                admitted: _,
+            },
+        ) => request,
         None => unreachable!(),
     }
 }

@@ -56,7 +56,6 @@ fn finish(alloc: Global, channel: &mut Channel) -> Result<Vec<Done>, CycleError>
     Ok(taken)
 }
 
-
 fn act(cycle: u64, row: u32) -> Entry {
     let command = Command::Act {
         rank: 0,
@@ -131,7 +130,10 @@ fn a_read_of_what_was_written(rt: HostRuntime) -> Result<(), Fail> {
     assert_eq!(rt; taken.len(), 3);
     assert_eq!(rt; taken[0].due, 11);
     assert_eq!(rt; taken[2].due, 28);
-    assert_eq!(rt; taken[2].line[..7], [0x11, 0x11, 0x22, 0x22, 0x22, 0x22, 0][..]);
+    assert_eq!(rt;
+        taken[2].line[..7],
+        [0x11, 0x11, 0x22, 0x22, 0x22, 0x22, 0][..]
+    );
     Ok(())
 }
 
@@ -144,11 +146,21 @@ fn another_row_is_opened(rt: HostRuntime) -> Result<(), Fail> {
     assert!(rt; channel.admit(first).is_ok());
     assert!(rt; channel.admit(second).is_ok());
     let taken = finish(rt.alloc(), &mut channel)?;
-    let commands = [act(0, 0), read(4, 0), precharge(10), act(14, 1), read(18, 1)];
+    let commands = [
+        act(0, 0),
+        read(4, 0),
+        precharge(10),
+        act(14, 1),
+        read(18, 1),
+    ];
     assert_eq!(rt; channel.trace(), commands.as_slice());
     assert_eq!(rt; channel.now(), 27);
     assert_eq!(rt; taken.len(), 2);
     assert_eq!(rt; taken[1].due, 26);
+    let trace = channel.into_trace();
+    assert_eq!(rt; trace.start, 0);
+    assert_eq!(rt; trace.end, 27);
+    assert_eq!(rt; trace.entries.as_slice(), commands.as_slice());
     Ok(())
 }
 

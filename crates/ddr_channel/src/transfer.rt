@@ -5,9 +5,9 @@ ghost use Rattle.ddr_row_array.specs.Rows.{line_count, open_row, cells};
 ghost use Rattle.ddr_channel.specs.Cycle.{completion_at, cells_after};
 ghost use Rattle.ddr_channel.specs.Memory.{bank_number};
 
-use ddr_row_array::row_array::RowArray;
 use ddr_address_map::place::Place;
 use ddr_address_map::request::{Done, Kind, Req};
+use ddr_row_array::row_array::RowArray;
 use ddr_timing::config::Config;
 
 /// The bank's number in its rank: a group has 4 banks.

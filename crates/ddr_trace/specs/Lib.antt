@@ -5,3 +5,4 @@ pub mod Names
 pub mod Pairs
 pub mod Table
 pub mod Text
+pub mod Traces

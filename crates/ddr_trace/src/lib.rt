@@ -2,7 +2,7 @@
 //! fault, and the text in which traces are kept.
 //!
 //! Below stands `ddr_timing`. `command` is one command with its cycle; `rule` names the rules, which
-//! `specs/Rules.antt` defines; `checker` finds the first fault; `text` writes a trace.
+//! `specs/Rules.antt` defines; `checker` finds the first fault; `trace` is a whole trace, and `text` writes one.
 #![tactic(auto)]
 
 mod banks;
@@ -13,4 +13,5 @@ mod spacing;
 #[cfg(test)]
 mod tests;
 pub mod text;
+pub mod trace;
 mod window;

@@ -1,7 +1,6 @@
 -- What the first broken rule says of the bank decides the choice.
-use Rattle.std.proofs.Common.{◌≡◌, Bool, true, false, cond, sym, ap, ◌∙◌}
+use Rattle.std.proofs.Common.{cond, sym, ap, ◌∙◌}
 use Rattle.ddr_address_map.specs.Requests.{Request}
-use Rattle.ddr_channel.specs.declared.choice.Choice.{Choice}
 use Rattle.ddr_channel.specs.declared.choice.Choice.TheVariants as choice
 use Rattle.ddr_channel.specs.Bus.{bus_at}
 use Rattle.ddr_channel.specs.Commands.{activate_at, precharge_at, column_of}

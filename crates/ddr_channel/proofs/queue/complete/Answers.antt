@@ -1,7 +1,7 @@
 -- Of completions due one after another, the first alone can be due now.
-use Rattle.std.proofs.Common.{◌≡◌, ℕ, List, [], ◌∷◌, ◌++◌, sym, ap, ap₂, ◌∙◌}
+use Rattle.std.proofs.Common.{◌≡◌, List, [], ◌∷◌, ◌++◌, sym, ap, ◌∙◌}
 use Rattle.std.proofs.lemmas.List.{append-nil}
-use Rattle.circular_buffer.specs.Buffer.{Buffer, buffer}
+use Rattle.circular_buffer.specs.Buffer.{buffer}
 use Rattle.ddr_address_map.specs.Requests.{Completion}
 use Rattle.ddr_channel.proofs.QueueLemmas.{no_first, first_later, first_now}
 use Rattle.ddr_channel.proofs.queue.complete.Goals as goal

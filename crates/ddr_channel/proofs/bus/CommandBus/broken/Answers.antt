@@ -1,8 +1,6 @@
 -- What keeps the rules may be issued.
-use Rattle.std.proofs.Common.{◌≡◌, true, Option, Some, None, IfNone}
-use Rattle.ddr_trace.specs.Legality.{KeepsRules}
+use Rattle.std.proofs.Common.{Option, Some, None, IfNone}
 use Rattle.ddr_channel.specs.Bus.{bus_at}
-use Rattle.ddr_channel.specs.Commands.{may}
 use Rattle.ddr_channel.proofs.MayLemmas.{keeps_may}
 use Rattle.ddr_channel.proofs.bus.CommandBus.broken.Goals as goal
 

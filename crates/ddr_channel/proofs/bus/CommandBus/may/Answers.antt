@@ -1,5 +1,5 @@
 -- A command may be issued where no rule is broken.
-use Rattle.std.proofs.Common.{◌≡◌, not, is_some, ℕ, ◌+◌, ◌≤◌, Bool, true, false, Option, Some, None, IfNone, IfSome, sym, ap, ◌∙◌}
+use Rattle.std.proofs.Common.{◌≡◌, not, is_some, ◌+◌, Bool, true, false, Option, Some, None, IfNone, IfSome, sym, ap, ◌∙◌}
 use Rattle.ddr_trace.specs.declared.rule.Rule.{Rule}
 use Rattle.ddr_trace.specs.declared.command.Command.{Command}
 use Rattle.ddr_trace.specs.Legality.{IsLowestBroken}

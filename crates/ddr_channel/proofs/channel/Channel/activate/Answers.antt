@@ -1,5 +1,5 @@
 -- A cycle with an ACT: the oldest request's bank is idle, and its row is opened.
-use Rattle.std.proofs.Common.{◌≡◌, ℕ, ◌+◌, ◌∷◌, ◌++◌, [], List, Some, None, Result, Ok, Err, OnErr, cond, eqb, sym, ap, ap₂, subst, ◌∙◌, arith}
+use Rattle.std.proofs.Common.{◌≡◌, ◌∷◌, ◌++◌, [], List, Some, Result, Ok, Err, OnErr, cond, eqb, sym, ap, subst, ◌∙◌, arith}
 use Rattle.std.specs.List.{slice_get}
 use Rattle.std.specs.Option.{IsSomeAnd}
 use Rattle.circular_buffer.specs.Buffer.{Buffer}
@@ -38,8 +38,8 @@ invariant_of-self-2 c =
     let facts = act_facts k c.oldest.result.0 place whole.sound whole.agrees chosen o in
     let trace_is = c.in_ok-record.ensures.ok ∙ ap (λ (x : Command). k.trace ++ entry k.now x ∷ []) c.activate_at.ensures in
     let state_is = after_activate k c.oldest.result.0 place c.record.new.trace.items c.complete.new.flight.items c.complete.new.done.items c.activate.new.self chosen o trace_is
-      (ap (λ (b : Buffer Completion). b.items) c.complete.ensures.flight) (ap (λ (b : Buffer Completion). b.items) c.complete.ensures.done)
-      (λ b r l. c.activate.ensures.bytes.bytes b r l ∙ c.ensure.ensures.bytes b r l) in
+    (ap (λ (b : Buffer Completion). b.items) c.complete.ensures.flight) (ap (λ (b : Buffer Completion). b.items) c.complete.ensures.done)
+    (λ b r l. c.activate.ensures.bytes.bytes b r l ∙ c.ensure.ensures.bytes b r l) in
     let ensured = agrees_same k.config k.trace k.rows c.ensure.new.self whole.agrees c.ensure.ensures.shape c.ensure.ensures.opened in
     record {
       sound = subst IsSound (sym state_is) (IsSound-after_cycle (state_of k) whole.sound);
@@ -53,7 +53,7 @@ invariant_of-self-2 c =
       flight_room = ap (λ (b : Buffer Completion). b.capacity) c.complete.ensures.flight ∙ whole.flight_room;
       done_room = ap (λ (b : Buffer Completion). b.capacity) c.complete.ensures.done ∙ whole.done_room;
       agrees = subst (λ (t : List Entry). AgreesWith k.config t c.activate.new.self) (sym trace_is)
-        (agrees_activate k.config k.trace k.now place c.ensure.new.self c.activate.new.self facts.served facts.idle ensured c.activate.ensures.bytes.shape
+          (agrees_activate k.config k.trace k.now place c.ensure.new.self c.activate.new.self facts.served facts.idle ensured c.activate.ensures.bytes.shape
           (λ b. c.activate.ensures.opened b ∙ ap (λ n. cond (eqb b n) (Some place.row) (open_row c.ensure.new.self b)) c.bank_number-bank.ensures));
     }
 
@@ -65,8 +65,8 @@ returns-clause-ok c =
     let o = oldest_of k.pending c.oldest.result.0 place (subst (λ (j : Kept). IsSomeAnd (slice_get j.pending 0) (λ w. (w.request.echo.kind ≡ c.oldest.result.0) × (w.request.place ≡ place))) (sym c.self.view_is) c.oldest.ensures) in
     let trace_is = c.in_ok-record.ensures.ok ∙ ap (λ (x : Command). k.trace ++ entry k.now x ∷ []) c.activate_at.ensures in
     after_activate k c.oldest.result.0 place c.record.new.trace.items c.complete.new.flight.items c.complete.new.done.items c.activate.new.self chosen o trace_is
-      (ap (λ (b : Buffer Completion). b.items) c.complete.ensures.flight) (ap (λ (b : Buffer Completion). b.items) c.complete.ensures.done)
-      (λ b r l. c.activate.ensures.bytes.bytes b r l ∙ c.ensure.ensures.bytes b r l)
+    (ap (λ (b : Buffer Completion). b.items) c.complete.ensures.flight) (ap (λ (b : Buffer Completion). b.items) c.complete.ensures.done)
+    (λ b r l. c.activate.ensures.bytes.bytes b r l ∙ c.ensure.ensures.bytes b r l)
     ∙ ap (λ (j : Kept). after_cycle (state_of j)) c.self.view_is
 
 on_err : {T E : Type 0} (r : Result T E) (P : Type 0) → P → OnErr r P

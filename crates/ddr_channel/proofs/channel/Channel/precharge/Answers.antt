@@ -1,5 +1,5 @@
 -- A cycle with a PRE of the oldest request's bank, which is idle afterwards.
-use Rattle.std.proofs.Common.{◌≡◌, ℕ, ◌+◌, ◌∷◌, ◌++◌, [], List, Some, None, cond, eqb, sym, ap, ap₂, subst, ◌∙◌, arith}
+use Rattle.std.proofs.Common.{◌≡◌, ◌∷◌, ◌++◌, [], List, None, cond, eqb, sym, ap, subst, ◌∙◌, arith}
 use Rattle.std.specs.List.{slice_get}
 use Rattle.std.specs.Option.{IsSomeAnd}
 use Rattle.circular_buffer.specs.Buffer.{Buffer}
@@ -28,8 +28,8 @@ invariant_of-self-2 c =
     let o = oldest_of k.pending c.oldest.result.0 place (subst (λ (j : Kept). IsSomeAnd (slice_get j.pending 0) (λ w. (w.request.echo.kind ≡ c.oldest.result.0) × (w.request.place ≡ place))) (sym c.self.view_is) c.oldest.ensures) in
     let trace_is = c.in_ok-record.ensures.ok ∙ ap (λ (x : Command). k.trace ++ entry k.now x ∷ []) c.precharge_at.ensures in
     let state_is = after_precharge k c.oldest.result.0 place c.record.new.trace.items c.complete.new.flight.items c.complete.new.done.items c.precharge.new.self chosen o trace_is
-      (ap (λ (b : Buffer Completion). b.items) c.complete.ensures.flight) (ap (λ (b : Buffer Completion). b.items) c.complete.ensures.done)
-      c.precharge.ensures.bytes.bytes in
+    (ap (λ (b : Buffer Completion). b.items) c.complete.ensures.flight) (ap (λ (b : Buffer Completion). b.items) c.complete.ensures.done)
+    c.precharge.ensures.bytes.bytes in
     record {
       sound = subst IsSound (sym state_is) (IsSound-after_cycle (state_of k) whole.sound);
       begun = omega (arith, whole.begun);
@@ -42,7 +42,7 @@ invariant_of-self-2 c =
       flight_room = ap (λ (b : Buffer Completion). b.capacity) c.complete.ensures.flight ∙ whole.flight_room;
       done_room = ap (λ (b : Buffer Completion). b.capacity) c.complete.ensures.done ∙ whole.done_room;
       agrees = subst (λ (t : List Entry). AgreesWith k.config t c.precharge.new.self) (sym trace_is)
-        (agrees_precharge k.config k.trace k.now place k.rows c.precharge.new.self (precharge_served k c.oldest.result.0 place whole.sound o) whole.agrees c.precharge.ensures.bytes.shape
+          (agrees_precharge k.config k.trace k.now place k.rows c.precharge.new.self (precharge_served k c.oldest.result.0 place whole.sound o) whole.agrees c.precharge.ensures.bytes.shape
           (λ b. c.precharge.ensures.opened b ∙ ap (λ n. cond (eqb b n) None (open_row k.rows b)) c.bank_number.ensures));
     }
 
@@ -54,6 +54,6 @@ returns-clause-ok c =
     let o = oldest_of k.pending c.oldest.result.0 place (subst (λ (j : Kept). IsSomeAnd (slice_get j.pending 0) (λ w. (w.request.echo.kind ≡ c.oldest.result.0) × (w.request.place ≡ place))) (sym c.self.view_is) c.oldest.ensures) in
     let trace_is = c.in_ok-record.ensures.ok ∙ ap (λ (x : Command). k.trace ++ entry k.now x ∷ []) c.precharge_at.ensures in
     after_precharge k c.oldest.result.0 place c.record.new.trace.items c.complete.new.flight.items c.complete.new.done.items c.precharge.new.self chosen o trace_is
-      (ap (λ (b : Buffer Completion). b.items) c.complete.ensures.flight) (ap (λ (b : Buffer Completion). b.items) c.complete.ensures.done)
-      c.precharge.ensures.bytes.bytes
+    (ap (λ (b : Buffer Completion). b.items) c.complete.ensures.flight) (ap (λ (b : Buffer Completion). b.items) c.complete.ensures.done)
+    c.precharge.ensures.bytes.bytes
     ∙ ap (λ (j : Kept). after_cycle (state_of j)) c.self.view_is

@@ -18,7 +18,7 @@ invariant_of-self c =
     let chosen = ap (λ (j : Kept). choice_of (completed (state_of j))) c.self.view_is ∙ c.requires.chosen in
     let clock = ap (λ (j : Kept). j.now) c.self.view_is in
     let state_is = after_rest k c.complete.new.flight.items c.complete.new.done.items chosen
-      (ap (λ (b : Buffer Completion). b.items) c.complete.ensures.flight) (ap (λ (b : Buffer Completion). b.items) c.complete.ensures.done) in
+    (ap (λ (b : Buffer Completion). b.items) c.complete.ensures.flight) (ap (λ (b : Buffer Completion). b.items) c.complete.ensures.done) in
     record {
       sound = subst IsSound (sym state_is) (IsSound-after_cycle (state_of k) whole.sound);
       begun = omega (arith, whole.begun);
@@ -38,5 +38,5 @@ returns-clause-state c =
     let k = kept_of c.self.inside in
     let chosen = ap (λ (j : Kept). choice_of (completed (state_of j))) c.self.view_is ∙ c.requires.chosen in
     after_rest k c.complete.new.flight.items c.complete.new.done.items chosen
-      (ap (λ (b : Buffer Completion). b.items) c.complete.ensures.flight) (ap (λ (b : Buffer Completion). b.items) c.complete.ensures.done)
+    (ap (λ (b : Buffer Completion). b.items) c.complete.ensures.flight) (ap (λ (b : Buffer Completion). b.items) c.complete.ensures.done)
     ∙ ap (λ (j : Kept). after_cycle (state_of j)) c.self.view_is
