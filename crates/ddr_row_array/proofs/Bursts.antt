@@ -1,6 +1,6 @@
 -- The burst of an open row's line, and what a write of it changes.
-use Rattle.std.proofs.Common.{◌≡◌, ◌≢◌, ℕ, ◌+◌, ◌-◌, ◌*◌, ◌/◌, ◌<◌, ◌≤◌, Bool, true, false, ◌&&◌, cond, eqb, ltb, List, [], ◌∷◌, ◌++◌, length, map, take, drop, get_or, set, find, Option, Some, None, IsTrue, IsSome, is_some, refl, sym, ap, subst, ◌∙◌, inl, inr, arith, rules, vec_len}
-use Rattle.std.specs.Option.{option_map, option_map_or, ForSome}
+use Rattle.std.proofs.Common.{◌≡◌, ℕ, ◌+◌, ◌*◌, ◌/◌, ◌<◌, ◌≤◌, Bool, true, false, ◌&&◌, cond, eqb, ltb, List, [], ◌++◌, length, map, take, drop, get_or, set, find, Option, Some, None, IsSome, is_some, refl, sym, ap, subst, ◌∙◌, inl, inr, arith, vec_len}
+use Rattle.std.specs.Option.{option_map, option_map_or}
 use Rattle.std.specs.Vec.{with_item, with_items_from}
 use Rattle.std.proofs.lemmas.Bool.{cases_eq, cases_lt, ltb-true, lt-ltb, eq-eqb, ne_eqb}
 use Rattle.std.specs.declared.vec.Vec.{Vec}
@@ -9,7 +9,7 @@ use Rattle.std.proofs.lemmas.List.Elements.{All-set}
 use Rattle.ddr_row_array.specs.declared.slot.Slot.{Slot}
 use Rattle.ddr_row_array.specs.declared.row_array.OpenRow.{OpenRow}
 use Rattle.ddr_row_array.specs.declared.row_array.RowArray.TheInside.{Inside}
-use Rattle.ddr_row_array.specs.Rows.{Rows, StoredRow, is_row, row_bytes, line_bytes, cells, open_row, open_burst, is_stored}
+use Rattle.ddr_row_array.specs.Rows.{Rows, StoredRow, is_row, row_bytes, line_bytes, cells, open_row, open_burst}
 use Rattle.ddr_row_array.specs.Changes.{Rewrites, is_line}
 use Rattle.ddr_row_array.specs.Lending.{slot_with_line}
 use Rattle.ddr_row_array.specs.Writes.{overwritten, with_line, with_burst, ChangesLineAlone}
@@ -40,10 +40,10 @@ mapped_there f (Some x) h = refl
 held_within : (xs : List (Option OpenRow)) (bank : ℕ) → IsSome (get_or (map row_held xs) bank None) → bank < length xs
 held_within xs bank h =
     elim (cases_lt bank (length xs)) [
-      inl within ↦ within
-    | inr past ↦ absurd
-    (let e : get_or (map row_held xs) bank None ≡ None = get_or_past (map row_held xs) bank None (omega (arith, length-map xs row_held)) in
-    let t : false ≡ true = rw e at h in cc)
+      | inl within ↦ within
+      | inr past ↦ absurd
+          (let e : get_or (map row_held xs) bank None ≡ None = get_or_past (map row_held xs) bank None (omega (arith, length-map xs row_held)) in
+          let t : false ≡ true = rw e at h in cc)
     ]
 
 -- what the code reads of an open bank
@@ -126,8 +126,8 @@ module _ (stored : List StoredRow) (bank row line : ℕ) (w : List ℕ) where
         let old : row_bytes stored bank row ≡ s.bytes = ap (λ o. option_map_or (λ (t : StoredRow). t.bytes) o []) found in
         ap (λ bytes. line_bytes bytes l) (row_bytes-with_line_same s found)
         ∙ elim (cases_eq l line) [
-          inl same ↦ rw (eq-eqb l line same, same) (line_bytes-overwritten_same s.bytes w line within long)
-        | inr other ↦ rw (ne_eqb l line other, old) (line_bytes-overwritten_other s.bytes w line l within long other)
+          | inl same ↦ rw (eq-eqb l line same, same) (line_bytes-overwritten_same s.bytes w line within long)
+          | inr other ↦ rw (ne_eqb l line other, old) (line_bytes-overwritten_other s.bytes w line l within long other)
         ]
 
     rewritten_line : (t : Bool) (b r l : ℕ) → (eqb b bank && eqb r row) ≡ t → line_bytes (row_bytes (with_line stored bank row line w) b r) l ≡ cond (t && eqb l line) w (line_bytes (row_bytes stored b r) l)

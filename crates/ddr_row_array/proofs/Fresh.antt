@@ -1,5 +1,5 @@
 -- A new row array: no bank holds a row, and no row is stored.
-use Rattle.std.proofs.Common.{◌≡◌, ℕ, ◌*◌, ◌/◌, ◌<◌, ◌≤◌, List, [], length, map, get_or, replicate, Option, None, refl, ap, ◌∙◌, inl, inr, arith}
+use Rattle.std.proofs.Common.{◌≡◌, ℕ, ◌*◌, ◌/◌, List, [], length, map, get_or, replicate, Option, None, refl, ap, ◌∙◌, inl, inr, arith}
 use Rattle.std.proofs.lemmas.Bool.{cases_lt}
 use Rattle.std.proofs.lemmas.List.{get_or-map, get_or-replicate, get_or_past, length-map, length-replicate}
 use Rattle.ddr_timing.specs.declared.config.Config.{Config}
@@ -16,8 +16,8 @@ all_idle n bank =
     let none : List (Option OpenRow) = replicate n None in
     let long : length (map row_held none) ≡ n = length-map none row_held ∙ length-replicate n None in
     elim (cases_lt bank n) [
-      inl within ↦ get_or-map row_held none bank None None (omega (arith, length-replicate {A = Option OpenRow} n None)) ∙ ap row_held (get_or-replicate n bank None None within)
-    | inr past ↦ get_or_past (map row_held none) bank None (omega arith)
+      | inl within ↦ get_or-map row_held none bank None None (omega (arith, length-replicate {A = Option OpenRow} n None)) ∙ ap row_held (get_or-replicate n bank None None within)
+      | inr past ↦ get_or_past (map row_held none) bank None (omega arith)
     ]
 
 pub IsFresh-new : (config : Config) (a : Inside) → a.geometry ≡ config.geometry → a.opened.items ≡ replicate (a.geometry.groups * 4) None → a.slots.items ≡ [] → IsFresh config (rows_of a)

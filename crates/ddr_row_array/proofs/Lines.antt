@@ -52,8 +52,8 @@ get_or-overwritten_after bytes w start k within after = grind (arith, places)
 elsewhere : (bytes w : List ℕ) (line l k : ℕ) → 64 * line + 64 ≤ length bytes → length w ≡ 64 → l ≢ line → k < 64 → get_or (overwritten bytes (64 * line) w) (64 * l + k) 0 ≡ get_or bytes (64 * l + k) 0
 elsewhere bytes w line l k within long other below =
     elim (cases_lt (64 * l + k) (64 * line)) [
-      inl before ↦ get_or-overwritten_before bytes w (64 * line) (64 * l + k) (omega arith) before
-    | inr after ↦ get_or-overwritten_after bytes w (64 * line) (64 * l + k) (omega arith) (omega arith)
+      | inl before ↦ get_or-overwritten_before bytes w (64 * line) (64 * l + k) (omega arith) before
+      | inr after ↦ get_or-overwritten_after bytes w (64 * line) (64 * l + k) (omega arith) (omega arith)
     ]
 
 -- the line that is written over

@@ -1,9 +1,9 @@
 -- The open rows after a bank is opened or closed.
-use Rattle.std.proofs.Common.{◌≡◌, ◌≢◌, ℕ, ◌<◌, ◌≤◌, Bool, true, false, cond, eqb, List, length, map, get_or, set, Option, Some, None, IsSome, refl, sym, ap, subst, ◌∙◌, inl, inr, arith, vec_len}
+use Rattle.std.proofs.Common.{◌≡◌, ℕ, ◌<◌, cond, eqb, List, length, map, get_or, set, Option, Some, None, inl, inr, arith, vec_len}
 use Rattle.std.specs.Option.{option_map, ForSome}
 use Rattle.std.specs.Vec.{with_item}
-use Rattle.std.proofs.lemmas.Bool.{cases_eq, cases_lt, eq-eqb, ne_eqb}
-use Rattle.std.proofs.lemmas.List.{get_or-set_same, get_or-set_other, get_or_past, map-set, length-map, length-set, get_or-map}
+use Rattle.std.proofs.lemmas.Bool.{cases_eq, eq-eqb, ne_eqb}
+use Rattle.std.proofs.lemmas.List.{get_or-set_same, get_or-set_other, map-set, length-map}
 use Rattle.ddr_row_array.specs.declared.row_array.OpenRow.{OpenRow}
 use Rattle.ddr_row_array.specs.declared.row_array.RowArray.TheInside.{Inside}
 use Rattle.ddr_row_array.specs.Rows.{bank_count}
@@ -13,8 +13,8 @@ use Rattle.ddr_row_array.specs.View.{IsSound, slot_of, rows_of}
 pub get_or-set_if : {X : Type 0} (xs : List X) (i j : ℕ) (x d : X) → i < length xs → get_or (set xs i x) j d ≡ cond (eqb j i) x (get_or xs j d)
 get_or-set_if xs i j x d within =
     elim (cases_eq j i) [
-      inl same ↦ rw (eq-eqb j i same, same) (get_or-set_same xs i x d within)
-    | inr other ↦ rw (ne_eqb j i other) (get_or-set_other xs i j x d other)
+      | inl same ↦ rw (eq-eqb j i same, same) (get_or-set_same xs i x d within)
+      | inr other ↦ rw (ne_eqb j i other) (get_or-set_other xs i j x d other)
     ]
 
 abbrev pub row_held : Option OpenRow → Option ℕ
@@ -32,8 +32,8 @@ IsSound-opened a i o sound within kept = record {
   indexed = sound.indexed;
   kept = λ b.
       elim (cases_eq b i) [
-        inl same ↦ rw (same, get_or-set_same a.opened.items i o None (omega (arith, a.opened.ok.0))) kept
-      | inr other ↦ rw (get_or-set_other a.opened.items i b o None other) (sound.kept b)
+        | inl same ↦ rw (same, get_or-set_same a.opened.items i o None (omega (arith, a.opened.ok.0))) kept
+        | inr other ↦ rw (get_or-set_other a.opened.items i b o None other) (sound.kept b)
       ];
 }
 

@@ -1,7 +1,6 @@
 -- The slots of stored rows, and the index that finds them.
-use Rattle.std.proofs.Common.{◌≡◌, ℕ, ◌+◌, ◌*◌, ◌/◌, ◌<◌, ◌≤◌, Bool, true, false, ◌&&◌, ◌||◌, cond, eqb, List, [], ◌∷◌, ◌++◌, length, map, get_or, set, find, replicate, Option, Some, None, IsTrue, IsSome, is_some, All, refl, sym, ap, subst, ◌∙◌, inl, inr, arith, rules, vec_len}
-use Rattle.std.specs.Option.{option_map, option_map_or, option_or, ForSome}
-use Rattle.std.specs.List.{slice_get}
+use Rattle.std.proofs.Common.{◌≡◌, ℕ, ◌*◌, ◌<◌, Bool, true, false, ◌&&◌, ◌||◌, cond, eqb, List, [], ◌∷◌, ◌++◌, length, map, get_or, find, replicate, Option, Some, None, IsTrue, IsSome, is_some, refl, sym, ap, ◌∙◌, arith, rules, vec_len}
+use Rattle.std.specs.Option.{option_map, option_map_or, option_or}
 use Rattle.std.specs.Ordering.{is_eq}
 use Rattle.std.specs.BTreeMap.{get}
 use Rattle.std.specs.declared.alloc.Global.{Global}
@@ -9,15 +8,15 @@ use Rattle.std.specs.declared.collections.BTreeMap.{BTreeMap}
 use Rattle.std.specs.declared.vec.Vec.{Vec}
 use Rattle.std.proofs.lemmas.List.Elements.{All-push}
 use Rattle.std.proofs.lemmas.Bool.{eq-eqb}
-use Rattle.std.proofs.lemmas.List.{map-append, map-set, length-map, length-set}
+use Rattle.std.proofs.lemmas.List.{map-append, length-map}
 use Rattle.std.proofs.lemmas.List.Folds.{find-append}
 use Rattle.std.proofs.lemmas.Option.{slice_get-map, slice_get-get_or}
 use Rattle.ddr_row_array.specs.declared.slot.RowAddress.{RowAddress}
 use Rattle.ddr_row_array.specs.declared.slot.Slot.{Slot}
 use Rattle.ddr_row_array.specs.declared.row_array.RowArray.TheInside.{Inside}
-use Rattle.ddr_row_array.specs.Rows.{Rows, StoredRow, is_row, is_stored, row_bytes, line_bytes, cells}
+use Rattle.ddr_row_array.specs.Rows.{StoredRow, is_row, is_stored, row_bytes, line_bytes}
 use Rattle.ddr_row_array.specs.View.{IsSound, slot_of, stored_of, rows_of, address_cmp, place_of}
-use Rattle.ddr_row_array.proofs.Addresses.{is_eq-address_cmp, same_pair, swapped_pair}
+use Rattle.ddr_row_array.proofs.Addresses.{is_eq-address_cmp, same_pair}
 use Rattle.ddr_row_array.proofs.Lines.{line_bytes-zeros}
 use Rattle.ddr_row_array.proofs.Places.{find_at_place, find_at_no_place, place_within, place_of_push}
 

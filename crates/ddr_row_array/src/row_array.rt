@@ -1,5 +1,5 @@
 //! The bytes of one rank's rows, and the open row of each bank.
-ghost use Rattle.std.specs.Prelude.{◌≡◌, ℕ, ◌<◌, ◌==◌, ◌&&◌, ◌↔◌, false, if◌then◌else◌, List, length, Some, None, IsTrue, IsSome, IfSome, OnSome, OnOk, OnErr, IfOk, is_some, unwrap_or};
+ghost use Rattle.std.specs.Prelude.{◌≡◌, ℕ, ◌<◌, ◌==◌, ◌&&◌, false, if◌then◌else◌, length, Some, None, IsTrue, IsSome, IfSome, OnSome, OnOk, OnErr, IfOk, is_some, unwrap_or};
 ghost use Rattle.std.specs.Bool.{OnTrue, OnFalse};
 ghost use Rattle.std.specs.Option.{option_copied, option_copied_mut};
 ghost use Rattle.std.specs.Borrow.{sem};
@@ -25,14 +25,17 @@ struct OpenRow {
 
 /// The bytes of one rank's rows, and the open row of each bank.
 ///
-/// A bank is named by its number in the rank, group * 4 + bank. A row takes memory once `ensure` is first
-/// called for it; a byte that was never written is 0.
+/// A bank is named by its number in the rank, group * 4 + bank. A row takes memory once `ensure`
+/// is first called for it; a byte that was never written is 0.
 #[derive(Drop)]
 pub struct RowArray {
     alloc: Global,
     geometry: Geometry,
+    // By the bank's number.
     opened: Vec<Option<OpenRow>>,
+    // In the order in which the rows were stored.
     slots: Vec<Slot>,
+    // Where each stored row stands among the slots.
     index: BTreeMap<RowAddress, usize>,
 }
 
@@ -63,15 +66,16 @@ impl RowArray {
         })
     }
 
-    /// Makes the row's storage, with zeros, if it is not there. No byte changes, and nothing at all where
-    /// memory runs out.
+    /// Makes the row's storage, with zeros, if it is not there. No byte changes, and nothing at
+    /// all where memory runs out.
     pub fn ensure(&mut self, bank: u32, row: u32) -> Result<(), AllocError>
         requires bank_in { bank < bank_count self.old }
         requires row_in { row < row_count self.old }
         ensures ok { OnOk result (IsTrue (is_stored self.new bank row)) }
         ensures others { (b r : ℕ) → (b == bank && r == row) ≡ false
             → is_stored self.new b r ≡ is_stored self.old b r }
-        ensures kept { (b r : ℕ) → IsTrue (is_stored self.old b r) → IsTrue (is_stored self.new b r) }
+        ensures kept { (b r : ℕ)
+            → IsTrue (is_stored self.old b r) → IsTrue (is_stored self.new b r) }
         ensures opened { (b : ℕ) → open_row self.new b ≡ open_row self.old b }
         ensures bytes { (b r l : ℕ) → cells self.new b r l ≡ cells self.old b r l }
         ensures shape { SameShape self.old self.new }
@@ -88,7 +92,8 @@ impl RowArray {
         Ok(())
     }
 
-    /// Opens a stored row of an idle bank, so that bursts go to it (JESD79-4, "ACTIVATE Command").
+    /// Opens a stored row of an idle bank, so that bursts go to it (JESD79-4, "ACTIVATE
+    /// Command").
     pub fn activate(&mut self, bank: u32, row: u32)
         requires bank_in { bank < bank_count self.old }
         requires row_in { row < row_count self.old }
@@ -140,8 +145,8 @@ impl RowArray {
         self.slots[open.slot].line_mut(line)
     }
 
-    /// The 64 bytes of a line of the bank's open row. `None` exactly where the bank is idle or the row has
-    /// no such line.
+    /// The 64 bytes of a line of the bank's open row. `None` exactly where the bank is idle or
+    /// the row has no such line.
     pub fn burst(&self, bank: u32, line: u32) -> Option<&[u8]>
         ensures value { option_copied result ≡ open_burst self.now bank line }
         ensures length { IfSome result (λ burst. length burst.now ≡ 64) }
@@ -153,8 +158,8 @@ impl RowArray {
         }
     }
 
-    /// The 64 bytes of a line of the bank's open row, for writing. `None` exactly where the bank is idle or
-    /// the row has no such line.
+    /// The 64 bytes of a line of the bank's open row, for writing. `None` exactly where the bank
+    /// is idle or the row has no such line.
     pub fn burst_mut(&mut self, bank: u32, line: u32) -> Option<&mut [u8]>
         ensures* writes_back { sem 𝓛 (LendsBurst self.entry bank line result) }
         ensures value { option_copied_mut result ≡ open_burst self.old bank line }
@@ -168,10 +173,10 @@ impl RowArray {
         }
     }
 
-    /// Replaces, in a line of the bank's open row, each byte whose bit of `mask` is set (bit i for byte i)
-    /// by the byte of `bytes`, and says whether there was such a line. Where there was none, nothing
-    /// changes. The mask is the data mask of a write (JESD79-4, "Write Data Mask"), with a set bit for a
-    /// byte that is written.
+    /// Replaces, in a line of the bank's open row, each byte whose bit of `mask` is set (bit i
+    /// for byte i) by the byte of `bytes`, and says whether there was such a line. Where there
+    /// was none, nothing changes. The mask is the data mask of a write (JESD79-4, "Write Data
+    /// Mask"), with a set bit for a byte that is written.
     pub fn write(&mut self, bank: u32, line: u32, mask: u64, bytes: &[u8; 64]) -> bool
         ensures there { result ≡ is_some (open_burst self.old bank line) }
         ensures written { OnTrue result (MergesLine self.old self.new bank line mask bytes.now) }
@@ -184,8 +189,8 @@ impl RowArray {
         there
     }
 
-    /// Copies the 64 bytes of a line of the bank's open row, and says whether there was such a line. Where
-    /// there was none, nothing is copied.
+    /// Copies the 64 bytes of a line of the bank's open row, and says whether there was such a
+    /// line. Where there was none, nothing is copied.
     pub fn read(&self, bank: u32, line: u32, into: &mut [u8; 64]) -> bool
         ensures there { result ≡ is_some (open_burst self.now bank line) }
         ensures copied { into.new ≡ unwrap_or (open_burst self.now bank line) into.old }

@@ -108,7 +108,10 @@ fn write_is_read_back(rt: HostRuntime) -> Result<(), Fail> {
 
     rows.ensure(0, 0)?;
     rows.activate(0, 0);
-    assert!(rt; first_four(&rows, 0, 0) == Some([0x0a, 0x0b, 0x0c, 0x0d]), "the bytes stay");
+    assert!(rt;
+        first_four(&rows, 0, 0) == Some([0x0a, 0x0b, 0x0c, 0x0d]),
+        "the bytes stay"
+    );
     Ok(())
 }
 

@@ -10,11 +10,11 @@ use Rattle.ddr_row_array.proofs.merge.merge.Goals.{then-mask-i-eq1, else-mask-i-
 pub loop-i-preserved : goal.loop-i-preserved
 loop-i-preserved c =
     elim c.if-mask-i-eq1.branch [
-      then-mask-i-eq1 w ↦ record {
+      | then-mask-i-eq1 w ↦ record {
         done = below_more _ _ (λ k h. grind (arith, common_steps, c.loop-i.invariant.done k)) (grind (arith, common_steps, nat_tests, shr_and_one));
         rest = λ k h. grind (arith, common_steps, c.loop-i.invariant.rest k);
       }
-    | else-mask-i-eq1 w ↦ record {
+      | else-mask-i-eq1 w ↦ record {
         done = below_more _ _ (λ k h. grind (arith, common_steps, c.loop-i.invariant.done k)) (grind (arith, common_steps, nat_tests, shr_and_one, c.loop-i.invariant.rest c.loop-i.i));
         rest = λ k h. grind (arith, common_steps, c.loop-i.invariant.rest k);
       }

@@ -4,15 +4,15 @@ use Rattle.std.proofs.Common.{◌≡◌, ℕ, Bool, true, false, not, T, Some, N
 use Rattle.std.proofs.raw_atomic.Walks.{proved}
 use mathlib.Core.List.{Mem, not-mem-nil}
 use base.Fraction.{full_share}
-use base.Logic.{SProp, ent, sep, emp, id⊢, ex_e, snd∗}
-use base.Fml.{Lft, Share, Fml, ftrue, flft, fobs, fbor, fres, flent, Incl-refl}
+use base.Logic.{emp, id⊢, ex_e, snd∗}
+use base.Fml.{Lft, ftrue, flft, fres, flent, Incl-refl}
 use mir.Syntax.{named}
 use mir.Val.{Val, vptr, of_list}
 use types.Match.{live}
 use types.Logic.{sem}
 use contract.Monad.{fact, fact_i}
 use contract.Running.{tables}
-use types.Kit.{‵, raw, ◌⊛◌, some, later, at_ret, ◌$◌, ◌∵◌, !, qed, done, by, move, keep, drop, use0, use1, use2, split, join, fsplit, fsplit3, fjoin, fjoin3, feq_i, pick, await, rewrite, suffices, frame}
+use types.Kit.{‵, raw, ◌⊛◌, some, later, at_ret, ◌$◌, ◌∵◌, !, qed, done, move, keep, drop, use0, use1, use2, split, join, fsplit, fsplit3, fjoin, fjoin3, feq_i, pick, await, rewrite, suffices, frame}
 use types.Tokens.{lft_new, lft_end, lent_back}
 use types.Mut.{open_ref, close_ref}
 use types.Run.{enter, of_opd, lit, addr, stop, no_more, and_then, first, branches, exec, returns}
@@ -25,15 +25,14 @@ use denote.Lend.{lends_shr}
 use denote.Memory.{mem, part_at}
 use denote.Plain.{uint_Makes, uint_vals, uint_Tells}
 use denote.RattleType.{owns}
-use denote.Ref.{MutRef, ShrRef, mut_vals, mut_Tells, shr_vals}
+use denote.Ref.{ShrRef, mut_vals, mut_Tells, shr_vals}
 use denote.Array.{Array}
-use denote.Follow.{follows, follows_if, follows_by}
+use denote.Follow.{follows, follows_by}
 use denote.Slice.{MutSlice, slice_val}
 use denote.Signature.{plain, mut_ref_to, types_at}
 use denote.Steps.{nothing, owned, facts, heard, only, peeks}
 use denote.Triple.Call.{calls_at}
 use denote.Triple.Clauses.{ensured, lasts}
-use denote.Triple.Entry.{on_entry}
 use denote.Triple.Spec.{triple_of}
 use denote.Triple.Walked.{Stays, walk_of, stay_dropped, Goes-dropped, Goes-spent_ref, ends_at}
 use denote.Triple.Table.{framed}
@@ -109,7 +108,7 @@ burst_mut_spec {M = M} 𝓤 𝓛 𝓜 𝓡 wired =
     lent_back ! tt $ move ! (1 ∷ []) $ drop ! $ close_ref ! tt (mem R) now $
     -- [the name; the borrow; the token; the locals]
     first ! $ branches ! (get ! refl)
-    (λ t. -- open_line_mut(..)
+    (λ t.  -- open_line_mut(..)
     let asked : IsSome (open_burst now bank line) = sym said ∙ truth r t in
     let G' = triple_of 𝓛 h.signature (h.spec 𝓛 𝓜.mem 𝓡.returns) in
     let z' : G'.Ghost = ((κs, qs, bounds, a, y.0.4), tt) in

@@ -1,4 +1,4 @@
-use Rattle.std.proofs.Common.{◌≡◌, ◌++◌, ◌∷◌, [], ◌||◌, ◌&&◌, ℕ, Bool, true, eqb, ap, sym, ◌∙◌, refl, arith, rules, replicate, None, is_some, Some, cond, length}
+use Rattle.std.proofs.Common.{◌≡◌, ◌++◌, ◌∷◌, [], ap, sym, ◌∙◌, rules, None, Some, cond, length}
 use Rattle.std.specs.BTreeMap.{get}
 use Rattle.std.specs.Ordering.{is_eq}
 use Rattle.ddr_row_array.specs.declared.slot.Slot.{Slot}

@@ -28,7 +28,7 @@ returns c =
       record {
         writes_back = tt;
         value = rw (← c.self.view_is) (open_burst-at c.self.inside c.args.bank c.args.line c.unwrap-open.result s c.self.invariant at is
-        ∙ ap Some (sym (c.line_mut.ensures.value ∙ line_bytes-range s.bytes.items c.args.line fits)));
+            ∙ ap Some (sym (c.line_mut.ensures.value ∙ line_bytes-range s.bytes.items c.args.line fits)));
         only_the_line = rw (← c.self.view_is) (ChangesLineAlone-at c.self.inside c.args.bank c.args.line c.unwrap-open.result s c.self.invariant at is);
       },
     )

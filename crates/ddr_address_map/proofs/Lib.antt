@@ -1,0 +1,3 @@
+pub mod Radix
+pub mod Walk
+pub mod MapLemmas
