@@ -1,0 +1,16 @@
+use Rattle.std.proofs.Common.{◌-◌, ◌≤◌}
+use Rattle.ddr_tool.specs.Progress.{IsSameRun}
+use Rattle.ddr_tool.specs.Runs.{AppendsReplies}
+use Rattle.ddr_tool.proofs.sim.write_ready.Given as goal
+
+abbrev pub invariant-loop-done : goal.invariant-loop-done
+invariant-loop-done g l =
+    let contents = g.W.Write.contents in
+    record {
+      written : AppendsReplies (contents l.fn.writer) (contents l.writer) l.fn.keeper.given (l.keeper.given - l.fn.keeper.given);
+      given : l.fn.keeper.given ≤ l.keeper.given;
+      kept : IsSameRun l.fn.keeper l.keeper;
+    }
+
+abbrev pub decreases-loop-done : goal.decreases-loop-done
+decreases-loop-done g l = l.keeper.count - l.keeper.given

@@ -1,0 +1,16 @@
+use Rattle.std.proofs.Common.{◌≡◌, ◌-◌, ◌≤◌}
+use Rattle.ddr_tool.specs.Progress.{IsSameRun}
+use Rattle.ddr_tool.specs.Runs.{AppendsReplies}
+use Rattle.ddr_tool.proofs.sim.write_replies.Given as goal
+
+abbrev pub invariant-rounds : goal.invariant-rounds
+invariant-rounds g l =
+    let contents = g.W.Write.contents in
+    record {
+      written : AppendsReplies (contents l.fn.writer) (contents l.writer) 0 l.keeper.given;
+      counted : l.rounds ≤ 10000000;
+      kept : IsSameRun l.fn.keeper l.keeper;
+    }
+
+abbrev pub decreases-rounds : goal.decreases-rounds
+decreases-rounds g l = 10000000 - l.rounds

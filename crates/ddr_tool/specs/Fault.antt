@@ -1,0 +1,24 @@
+-- The faults of a run.
+use Rattle.std.specs.Prelude.{ℕ}
+use Rattle.ddr_timing.specs.declared.error.ConfigError.{ConfigError}
+use Rattle.ddr_timing.specs.declared.error.ConfigError.TheVariants as refusals
+use Rattle.ddr_tool.specs.declared.fault.Fault.{Fault}
+use Rattle.ddr_tool.specs.declared.fault.Fault.TheVariants as faults
+
+-- the status that a run ends with: 3 where the device, the memory or the clock is at fault, 2 where the input is
+abbrev pub status_of : Fault → ℕ
+status_of faults.Read = 3
+status_of faults.Write = 3
+status_of faults.OutOfMemory = 3
+status_of faults.ClockSpent = 3
+status_of _ = 2
+
+-- the fault that refuses a configuration's text
+abbrev pub fault_of : ConfigError → Fault
+fault_of refusals.Syntax = faults.ConfigSyntax
+fault_of (refusals.Missing key) = faults.ConfigMissing key
+fault_of refusals.UnknownKey = faults.ConfigUnknownKey
+fault_of (refusals.Range key) = faults.ConfigRange key
+fault_of (refusals.NotPowerOfTwo key) = faults.ConfigNotPowerOfTwo key
+fault_of (refusals.Relation n) = faults.ConfigRelation n
+fault_of refusals.OutOfMemory = faults.OutOfMemory

@@ -1,0 +1,24 @@
+-- The text of replies.
+use Rattle.std.specs.Prelude.{ℕ, ◌%◌, List, [], ◌∷◌, ◌++◌, take, drop, codes}
+use Rattle.std.specs.List.{flat_map}
+use Rattle.std.specs.Fmt.{decimal}
+use Rattle.hex.specs.Hex.{encode_lower}
+use Rattle.ddr_address_map.specs.declared.request.Kind.{Kind}
+use Rattle.ddr_address_map.specs.declared.request.Kind.TheVariants.{Read, Write}
+use Rattle.ddr_address_map.specs.Requests.{Completion}
+
+-- the bytes of the line that were asked for
+abbrev pub bytes_asked : Completion → List ℕ
+bytes_asked d = take d.echo.len (drop (d.echo.addr % 64) d.line)
+
+-- what was done, and its address; for a read the bytes in lower case
+abbrev pub done_text : Kind → Completion → List ℕ
+done_text Read d = codes " read " ++ (decimal d.echo.addr ++ (codes " " ++ (encode_lower (bytes_asked d) ++ 10 ∷ [])))
+done_text Write d = codes " write " ++ (decimal d.echo.addr ++ 10 ∷ [])
+
+-- the line of a reply: the port, the number, and what was done
+unfoldable pub reply_text : Completion → List ℕ
+reply_text d = decimal d.port ++ (codes " " ++ (decimal d.number ++ done_text d.echo.kind d))
+
+abbrev pub replies_text : List Completion → List ℕ
+replies_text ds = flat_map reply_text ds

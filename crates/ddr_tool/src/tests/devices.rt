@@ -1,0 +1,166 @@
+//! Readers and writers over memory: one that never ends, and ones that fail at a call.
+use super::{REPLIES, TRACE, WRITE_THEN_READ};
+use crate::fault::Fault;
+use crate::sim::sim;
+use std::io;
+use std::io::{ErrorKind, Read, Write};
+use std::test::Fail;
+
+/// A reader of 8 bytes at a time that fails once, where no call is left.
+#[derive(Drop)]
+struct Failing<'a> {
+    text: &'a [u8],
+    calls: u32,
+    kind: ErrorKind,
+}
+
+impl Read for Failing<'_> {
+    fn read(&mut self, buf: &mut [u8]) -> io::Result<usize> {
+        let calls = self.calls;
+        self.calls = calls.wrapping_sub(1);
+        if calls == 0 {
+            return Err(io::Error::from(self.kind));
+        }
+        let count = buf.len().min(8).min(self.text.len());
+        let (now, later) = self.text.split_at(count);
+        buf[..count].copy_from_slice(now);
+        self.text = later;
+        Ok(count)
+    }
+}
+
+#[test]
+fn each_read_fails(rt: HostRuntime) -> Result<(), Fail> {
+    // 30 bytes are read in 4 calls, and their end by one more.
+    for calls in 0..8 {
+        let mut reader = Failing {
+            text: WRITE_THEN_READ.as_bytes(),
+            calls,
+            kind: ErrorKind::Other,
+        };
+        let mut written = Vec::new(rt.alloc());
+        let end = sim(rt.alloc(), true, None, &mut reader, &mut written);
+        let (wanted, text) = if calls < 5 {
+            (Err(Fault::Read), "")
+        } else {
+            (Ok(()), REPLIES)
+        };
+        assert_eq!(rt; end, wanted, "{calls} calls");
+        assert_eq!(rt; written.as_slice(), text.as_bytes(), "{calls} calls");
+    }
+    Ok(())
+}
+
+#[test]
+fn each_read_is_interrupted(rt: HostRuntime) -> Result<(), Fail> {
+    for calls in 0..8 {
+        let mut reader = Failing {
+            text: WRITE_THEN_READ.as_bytes(),
+            calls,
+            kind: ErrorKind::Interrupted,
+        };
+        let mut written = Vec::new(rt.alloc());
+        sim(rt.alloc(), true, None, &mut reader, &mut written)?;
+        assert_eq!(rt; written.as_slice(), REPLIES.as_bytes(), "{calls} calls");
+    }
+    Ok(())
+}
+
+/// A reader that gives comments without end, or only so many bytes of them.
+#[derive(Drop)]
+struct Comments {
+    left: u64,
+    asked: u64,
+}
+
+impl Read for Comments {
+    fn read(&mut self, buf: &mut [u8]) -> io::Result<usize> {
+        self.asked = self.asked.wrapping_add(1);
+        let most = usize::try_from(self.left).unwrap_or(usize::MAX);
+        let count = buf.len().min(most);
+        buf[..count].fill(b'#');
+        self.left = self.left.saturating_sub(count as u64);
+        Ok(count)
+    }
+}
+
+#[test]
+fn inputs_that_are_too_long(rt: HostRuntime) -> Result<(), Fail> {
+    let too_long = Err(Fault::InputTooLong);
+    for (left, wanted) in [
+        (16_777_216, Ok(())),
+        (16_777_217, too_long),
+        (u64::MAX, too_long),
+    ] {
+        let mut reader = Comments { left, asked: 0 };
+        let mut written = Vec::new(rt.alloc());
+        let end = sim(rt.alloc(), true, None, &mut reader, &mut written);
+        assert_eq!(rt; end, wanted, "{left} bytes");
+        assert!(rt; written.is_empty(), "{left} bytes");
+        assert!(rt; reader.asked <= 16_777_218, "{left} bytes");
+    }
+    Ok(())
+}
+
+/// A writer that takes at most 5 bytes at a time, and fails where no call is left.
+#[derive(Drop)]
+struct Full {
+    text: Vec<u8>,
+    calls: u32,
+}
+
+impl Full {
+    fn call(&mut self) -> io::Result<()> {
+        match self.calls.checked_sub(1) {
+            Some(left) => {
+                self.calls = left;
+                Ok(())
+            }
+            None => Err(io::Error::from(ErrorKind::Other)),
+        }
+    }
+}
+
+impl Write for Full {
+    fn write(&mut self, buf: &[u8]) -> io::Result<usize> {
+        self.call()?;
+        let taken = buf.len().min(5);
+        self.text.extend_from_slice(&buf[..taken])?;
+        Ok(taken)
+    }
+
+    fn flush(&mut self) -> io::Result<()> {
+        self.call()
+    }
+}
+
+#[test]
+fn each_write_fails(rt: HostRuntime) -> Result<(), Fail> {
+    // The replies are two lines of 12 and 20 bytes, written in 3 and 4 calls, and flushed by one more.
+    // The trace is 92 bytes, written in 19 calls, and flushed by one more.
+    for (trace, text, needed) in [(None, REPLIES, 8), (Some(0), TRACE, 20)] {
+        for calls in 0..needed + 2 {
+            let mut reader = WRITE_THEN_READ.as_bytes();
+            let mut writer = Full {
+                text: Vec::new(rt.alloc()),
+                calls,
+            };
+            let end = sim(rt.alloc(), true, trace, &mut reader, &mut writer);
+            let wanted = if calls < needed {
+                Err(Fault::Write)
+            } else {
+                Ok(())
+            };
+            assert_eq!(rt; end, wanted, "{calls} calls");
+            assert!(rt;
+                text.as_bytes().starts_with(writer.text.as_slice()),
+                "{calls} calls"
+            );
+            assert!(rt;
+                end.is_err() || writer.text.len() == text.len(),
+                "{calls} calls"
+            );
+        }
+    }
+    Ok(())
+}

@@ -1,0 +1,157 @@
+//! Inputs that are at fault: each with its fault, and with nothing written.
+use super::run;
+use crate::fault::Fault;
+use ddr_timing::error::ConfigError;
+use ddr_timing::key::Key;
+use std::alloc::Global;
+use std::test::Fail;
+
+/// Lines that are at fault wherever they stand.
+const BAD_LINES: [&str; 40] = [
+    // No form of a script's line.
+    " ",
+    "   ",
+    " read 0 0 1",
+    "read 0 0 1 ",
+    "\tread 0 0 1",
+    "read\t0 0 1",
+    "read",
+    "read 0 0",
+    "read 0 0 1 1",
+    "READ 0 0 1",
+    "reads 0 0 1",
+    "write 0 0",
+    "write 0 0 00 00",
+    "erase 0 0 1",
+    "read 0 0 1#",
+    "read 0 0 1\r\r",
+    // No number.
+    "read 0 -1 1",
+    "read 0 +1 1",
+    "read 0 0x0 1",
+    "read 0 18446744073709551616 1",
+    "read 0 000000000000000000000 1",
+    "read 0 0 65536",
+    "read 0 0 1.",
+    // No bytes.
+    "write 0 0 0",
+    "write 0 0 0g",
+    "write 0 0 010",
+    "write 0 0 0x01",
+    // Another port, another group, another bank, another channel, and beyond the memory.
+    "read 1 0 1",
+    "write 1 0 00",
+    "read 0 512 1",
+    "read 0 2048 1",
+    "read 0 131072 1",
+    "read 0 262144 1",
+    "read 0 18446744073709551615 1",
+    // No byte, and more than one line.
+    "read 0 0 0",
+    "read 0 60 5",
+    "read 0 0 65",
+    "read 0 0 65535",
+    "write 0 60 0102030405",
+    "cycle 1",
+];
+
+/// The fault that a script ends by, and how many bytes were written before.
+fn fault_of(alloc: Global, script: &[u8]) -> (Option<Fault>, usize) {
+    let (bytes, end) = run(alloc, None, script);
+    (end.err(), bytes.len())
+}
+
+#[test]
+fn bad_lines(rt: HostRuntime) -> Result<(), Fail> {
+    let alloc = rt.alloc();
+    for line in BAD_LINES {
+        let first = format!(in alloc; "{line}\n")?;
+        let fault = Some(Fault::ScriptLine { line: 1 });
+        assert_eq!(rt; fault_of(alloc, first.as_bytes()), (fault, 0), "{line:?}");
+        let third = format!(in alloc; "# a comment\nread 0 0 1\n{line}\nnone\n")?;
+        let fault = Some(Fault::ScriptLine { line: 3 });
+        assert_eq!(rt; fault_of(alloc, third.as_bytes()), (fault, 0), "{line:?}");
+    }
+    Ok(())
+}
+
+#[test]
+fn lines_too_long(rt: HostRuntime) -> Result<(), Fail> {
+    let alloc = rt.alloc();
+    let fault = Some(Fault::ScriptLine { line: 1 });
+    let mut line = String::from_str(alloc, "write 0 0 ")?;
+    for _byte in 0..129 {
+        line.push_str("00")?;
+    }
+    assert_eq!(rt; fault_of(alloc, line.as_bytes()), (fault, 0));
+    let mut masked = String::from_str(alloc, "mask 0 0 000000000000000f ")?;
+    for _byte in 0..64 {
+        masked.push_str("11")?;
+    }
+    assert_eq!(rt; fault_of(alloc, masked.as_bytes()), (fault, 0));
+    Ok(())
+}
+
+#[test]
+fn lines_are_counted_from_1(rt: HostRuntime) {
+    let alloc = rt.alloc();
+    let at = |line: u64| (Some(Fault::ScriptLine { line }), 0usize);
+    let fifth = b"read 0 0 1\nread 0 0 1\nread 0 0 1\nread 0 0 1\n#\n\nread 0 0 1\n";
+    assert_eq!(rt; fault_of(alloc, fifth), at(7));
+    assert_eq!(rt; fault_of(alloc, b"\r\n\r\nread 0 0\r\n"), at(3));
+    assert_eq!(rt; fault_of(alloc, b"#\n read 0 0 1"), at(2));
+    // A carriage return ends a line only before a line feed.
+    assert_eq!(rt; fault_of(alloc, b"read 0 0 1\r"), at(1));
+    // The first line at fault is told.
+    assert_eq!(rt; fault_of(alloc, b"read 0 0 1\nread 1 0 1\nbad\n"), at(2));
+}
+
+#[test]
+fn bytes_that_are_no_text(rt: HostRuntime) {
+    let alloc = rt.alloc();
+    let fault = Some(Fault::InputNotUtf8);
+    assert_eq!(rt; fault_of(alloc, b"\xff"), (fault, 0));
+    assert_eq!(rt; fault_of(alloc, b"bad\n# \xe2\x82\n"), (fault, 0));
+}
+
+#[test]
+fn texts_and_statuses(rt: HostRuntime) -> Result<(), Fail> {
+    let alloc = rt.alloc();
+    let faults = [
+        (Fault::from(ConfigError::Syntax), "config Syntax", 2),
+        (
+            Fault::from(ConfigError::Missing { key: Key::RrdL }),
+            "config Missing rrd_l",
+            2,
+        ),
+        (Fault::from(ConfigError::UnknownKey), "config UnknownKey", 2),
+        (
+            Fault::from(ConfigError::Range { key: Key::Cap }),
+            "config Range cap",
+            2,
+        ),
+        (
+            Fault::from(ConfigError::NotPowerOfTwo { key: Key::Rows }),
+            "config NotPowerOfTwo rows",
+            2,
+        ),
+        (
+            Fault::from(ConfigError::Relation { n: 4 }),
+            "config Relation 4",
+            2,
+        ),
+        (Fault::InputTooLong, "input too long", 2),
+        (Fault::InputNotUtf8, "input not UTF-8", 2),
+        (Fault::ScriptLine { line: 12 }, "script line 12", 2),
+        (Fault::ScriptLimit, "script limit", 2),
+        (Fault::Read, "read failed", 3),
+        (Fault::Write, "write failed", 3),
+        (Fault::from(ConfigError::OutOfMemory), "out of memory", 3),
+        (Fault::ClockSpent, "clock spent", 3),
+    ];
+    for (fault, text, status) in faults {
+        assert_eq!(rt; fault.to_string(alloc)?.as_str(), text);
+        assert_eq!(rt; fault.status(), status, "{text}");
+    }
+    Ok(())
+}
