@@ -1,3 +1,4 @@
+pub mod Bus
 pub mod Commands
 pub mod Rules
 pub mod Legality
@@ -6,3 +7,5 @@ pub mod Pairs
 pub mod Table
 pub mod Text
 pub mod Traces
+pub mod Parse
+pub mod Reader

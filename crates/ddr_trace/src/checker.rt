@@ -4,6 +4,7 @@
 //! `banks`, `spacing` and `window`, one function for each kind of rule.
 ghost use Rattle.std.specs.Prelude.{◌↔◌, IfNone, IfSome, IsNone};
 ghost use Rattle.ddr_trace.specs.declared.rule.Rule.{Rule};
+ghost use Rattle.ddr_trace.specs.Bus.{KeepsBus};
 ghost use Rattle.ddr_trace.specs.Rules.{breaks};
 ghost use Rattle.ddr_trace.specs.Legality.{IsFirstFault, IsLegal, IsLowestBroken, IsRefreshed, KeepsRules};
 ghost use Rattle.ddr_trace.specs.Pairs.{IsLowest};
@@ -23,11 +24,13 @@ pub struct Fault {
 
 /// The lowest place of the trace that breaks a rule, with the lowest rule broken there. The trace goes from
 /// `start` to `end`, which is the first cycle behind it. Each entry is compared with every entry before it.
+/// In a trace with no fault no two bursts overlap on the data bus.
 pub fn first_fault(entries: &[Entry], config: &Config, start: u64, end: u64) -> Option<Fault>
     ensures none { IsNone result
         ↔ (IsLegal config.now start end entries.now × IsRefreshed config.now start end entries.now) }
     ensures fault { IfSome result
         (λ f. IsFirstFault config.now start end entries.now f.place f.rule) }
+    ensures bus { IfNone result (KeepsBus config.now.timing entries.now) }
 {
     for (place, entry) in entries.iter().enumerate() {
         if let Some(rule) = lowest_of_all(&entries[..place], entry, config, start, end) {

@@ -2,12 +2,15 @@
 //! fault, and the text in which traces are kept.
 //!
 //! Below stands `ddr_timing`. `command` is one command with its cycle; `rule` names the rules, which
-//! `specs/Rules.antt` defines; `checker` finds the first fault; `trace` is a whole trace, and `text` writes one.
+//! `specs/Rules.antt` defines; `checker` finds the first fault, over `banks`, `spacing` and `window`, one for each
+//! kind of rule; `trace` is a whole trace; `text` writes one, and `reader` reads one, record by record with `parse`.
 #![tactic(auto)]
 
 mod banks;
 pub mod checker;
 pub mod command;
+mod parse;
+pub mod reader;
 pub mod rule;
 mod spacing;
 #[cfg(test)]

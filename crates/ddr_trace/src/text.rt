@@ -11,7 +11,7 @@ ghost use Rattle.ddr_trace.specs.Table.{AddsLine, IsPlain, IsReady};
 
 use crate::command::{Command, Entry};
 use csv::{ByteRecord, Writer, WriterBuilder};
-use std::alloc::{AllocError, Global};
+use std::alloc::{AllocError, AllocFailed, Global};
 use std::io::Write;
 use thiserror::Error;
 
@@ -40,6 +40,14 @@ impl From<AllocError> for TraceError {
     ghost from_gives = { λ _ e. e ≡ OutOfMemory };
 
     fn from(_error: AllocError) -> TraceError {
+        TraceError::OutOfMemory
+    }
+}
+
+impl<T: Drop> From<AllocFailed<T>> for TraceError {
+    ghost from_gives = { λ _ e. e ≡ OutOfMemory };
+
+    fn from(_error: AllocFailed<T>) -> TraceError {
         TraceError::OutOfMemory
     }
 }

@@ -7,7 +7,7 @@ use std::io;
 use std::io::{ErrorKind, Write};
 use std::test::Fail;
 
-const WRITE_THEN_READ: &[u8] = b"cycle,cmd,rank,group,bank,row,col
+pub const WRITE_THEN_READ: &[u8] = b"cycle,cmd,rank,group,bank,row,col
 0,ACT,0,0,0,0,
 4,WR,0,0,0,0,0
 15,RD,0,0,0,0,0

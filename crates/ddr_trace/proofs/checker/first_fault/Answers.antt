@@ -2,6 +2,7 @@
 use Rattle.std.proofs.Common.{◌≡◌, length, refl, arith}
 use Rattle.ddr_trace.specs.declared.rule.Rule.TheVariants as rule
 use Rattle.ddr_trace.proofs.FaultLemmas.{clean_more, first_at_entry, first_at_end, clean_all, not_clean}
+use Rattle.ddr_trace.proofs.BusLemmas.{bus_kept}
 use Rattle.ddr_trace.proofs.checker.first_fault.Goals as goal
 
 pub returns-in-Some-clause-fault : goal.returns-in-Some-clause-fault
@@ -29,3 +30,8 @@ pub returns-clause-none : goal.returns-clause-none
 returns-clause-none c =
     let all : c.loop-place.place ≡ length c.args.entries.now = omega arith in
     (λ _. clean_all c.args.config.now c.args.start c.args.end c.args.entries.now (rw all at c.loop-place.invariant) c.if-ends_late.ensures, λ _. refl)
+
+-- a trace with no fault is legal, so its bursts keep apart
+pub returns-clause-bus : goal.returns-clause-bus
+returns-clause-bus c =
+    bus_kept c.args.config.now c.args.start c.args.end c.args.entries.now ((returns-clause-none c).0 refl).0
