@@ -1,5 +1,5 @@
 -- Going over the lines of a script.
-use Rattle.std.proofs.Common.{◌≡◌, ℕ, ◌+◌, ◌<◌, ◌≤◌, Bool, true, false, cond, ◌==◌, List, [], ◌∷◌, length, get_or, drop, Option, Some, None, Result, Ok, Err, refl, sym, ap, ◌∙◌, arith}
+use Rattle.std.proofs.Common.{◌≡◌, ℕ, ◌+◌, ◌<◌, ◌≤◌, Bool, true, false, cond, ◌==◌, List, [], ◌∷◌, length, get_or, drop, Option, Some, None, Result, Ok, Err, sym, ap, ◌∙◌, arith}
 use Rattle.std.specs.List.{slice_split}
 use Rattle.std.specs.Str.Lines.{lines, lines_of_parts}
 use Rattle.std.proofs.lemmas.List.{at_drop_more, at_drop_all}

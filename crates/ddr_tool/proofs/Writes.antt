@@ -1,5 +1,5 @@
 -- The line of a write.
-use Rattle.std.proofs.Common.{◌≡◌, ℕ, ◌+◌, ◌-◌, ◌≤◌, List, ◌++◌, length, replicate, take, drop, ◌∙◌, ap₂, ap, refl, arith}
+use Rattle.std.proofs.Common.{◌≡◌, ℕ, ◌+◌, ◌-◌, ◌≤◌, List, ◌++◌, length, replicate, drop, ◌∙◌, ap₂, ap, arith}
 use Rattle.std.proofs.lemmas.List.{take-replicate, drop-replicate}
 use borrow.Rule.Slice.PartMut.{put_mid}
 

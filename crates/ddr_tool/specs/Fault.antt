@@ -2,6 +2,8 @@
 use Rattle.std.specs.Prelude.{ℕ}
 use Rattle.ddr_timing.specs.declared.error.ConfigError.{ConfigError}
 use Rattle.ddr_timing.specs.declared.error.ConfigError.TheVariants as refusals
+use Rattle.ddr_trace.specs.declared.text.TraceError.{TraceError}
+use Rattle.ddr_trace.specs.declared.text.TraceError.TheVariants as traces
 use Rattle.ddr_tool.specs.declared.fault.Fault.{Fault}
 use Rattle.ddr_tool.specs.declared.fault.Fault.TheVariants as faults
 
@@ -22,3 +24,14 @@ fault_of (refusals.Range key) = faults.ConfigRange key
 fault_of (refusals.NotPowerOfTwo key) = faults.ConfigNotPowerOfTwo key
 fault_of (refusals.Relation n) = faults.ConfigRelation n
 fault_of refusals.OutOfMemory = faults.OutOfMemory
+
+-- the fault that refuses a trace's text, or ends its writing
+abbrev pub trace_fault_of : TraceError → Fault
+trace_fault_of traces.Read = faults.Read
+trace_fault_of traces.Write = faults.Write
+trace_fault_of traces.Header = faults.TraceHeader
+trace_fault_of (traces.Row line) = faults.TraceRow line
+trace_fault_of (traces.Order line) = faults.TraceOrder line
+trace_fault_of traces.Truncated = faults.TraceTruncated
+trace_fault_of traces.TooLong = faults.TraceTooLong
+trace_fault_of traces.OutOfMemory = faults.OutOfMemory

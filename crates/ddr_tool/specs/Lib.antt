@@ -1,6 +1,11 @@
+pub mod Body
+pub mod Check
 pub mod Fault
+pub mod Job
 pub mod KeeperView
+pub mod MapText
 pub mod Progress
+pub mod Refusal
 pub mod Replies
 pub mod Requests
 pub mod Runs

@@ -1,18 +1,20 @@
 -- What a run writes.
-use Rattle.std.specs.Prelude.{◌≡◌, ℕ, Bool, true, false, List, length, map, Option, Some, None, Ok}
-use Rattle.std.specs.List.{range_with_len}
+use Rattle.std.specs.Prelude.{◌≡◌, ◌≢◌, ◌<◌, ℕ, Bool, true, false, nat_lt, List, [], length, map, Option, Some, None, Result, Ok, Err}
+use Rattle.std.specs.List.{AllByRecursion, range_with_len}
 use Rattle.std.specs.Io.KnownBytes.{Appends}
 use Rattle.std.specs.Str.{IsUtf8}
-use Rattle.toml.specs.Parse.{parse_document}
-use Rattle.ddr_timing.specs.Values.{IsReadAs}
 use Rattle.ddr_address_map.specs.Requests.{Request, Completion}
 use Rattle.ddr_timing.specs.declared.config.Config.{Config}
 use Rattle.ddr_trace.specs.declared.command.Entry.{Entry}
 use Rattle.ddr_trace.specs.Legality.{IsLegal}
 use Rattle.ddr_trace.specs.Text.{trace_text}
+use Rattle.ddr_channel.specs.History.{Call, run}
+use Rattle.ddr_channel.specs.Promise.{AreCalls}
 use Rattle.ddr_tool.specs.declared.fault.Fault.{Fault}
 use Rattle.ddr_tool.specs.declared.fault.Fault.TheVariants as faults
-use Rattle.ddr_tool.specs.Replies.{replies_text}
+use Rattle.ddr_tool.specs.declared.input.TheConstants.{LONGEST_INPUT}
+use Rattle.ddr_tool.specs.Body.{IsOpened, IsRefused, parts_of}
+use Rattle.ddr_tool.specs.Replies.{IsReplyTo, replies_text}
 use Rattle.ddr_tool.specs.Requests.{requests_of}
 
 -- the input is at fault, or was not read to its end
@@ -25,41 +27,92 @@ is_of_input (faults.ConfigNotPowerOfTwo key) = true
 is_of_input (faults.ConfigRelation n) = true
 is_of_input faults.InputTooLong = true
 is_of_input faults.InputNotUtf8 = true
+is_of_input faults.InputHasNoMark = true
+is_of_input (faults.MapLine line) = true
 is_of_input (faults.ScriptLine line) = true
+is_of_input faults.TraceHeader = true
+is_of_input (faults.TraceRow line) = true
+is_of_input (faults.TraceOrder line) = true
+is_of_input faults.TraceTruncated = true
+is_of_input faults.TraceTooLong = true
+is_of_input faults.TraceNoSuch = true
 is_of_input faults.Read = true
 is_of_input _ = false
 
--- known bytes grow by the replies with these numbers from the first on, one each, in order
-pub record AppendsReplies (old new : Option (List ℕ)) (first count : ℕ) : Type 0 where
+-- known bytes grow by the right replies to the requests of these numbers, from the first on, one each, in order
+pub record AppendsReplies (requests : List Request) (old new : Option (List ℕ)) (first count : ℕ) : Type 0 where
   pub replies : List Completion
+  pub right : AllByRecursion (IsReplyTo requests) replies
   pub numbers : map (λ d. d.number) replies ≡ range_with_len first count
   pub text : Appends old new (replies_text replies)
 
--- known bytes grow by the text of a legal trace, from cycle 0 on
-pub record AppendsTrace (config : Config) (old new : Option (List ℕ)) : Type 0 where
+-- the trace and the end of a channel that was opened at cycle 0, and whose calls admitted these requests
+pub record IsTraceOf (config : Config) (requests : List Request) (entries : List Entry) (end : ℕ) : Type 0 where
+  pub calls : List Call
+  pub are : AreCalls config calls
+  pub admitted : (run config 0 calls).accepted ≡ requests
+  pub trace : entries ≡ (run config 0 calls).state.trace
+  pub ends : end ≡ (run config 0 calls).state.now
+
+-- known bytes grow by the text of a channel's trace, which is legal, from cycle 0 on; for now the first channel
+-- alone is given the requests, so another one has no commands
+pub record AppendsTrace (config : Config) (requests : List Request) (channel : ℕ) (old new : Option (List ℕ)) : Type 0 where
   pub entries : List Entry
   pub end : ℕ
   pub legal : IsLegal config 0 end entries
+  pub first : channel ≡ 0 → IsTraceOf config requests entries end
+  pub idle : channel ≢ 0 → entries ≡ []
   pub text : Appends old new (trace_text entries end)
 
--- the replies to so many requests where no channel is named, and else the channel's trace
-abbrev pub AppendsRun : Option ℕ → Config → ℕ → Option (List ℕ) → Option (List ℕ) → Type 0
-AppendsRun None config count old new = AppendsReplies old new 0 count
-AppendsRun (Some channel) config count old new = AppendsTrace config old new
+-- the replies to the requests where no channel is named, and else the channel's trace
+abbrev pub AppendsRun : Option ℕ → Config → List Request → Option (List ℕ) → Option (List ℕ) → Type 0
+AppendsRun None config requests old new = AppendsReplies requests old new 0 (length requests)
+AppendsRun (Some channel) config requests old new = AppendsTrace config requests channel old new
 
--- the configuration is what this text says
-abbrev pub IsConfig : List ℕ → Config → Type 0
-IsConfig text config = IsReadAs (parse_document text) config
+-- what an input asks for: requests under its configuration, or the number of the script's first line at fault
+pub record Asks (sample : Bool) (profile input : List ℕ) (config : Config) (said : Result (List Request) ℕ) : Type 0 where
+  pub utf8 : IsUtf8 input
+  pub body : List ℕ
+  pub opened : IsOpened (parts_of sample profile input) config body
+  pub asked : requests_of config body ≡ said
 
--- the input is a script that asks for these requests
-pub record Asks (config : Config) (input : List ℕ) (requests : List Request) : Type 0 where
-  pub text : IsUtf8 input
-  pub said : requests_of config input ≡ Ok requests
+-- the channel that is named, if one is, is there
+abbrev pub has_channel : Config → Option ℕ → Bool
+has_channel config None = true
+has_channel config (Some channel) = nat_lt channel config.geometry.channels
 
 -- what a run without a fault writes
-pub record IsRun (sample : List ℕ) (trace : Option ℕ) (input : List ℕ) (old new : Option (List ℕ)) : Type 0 where
+pub record IsRun (sample : Bool) (profile : List ℕ) (trace : Option ℕ) (input : List ℕ) (old new : Option (List ℕ)) : Type 0 where
   pub config : Config
-  pub sampled : IsConfig sample config
+  pub there : has_channel config trace ≡ true
   pub requests : List Request
-  pub asks : Asks config input requests
-  pub written : AppendsRun trace config (length requests) old new
+  pub asks : Asks sample profile input config (Ok requests)
+  pub written : AppendsRun trace config requests old new
+
+-- a line of the script is at fault
+pub record AsksWrongly (sample : Bool) (profile : List ℕ) (trace : Option ℕ) (input : List ℕ) (line : ℕ) : Type 0 where
+  pub config : Config
+  pub there : has_channel config trace ≡ true
+  pub asks : Asks sample profile input config (Err line)
+
+-- the channel that is named is not there
+pub record NamesNoChannel (sample : Bool) (profile : List ℕ) (trace : Option ℕ) (input : List ℕ) : Type 0 where
+  pub utf8 : IsUtf8 input
+  pub config : Config
+  pub body : List ℕ
+  pub opened : IsOpened (parts_of sample profile input) config body
+  pub absent : has_channel config trace ≡ false
+
+-- the input has the fault that a run ends by; reading, writing, memory, the clock and too many rounds fail by
+-- themselves
+abbrev pub HasFault : Bool → List ℕ → Option ℕ → List ℕ → Fault → Type 0
+HasFault sample profile trace input faults.InputTooLong = LONGEST_INPUT < length input
+HasFault sample profile trace input faults.InputNotUtf8 = ¬ IsUtf8 input
+HasFault sample profile trace input faults.TraceNoSuch = NamesNoChannel sample profile trace input
+HasFault sample profile trace input (faults.ScriptLine line) = AsksWrongly sample profile trace input line
+HasFault sample profile trace input faults.ScriptLimit = Unit {0}
+HasFault sample profile trace input faults.Read = Unit {0}
+HasFault sample profile trace input faults.Write = Unit {0}
+HasFault sample profile trace input faults.OutOfMemory = Unit {0}
+HasFault sample profile trace input faults.ClockSpent = Unit {0}
+HasFault sample profile trace input fault = IsUtf8 input × IsRefused (parts_of sample profile input) fault

@@ -7,6 +7,7 @@ ghost use Rattle.ddr_tool.specs.Fault.{status_of};
 
 use ddr_timing::error::ConfigError;
 use ddr_timing::key::Key;
+use ddr_trace::text::TraceError;
 use std::alloc::{AllocError, AllocFailed};
 use thiserror::Error;
 
@@ -30,10 +31,34 @@ pub enum Fault {
     InputTooLong,
     #[error("input not UTF-8")]
     InputNotUtf8,
+    /// No line of the input is `---`, which ends the configuration.
+    #[error("input has no ---")]
+    InputHasNoMark,
     /// A line of the script is of no form that is read, or asks for what is not served. Lines count from 1,
     /// skipped ones too.
     #[error("script line {line}")]
     ScriptLine { line: u64 },
+    /// A line of addresses is none. Lines count from 1, behind the line `---`, skipped ones too.
+    #[error("map line {line}")]
+    MapLine { line: u64 },
+    /// The trace's first record is not the header.
+    #[error("trace Header")]
+    TraceHeader,
+    /// A record of the trace is none of a trace. Lines count records from 1, the header being 1.
+    #[error("trace Row {line}")]
+    TraceRow { line: u64 },
+    /// A record stands behind END.
+    #[error("trace Order {line}")]
+    TraceOrder { line: u64 },
+    /// The trace has no END.
+    #[error("trace Truncated")]
+    TraceTruncated,
+    /// The trace has more than 65,536 commands.
+    #[error("trace TooLong")]
+    TraceTooLong,
+    /// A trace is asked for of a channel that is not there.
+    #[error("trace NoSuch")]
+    TraceNoSuch,
     /// The script needs more rounds than are made.
     #[error("script limit")]
     ScriptLimit,
@@ -63,7 +88,15 @@ impl Fault {
             | Fault::ConfigRelation { .. }
             | Fault::InputTooLong
             | Fault::InputNotUtf8
+            | Fault::InputHasNoMark
+            | Fault::MapLine { .. }
             | Fault::ScriptLine { .. }
+            | Fault::TraceHeader
+            | Fault::TraceRow { .. }
+            | Fault::TraceOrder { .. }
+            | Fault::TraceTruncated
+            | Fault::TraceTooLong
+            | Fault::TraceNoSuch
             | Fault::ScriptLimit => 2,
             Fault::Read | Fault::Write | Fault::OutOfMemory | Fault::ClockSpent => 3,
         }
@@ -84,6 +117,25 @@ impl From<ConfigError> for Fault {
             ConfigError::NotPowerOfTwo { key } => Fault::ConfigNotPowerOfTwo { key },
             ConfigError::Relation { n } => Fault::ConfigRelation { n },
             ConfigError::OutOfMemory => Fault::OutOfMemory,
+        }
+    }
+}
+
+impl From<TraceError> for Fault {
+    ghost use Rattle.ddr_tool.specs.Fault.{trace_fault_of};
+
+    ghost from_gives = { λ refusal fault. fault ≡ trace_fault_of refusal };
+
+    fn from(refusal: TraceError) -> Fault {
+        match refusal {
+            TraceError::Read => Fault::Read,
+            TraceError::Write => Fault::Write,
+            TraceError::Header => Fault::TraceHeader,
+            TraceError::Row { line } => Fault::TraceRow { line },
+            TraceError::Order { line } => Fault::TraceOrder { line },
+            TraceError::Truncated => Fault::TraceTruncated,
+            TraceError::TooLong => Fault::TraceTooLong,
+            TraceError::OutOfMemory => Fault::OutOfMemory,
         }
     }
 }

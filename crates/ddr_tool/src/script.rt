@@ -143,7 +143,7 @@ fn parse_write(alloc: Global, port: &str, addr: &str, hex: &str) -> Result<Line,
 }
 
 /// The number that a field spells: 1 to 20 decimal digits, below 2^64.
-fn number(field: &str) -> Result<u64, LineError>
+pub(crate) fn number(field: &str) -> Result<u64, LineError>
     ensures { Gives (λ n. n) result (number_of field.now) }
 {
     if field.len() > MOST_DIGITS || !is_digits(field) {

@@ -1,16 +1,20 @@
 //! A run of a script: bytes in, replies or a trace out.
 //!
 //! Every other module of the program stands below, and `main` above.
-ghost use Rattle.std.specs.Prelude.{◌≡◌, ◌+◌, ◌-◌, ◌≤◌, ◌⊎◌, false, IsTrue, IfErr, IfOk, IfSome, None, OnOk, Some};
+ghost use Rattle.std.specs.Prelude.{◌≡◌, ◌≢◌, ◌+◌, ◌-◌, ◌≤◌, ◌↔◌, ◌==◌, if◌then◌else◌, [], List, false, IsTrue, IfErr, IfOk, IfSome, IsErrOf, None, OnOk, position};
 ghost use Rattle.std.specs.Io.KnownBytes.{Appends};
-ghost use Rattle.ddr_tool.specs.Progress.{IsSameRun};
-ghost use Rattle.ddr_tool.specs.Runs.{AppendsReplies, AppendsTrace, IsConfig, IsRun, is_of_input};
+ghost use Rattle.ddr_trace.specs.Text.{trace_text};
+ghost use Rattle.ddr_address_map.specs.Requests.{Request};
+ghost use Rattle.ddr_tool.specs.Progress.{IsSameRun, Serves};
+ghost use Rattle.ddr_tool.specs.Runs.{AppendsReplies, AppendsTrace, HasFault, IsRun, has_channel, is_of_input};
 
+use crate::body::open;
 use crate::fault::Fault;
 use crate::input::{read_input, text_of};
 use crate::keeper::Keeper;
 use crate::reply::reply_text;
 use crate::request::requests_of;
+use crate::writing::write_text;
 use ddr_timing::config::Config;
 use ddr_timing::profile::PROFILE_S;
 use ddr_trace::text::{TraceError, write_trace};
@@ -20,12 +24,16 @@ use std::io::{Read, Write};
 /// The most rounds that a run makes, this project's choice.
 const MOST_ROUNDS: u32 = 10_000_000;
 
-/// Reads a script and runs it on the sample configuration, of which `sample` says that it is meant.
+/// Reads a script and runs it.
 ///
-/// The whole script is read before its first request is made. Where `trace` is none, the replies are written,
-/// each as a line, in the order of the requests; where it names a channel, only the trace of that channel is, at
-/// the end. At a fault of the input, or of reading it, nothing is written; at a later one what was written before
-/// stands.
+/// With `sample` the whole input is the script, on the sample configuration; else the input is a configuration, a
+/// line `---` and the script, which is read whole before its first request is made. Where `trace` is none, the
+/// replies are written, each as a line, in the order of the requests; where it names a channel, only the trace of
+/// that channel is, at the end.
+///
+/// Fails as `open` does, then as `TraceNoSuch` where there is no such channel, then as `ScriptLine` at the first
+/// line of the script that is at fault. At a fault of the input, or of reading it, nothing is written; at a later
+/// one what was written before stands.
 pub fn sim<R: Read, W: Write>(
     alloc: Global,
     sample: bool,
@@ -33,36 +41,41 @@ pub fn sim<R: Read, W: Write>(
     reader: &mut R,
     writer: &mut W,
 ) -> Result<(), Fault>
-    requires sampled { IsTrue sample }
-    requires first_channel { (trace ≡ None) ⊎ (trace ≡ Some 0) }
     ensures untouched { IfErr result (λ fault. IsTrue (is_of_input fault) → writer.new ≡ writer.old) }
+    ensures fault { IfErr result (λ fault. IfSome (R.remaining reader.old) (λ input.
+        HasFault sample PROFILE_S.now trace input fault)) }
     ensures written { OnOk result (IfSome (R.remaining reader.old) (λ input.
-        IsRun PROFILE_S.now trace input (W.contents writer.old) (W.contents writer.new))) }
+        IsRun sample PROFILE_S.now trace input (W.contents writer.old) (W.contents writer.new))) }
 {
-    prove!(sample);
     let input = read_input(alloc, reader)?;
     let text = text_of(input.as_slice())?;
-    let config = sample_config(alloc)?;
-    let requests = requests_of(alloc, &config, text)?;
+    let (config, body) = open(alloc, sample, text)?;
+    if !has_channel(&config, trace) {
+        return Err(Fault::TraceNoSuch);
+    }
+    let requests = requests_of(alloc, &config, body)?;
     let mut keeper = Keeper::open(alloc, &config, requests)?;
     match trace {
         None => write_replies(alloc, &mut keeper, writer),
-        Some(_) => write_channel(alloc, &mut keeper, writer),
+        Some(channel) => write_channel(alloc, &mut keeper, channel, writer),
     }
 }
 
-/// The sample configuration.
-fn sample_config(alloc: Global) -> Result<Config, Fault>
-    ensures { IfOk result (λ config. IsConfig PROFILE_S.now config) }
+/// Whether the channel that is named, if one is, is there.
+fn has_channel(config: &Config, trace: Option<u32>) -> bool
+    ensures { result ≡ has_channel config.now trace }
 {
-    Ok(Config::read(alloc, PROFILE_S)?)
+    match trace {
+        Some(channel) => channel < config.geometry.channels,
+        None => true,
+    }
 }
 
 /// Makes rounds until every reply came, and writes the replies as they come.
-#[tactic(auto, using(crate::proofs::Output::no_replies, crate::proofs::Output::next_replies_appended, crate::proofs::Output::replies_kept))]
 fn write_replies<W: Write>(alloc: Global, keeper: &mut Keeper, writer: &mut W) -> Result<(), Fault>
     requires { keeper.old.given ≡ 0 }
-    ensures written { OnOk result (AppendsReplies (W.contents writer.old) (W.contents writer.new) 0 keeper.old.count) }
+    ensures written { OnOk result ((requests : List Request) → Serves keeper.old requests
+        → AppendsReplies requests (W.contents writer.old) (W.contents writer.new) 0 keeper.old.count) }
     ensures late { IfErr result (λ fault. is_of_input fault ≡ false) }
 {
     let mut rounds = 0;
@@ -77,10 +90,12 @@ fn write_replies<W: Write>(alloc: Global, keeper: &mut Keeper, writer: &mut W) -
 }
 
 /// Writes the replies that come next, as far as they are there.
-#[tactic(auto, using(crate::proofs::Output::no_replies, crate::proofs::Output::next_reply_appended))]
 fn write_ready<W: Write>(alloc: Global, keeper: &mut Keeper, writer: &mut W) -> Result<(), Fault>
-    ensures written { OnOk result (AppendsReplies (W.contents writer.old) (W.contents writer.new) keeper.old.given (keeper.new.given - keeper.old.given)) }
+    ensures written { OnOk result ((requests : List Request) → Serves keeper.old requests
+        → AppendsReplies requests (W.contents writer.old) (W.contents writer.new) keeper.old.given (keeper.new.given - keeper.old.given)) }
+    ensures serves { OnOk result ((requests : List Request) → Serves keeper.old requests → Serves keeper.new requests) }
     ensures given { keeper.old.given ≤ keeper.new.given }
+    ensures all { OnOk result (keeper.new.given ≢ keeper.new.count → position (λ d. d.number == keeper.new.given) keeper.new.held ≡ None) }
     ensures kept { IsSameRun keeper.old keeper.new }
     ensures late { IfErr result (λ fault. is_of_input fault ≡ false) }
 {
@@ -91,11 +106,19 @@ fn write_ready<W: Write>(alloc: Global, keeper: &mut Keeper, writer: &mut W) -> 
     Ok(())
 }
 
-/// Makes rounds until every reply came, and writes the channel's trace.
-#[tactic(auto, using(crate::proofs::Output::trace_appended))]
-fn write_channel<W: Write>(alloc: Global, keeper: &mut Keeper, writer: &mut W) -> Result<(), Fault>
+/// Makes rounds until every reply came, and writes the trace of a channel. Only the first one has commands.
+fn write_channel<W: Write>(
+    alloc: Global,
+    keeper: &mut Keeper,
+    channel: u32,
+    writer: &mut W,
+) -> Result<(), Fault>
     requires { keeper.old.channel.start ≡ 0 }
-    ensures written { OnOk result (AppendsTrace keeper.old.channel.config (W.contents writer.old) (W.contents writer.new)) }
+    ensures written { OnOk result ((requests : List Request) → Serves keeper.old requests
+        → AppendsTrace keeper.old.channel.config requests channel (W.contents writer.old) (W.contents writer.new)) }
+    ensures text { OnOk result (Appends (W.contents writer.old) (W.contents writer.new)
+        (trace_text (if channel == 0 then keeper.new.channel.trace else []) keeper.new.channel.now)) }
+    ensures done { OnOk result (keeper.new.given ≡ keeper.old.count) }
     ensures late { IfErr result (λ fault. is_of_input fault ≡ false) }
 {
     let mut rounds = 0;
@@ -103,7 +126,12 @@ fn write_channel<W: Write>(alloc: Global, keeper: &mut Keeper, writer: &mut W) -
         rounds = round(keeper, rounds)?;
         while keeper.next_reply().is_some() {}
     }
-    match write_trace(alloc, keeper.trace(), keeper.now(), writer) {
+    let written = if channel == 0 {
+        write_trace(alloc, keeper.trace(), keeper.now(), writer)
+    } else {
+        write_trace(alloc, &[], keeper.now(), writer)
+    };
+    match written {
         Ok(()) => Ok(()),
         Err(TraceError::OutOfMemory) => Err(Fault::OutOfMemory),
         Err(_) => Err(Fault::Write),
@@ -116,6 +144,9 @@ fn round(keeper: &mut Keeper, rounds: u32) -> Result<u32, Fault>
     ensures counted { IfOk result (λ made. (made ≡ rounds + 1) × (made ≤ MOST_ROUNDS)) }
     ensures kept { IsSameRun keeper.old keeper.new }
     ensures given { keeper.new.given ≡ keeper.old.given }
+    ensures serves { OnOk result ((requests : List Request) → Serves keeper.old requests → Serves keeper.new requests) }
+    ensures clock { OnOk result (keeper.new.channel.now ≡ keeper.old.channel.now + 1) }
+    ensures limit { IsErrOf result Fault.ScriptLimit ↔ (rounds ≡ MOST_ROUNDS) }
     ensures late { IfErr result (λ fault. is_of_input fault ≡ false) }
 {
     if rounds == MOST_ROUNDS {
@@ -123,14 +154,4 @@ fn round(keeper: &mut Keeper, rounds: u32) -> Result<u32, Fault>
     }
     keeper.round()?;
     Ok(rounds + 1)
-}
-
-fn write_text<W: Write>(writer: &mut W, text: &str) -> Result<(), Fault>
-    ensures written { OnOk result (Appends (W.contents writer.old) (W.contents writer.new) text.now) }
-    ensures refused { IfErr result (λ fault. fault ≡ Fault.Write) }
-{
-    match writer.write_all(text.as_bytes()) {
-        Ok(()) => Ok(()),
-        Err(_) => Err(Fault::Write),
-    }
 }

@@ -1,9 +1,13 @@
 //! Whole runs of scripts, their faults, and readers and writers that fail.
-ghost use Rattle.std.specs.Prelude.{◌≡◌, ◌⊎◌, None, Some};
-
+mod body;
+mod check;
+mod configurations;
 mod devices;
 mod faults;
+mod job;
+mod map;
 mod rows;
+mod texts;
 
 use crate::fault::Fault;
 use crate::sim::sim;
@@ -24,9 +28,7 @@ const TRACE: &str = "cycle,cmd,rank,group,bank,row,col
 ";
 
 /// The bytes that a run of a script writes, and how it ends.
-fn run(alloc: Global, trace: Option<u32>, script: &[u8]) -> (Vec<u8>, Result<(), Fault>)
-    requires { (trace ≡ None) ⊎ (trace ≡ Some 0) }
-{
+fn run(alloc: Global, trace: Option<u32>, script: &[u8]) -> (Vec<u8>, Result<(), Fault>) {
     let mut reader = script;
     let mut bytes = Vec::new(alloc);
     let end = sim(alloc, true, trace, &mut reader, &mut bytes);
@@ -34,9 +36,7 @@ fn run(alloc: Global, trace: Option<u32>, script: &[u8]) -> (Vec<u8>, Result<(),
 }
 
 /// What a script without a fault writes.
-fn written(alloc: Global, trace: Option<u32>, script: &str) -> Result<String, Fail>
-    requires { (trace ≡ None) ⊎ (trace ≡ Some 0) }
-{
+fn written(alloc: Global, trace: Option<u32>, script: &str) -> Result<String, Fail> {
     let (bytes, end) = run(alloc, trace, script.as_bytes());
     end?;
     Ok(String::from_utf8(bytes)?)

@@ -1,6 +1,8 @@
 //! Readers and writers over memory: one that never ends, and ones that fail at a call.
 use super::{REPLIES, TRACE, WRITE_THEN_READ};
+use crate::check::check;
 use crate::fault::Fault;
+use crate::map::map;
 use crate::sim::sim;
 use std::io;
 use std::io::{ErrorKind, Read, Write};
@@ -163,4 +165,76 @@ fn each_write_fails(rt: HostRuntime) -> Result<(), Fail> {
         }
     }
     Ok(())
+}
+
+#[test]
+fn each_read_and_write_of_a_map_fails(rt: HostRuntime) {
+    const ADDRESSES: &[u8] = b"0\n64\n262144\n";
+    const PLACES: &[u8] = b"0 0 0 0 0 0 0\n64 0 0 0 0 8 0\n262144 out\n";
+    // 12 bytes are read in 2 calls, and their end by one more.
+    for calls in 0..5 {
+        let mut reader = Failing {
+            text: ADDRESSES,
+            calls,
+            kind: ErrorKind::Other,
+        };
+        let mut written = Vec::new(rt.alloc());
+        let end = map(rt.alloc(), true, &mut reader, &mut written);
+        let (wanted, text) = if calls < 3 {
+            (Err(Fault::Read), b"".as_slice())
+        } else {
+            (Ok(()), PLACES)
+        };
+        assert_eq!(rt; end, wanted, "{calls} calls");
+        assert_eq!(rt; written.as_slice(), text, "{calls} calls");
+    }
+    // 40 bytes are written in 8 calls, and flushed by one more.
+    for calls in 0..11 {
+        let mut reader = ADDRESSES;
+        let mut writer = Full {
+            text: Vec::new(rt.alloc()),
+            calls,
+        };
+        let end = map(rt.alloc(), true, &mut reader, &mut writer);
+        let wanted = if calls < 9 { Err(Fault::Write) } else { Ok(()) };
+        assert_eq!(rt; end, wanted, "{calls} calls");
+        assert!(rt; PLACES.starts_with(writer.text.as_slice()), "{calls} calls");
+    }
+}
+
+#[test]
+fn each_read_and_write_of_a_check_fails(rt: HostRuntime) {
+    // 92 bytes are read in 12 calls, and their end by one more.
+    for calls in 0..16 {
+        let mut reader = Failing {
+            text: TRACE.as_bytes(),
+            calls,
+            kind: ErrorKind::Other,
+        };
+        let mut written = Vec::new(rt.alloc());
+        let end = check(rt.alloc(), true, &mut reader, &mut written);
+        let wanted = if calls < 13 {
+            Err(Fault::Read)
+        } else {
+            Ok(true)
+        };
+        assert_eq!(rt; end, wanted, "{calls} calls");
+        assert_eq!(rt; written.is_empty(), end.is_err(), "{calls} calls");
+    }
+    // 6 bytes are written in 2 calls, and flushed by one more.
+    for calls in 0..5 {
+        let mut reader = TRACE.as_bytes();
+        let mut writer = Full {
+            text: Vec::new(rt.alloc()),
+            calls,
+        };
+        let end = check(rt.alloc(), true, &mut reader, &mut writer);
+        let wanted = if calls < 3 {
+            Err(Fault::Write)
+        } else {
+            Ok(true)
+        };
+        assert_eq!(rt; end, wanted, "{calls} calls");
+        assert!(rt; b"legal\n".starts_with(writer.text.as_slice()));
+    }
 }

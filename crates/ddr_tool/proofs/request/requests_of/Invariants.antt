@@ -1,7 +1,7 @@
 use Rattle.std.proofs.Common.{◌≡◌, [], length, drop}
 use Rattle.std.specs.Str.Lines.{lines}
 use Rattle.ddr_tool.specs.Progress.{AreServed}
-use Rattle.ddr_tool.specs.Requests.{requests_from, requests_of}
+use Rattle.ddr_tool.specs.Requests.{requests_from}
 use Rattle.ddr_tool.proofs.request.requests_of.Given as goal
 
 abbrev pub invariant-loop-written : goal.invariant-loop-written

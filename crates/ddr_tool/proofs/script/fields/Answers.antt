@@ -1,4 +1,4 @@
-use Rattle.std.proofs.Common.{◌<◌, length, ltb, rules, lit<}
+use Rattle.std.proofs.Common.{length, ltb, rules, lit<}
 use Rattle.std.proofs.lemmas.Iterator.Consumers.{YieldsList-at, YieldsList-from_filter, map_from_collect}
 use Rattle.std.proofs.lemmas.Iterator.Splits.{YieldsList-from_str_split}
 use Rattle.ddr_tool.proofs.script.fields.Goals as goal

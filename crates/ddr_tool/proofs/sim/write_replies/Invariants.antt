@@ -1,5 +1,6 @@
-use Rattle.std.proofs.Common.{◌≡◌, ◌-◌, ◌≤◌}
-use Rattle.ddr_tool.specs.Progress.{IsSameRun}
+use Rattle.std.proofs.Common.{◌-◌, ◌≤◌, List}
+use Rattle.ddr_address_map.specs.Requests.{Request}
+use Rattle.ddr_tool.specs.Progress.{IsSameRun, Serves}
 use Rattle.ddr_tool.specs.Runs.{AppendsReplies}
 use Rattle.ddr_tool.proofs.sim.write_replies.Given as goal
 
@@ -7,7 +8,8 @@ abbrev pub invariant-rounds : goal.invariant-rounds
 invariant-rounds g l =
     let contents = g.W.Write.contents in
     record {
-      written : AppendsReplies (contents l.fn.writer) (contents l.writer) 0 l.keeper.given;
+      serves : (requests : List Request) → Serves l.fn.keeper requests → Serves l.keeper requests;
+      written : (requests : List Request) → Serves l.fn.keeper requests → AppendsReplies requests (contents l.fn.writer) (contents l.writer) 0 l.keeper.given;
       counted : l.rounds ≤ 10000000;
       kept : IsSameRun l.fn.keeper l.keeper;
     }

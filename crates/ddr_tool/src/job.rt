@@ -1,0 +1,113 @@
+//! What the command line asks for.
+//!
+//! `clap` stands below, and `main` above.
+ghost use Rattle.std.specs.Prelude.{◌≡◌, ◌≤◌, IfOk, IsTrue, None, Ok, false, length, map, true};
+ghost use Rattle.clap.specs.Words.{app_of, found_of, rows_of};
+ghost use Rattle.clap.specs.declared.Command.TheViews.{out-Command as fields_of};
+ghost use Rattle.ddr_tool.specs.Job.{Answers, AreTaken, ddr_app, is_sample, is_subcommand, job_of, job_with, trace_of, with_sample};
+
+use clap::{Arg, ArgAction, ArgMatches, Command, Error, value_parser};
+use std::alloc::{AllocError, Global};
+
+/// What the program is to do. Where `sample` is true, its configuration is the sample, and else the input has it.
+#[derive(Clone, Copy, Debug, PartialEq, Eq)]
+pub enum Job {
+    /// Runs a script. Where `trace` names a channel, the trace of that channel is written in place of the replies.
+    Sim { sample: bool, trace: Option<u32> },
+    /// Checks a trace.
+    Check { sample: bool },
+    /// Says where addresses lie.
+    Map { sample: bool },
+}
+
+/// The job that the words of a command line state, of which the first is the program's name.
+///
+/// The subcommands are `sim`, `check` and `map`. Each has the flag `--sample`, and `sim` the option `--trace C` with
+/// the number of a channel, a `u32`. No words, or the name alone, are read as `sim --sample`.
+///
+/// Fails with an error of `clap`, whose `Display` is the text for the user, where the words are of another form,
+/// where they ask for help, and where memory runs out.
+pub fn job_of(alloc: Global, words: &[&str]) -> Result<Job, Error>
+    ensures said { Answers result (job_of (map (λ word. word.now) words.now)) }
+    ensures alone { length words.now ≤ 1 → result ≡ Ok (Job.Sim true None) }
+{
+    if words.len() <= 1 {
+        return Ok(Job::Sim {
+            sample: true,
+            trace: None,
+        });
+    }
+    let matches = command(alloc)?.try_get_matches_from(words)?;
+    let Some((name, options)) = matches.subcommand() else {
+        unreachable!()
+    };
+    Ok(job_with(name, options))
+}
+
+/// The job of a subcommand with these options.
+fn job_with(name: &str, options: &ArgMatches<'_>) -> Job
+    requires named { IsTrue (is_subcommand name.now) }
+    requires taken { AreTaken (rows_of (found_of options.now)) }
+    ensures { result ≡ job_with name.now (rows_of (found_of options.now)) }
+{
+    let sample = is_sample(options);
+    match name {
+        "sim" => Job::Sim {
+            sample,
+            trace: trace_of(options),
+        },
+        "check" => Job::Check { sample },
+        "map" => Job::Map { sample },
+        _ => unreachable!(),
+    }
+}
+
+/// Whether the flag `--sample` was used.
+fn is_sample(options: &ArgMatches<'_>) -> bool
+    requires { AreTaken (rows_of (found_of options.now)) }
+    ensures { result ≡ is_sample (rows_of (found_of options.now)) }
+{
+    options.get_flag("sample")
+}
+
+/// The channel of the option `--trace`, if that was used.
+fn trace_of(options: &ArgMatches<'_>) -> Option<u32>
+    requires { AreTaken (rows_of (found_of options.now)) }
+    ensures { result ≡ trace_of (rows_of (found_of options.now)) }
+{
+    options.get_one::<u32>("trace")
+}
+
+/// The command line as `clap` reads it. It has no subcommand `help`: help is asked for by `--help`.
+fn command<'a>(alloc: Global) -> Result<Command<'a>, AllocError>
+    ensures app { IfOk result (λ command. app_of command ≡ ddr_app) }
+    ensures local { IfOk result (λ command. (fields_of command).has_globals ≡ false) }
+{
+    let trace = Arg::new(alloc, "trace")
+        .long("trace")
+        .value_name("CHANNEL")
+        .value_parser(value_parser!(u32))
+        .help("Writes the trace of this channel in place of the replies");
+    let sim = subcommand(alloc, "sim", "Runs a script of reads and writes")?.arg(trace)?;
+    let check = subcommand(alloc, "check", "Checks a trace of commands")?;
+    let map = subcommand(alloc, "map", "Says where addresses lie")?;
+    Command::new(alloc, "ddr")
+        .about("A model of a DDR4 memory controller")
+        .subcommand_required(true)
+        .disable_help_subcommand(true)
+        .subcommand(sim)?
+        .subcommand(check)?
+        .subcommand(map)
+}
+
+/// A subcommand with the flag `--sample`.
+fn subcommand<'a>(alloc: Global, name: &'a str, about: &'a str) -> Result<Command<'a>, AllocError>
+    ensures app { IfOk result (λ command. app_of command ≡ with_sample name.entry.now) }
+    ensures local { IfOk result (λ command. (fields_of command).has_globals ≡ false) }
+{
+    let sample = Arg::new(alloc, "sample")
+        .long("sample")
+        .action(ArgAction::SetTrue)
+        .help("Takes the sample configuration, and the whole input as the body");
+    Command::new(alloc, name).about(about).arg(sample)
+}

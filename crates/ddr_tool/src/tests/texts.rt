@@ -1,0 +1,99 @@
+//! The texts of the faults, and the statuses that they end the program with.
+use crate::fault::Fault;
+use ddr_timing::key::Key;
+use std::alloc::Global;
+use std::process::Abort;
+use std::test::Fail;
+
+/// That a fault has this text and this status.
+fn is_told(
+    rt: &impl Abort,
+    alloc: Global,
+    fault: Fault,
+    text: &str,
+    status: u8,
+) -> Result<(), Fail> {
+    let written = format!(in alloc; "{fault}")?;
+    assert_eq!(rt; written.as_str(), text);
+    assert_eq!(rt; fault.status(), status, "{text}");
+    Ok(())
+}
+
+#[test]
+fn faults_of_the_configuration(rt: HostRuntime) -> Result<(), Fail> {
+    let alloc = rt.alloc();
+    let key = Key::Rows;
+    is_told(&rt, alloc, Fault::ConfigSyntax, "config Syntax", 2)?;
+    is_told(
+        &rt,
+        alloc,
+        Fault::ConfigMissing { key },
+        "config Missing rows",
+        2,
+    )?;
+    is_told(&rt, alloc, Fault::ConfigUnknownKey, "config UnknownKey", 2)?;
+    is_told(
+        &rt,
+        alloc,
+        Fault::ConfigRange { key },
+        "config Range rows",
+        2,
+    )?;
+    is_told(
+        &rt,
+        alloc,
+        Fault::ConfigNotPowerOfTwo { key },
+        "config NotPowerOfTwo rows",
+        2,
+    )?;
+    is_told(
+        &rt,
+        alloc,
+        Fault::ConfigRelation { n: 7 },
+        "config Relation 7",
+        2,
+    )
+}
+
+#[test]
+fn faults_of_the_input(rt: HostRuntime) -> Result<(), Fail> {
+    let alloc = rt.alloc();
+    is_told(&rt, alloc, Fault::InputTooLong, "input too long", 2)?;
+    is_told(&rt, alloc, Fault::InputNotUtf8, "input not UTF-8", 2)?;
+    is_told(&rt, alloc, Fault::InputHasNoMark, "input has no ---", 2)?;
+    is_told(
+        &rt,
+        alloc,
+        Fault::ScriptLine { line: 12 },
+        "script line 12",
+        2,
+    )?;
+    is_told(&rt, alloc, Fault::ScriptLimit, "script limit", 2)?;
+    is_told(&rt, alloc, Fault::MapLine { line: 12 }, "map line 12", 2)
+}
+
+#[test]
+fn faults_of_a_trace(rt: HostRuntime) -> Result<(), Fail> {
+    let alloc = rt.alloc();
+    is_told(&rt, alloc, Fault::TraceHeader, "trace Header", 2)?;
+    is_told(&rt, alloc, Fault::TraceRow { line: 12 }, "trace Row 12", 2)?;
+    is_told(
+        &rt,
+        alloc,
+        Fault::TraceOrder { line: 12 },
+        "trace Order 12",
+        2,
+    )?;
+    is_told(&rt, alloc, Fault::TraceTruncated, "trace Truncated", 2)?;
+    is_told(&rt, alloc, Fault::TraceTooLong, "trace TooLong", 2)?;
+    is_told(&rt, alloc, Fault::TraceNoSuch, "trace NoSuch", 2)
+}
+
+#[test]
+fn faults_of_the_device(rt: HostRuntime) -> Result<(), Fail> {
+    let alloc = rt.alloc();
+    is_told(&rt, alloc, Fault::Read, "read failed", 3)?;
+    is_told(&rt, alloc, Fault::Write, "write failed", 3)?;
+    is_told(&rt, alloc, Fault::OutOfMemory, "out of memory", 3)?;
+    is_told(&rt, alloc, Fault::ClockSpent, "clock spent", 3)
+}
