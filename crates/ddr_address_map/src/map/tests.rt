@@ -57,7 +57,7 @@ fn maps_the_addresses_of_profile_s(rt: HostRuntime) -> Result<(), Fail> {
     Ok(())
 }
 
-// Row 13 is 1 mod 4, so bank digit 0 is bank 1, and bank digit 3 is bank 2.
+// The row is the one numbered 13, which is 1 mod 4, so bank digit 0 is bank 1, and bank digit 3 is bank 2.
 #[test]
 fn swaps_the_banks_by_the_row(rt: HostRuntime) -> Result<(), Fail> {
     let map = map_with(rt.alloc(), &[("bank_xor", "bank_xor = true")])?;
@@ -86,8 +86,8 @@ fn refuses_places_out_of_range(rt: HostRuntime) -> Result<(), Fail> {
     Ok(())
 }
 
-// The place is channel 1, group 2, bank 3, row 5, line 6 and offset 7. By the order "channel group bank
-// column row" the weights are 64 for the channel, 128, 512, 2048 and 16384; by "row column bank group
+// The place has the numbers 1 for its channel, 2 for its group, 3 for its bank, 5 for its row, 6 for its line
+// and 7 for its offset. By the order "channel group bank column row" the weights are 64 for the channel, 128, 512, 2048 and 16384; by "row column bank group
 // channel" 64 for the row, 1024, 8192, 32768 and 131072; by "bank row channel column group" 64 for the
 // bank, 256, 4096, 8192 and 65536.
 #[test]
