@@ -143,33 +143,27 @@ fn another_configuration(rt: HostRuntime) -> Result<(), Fail> {
 }
 
 #[test]
-fn faults(rt: HostRuntime) -> Result<(), Fail> {
+fn faults(rt: HostRuntime) {
     let alloc = rt.alloc();
-    for (records, fault, text) in [
-        ("", Fault::TraceHeader, "trace Header"),
-        ("cycle,cmd\n", Fault::TraceHeader, "trace Header"),
-        (HEADER, Fault::TraceTruncated, "trace Truncated"),
+    for (records, fault) in [
+        ("", Fault::TraceHeader),
+        ("cycle,cmd\n", Fault::TraceHeader),
+        (HEADER, Fault::TraceTruncated),
         (
             "cycle,cmd,rank,group,bank,row,col\n0,NOP,0,,,,\n",
             Fault::TraceRow { line: 2 },
-            "trace Row 2",
         ),
         (
             "cycle,cmd,rank,group,bank,row,col\n5,END,,,,,\n5,END,,,,,\n",
             Fault::TraceOrder { line: 3 },
-            "trace Order 3",
         ),
     ] {
         assert_eq!(rt;
             run(alloc, true, records.as_bytes()),
             (Vec::new(alloc), Err(fault)),
-            "{text}"
+            "{records}"
         );
-        let written = format!(in alloc; "{fault}")?;
-        assert_eq!(rt; written.as_str(), text);
-        assert_eq!(rt; fault.status(), 2, "{text}");
     }
-    Ok(())
 }
 
 #[test]
@@ -181,8 +175,6 @@ fn a_command_too_many(rt: HostRuntime) -> Result<(), Fail> {
     let (bytes, end) = run(rt.alloc(), true, text.as_bytes());
     assert_eq!(rt; end, Err(Fault::TraceTooLong));
     assert!(rt; bytes.is_empty());
-    let written = format!(in rt.alloc(); "{}", Fault::TraceTooLong)?;
-    assert_eq!(rt; written.as_str(), "trace TooLong");
     Ok(())
 }
 

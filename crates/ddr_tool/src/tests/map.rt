@@ -53,7 +53,7 @@ fn another_configuration(rt: HostRuntime) -> Result<(), Fail> {
     let alloc = rt.alloc();
     let mixed = PROFILE_S.replace(alloc, "bank_xor = false", "bank_xor = true")?;
     let text = format!(in alloc; "{mixed}---\n106496\n")?;
-    // Row 13 is 1 mod 4, so bank 0 becomes 1.
+    // The row is the one numbered 13, which is 1 mod 4, so bank 0 becomes 1.
     assert_eq!(rt;
         written(alloc, false, text.as_str())?.as_str(),
         "106496 0 0 1 13 0 0\n"

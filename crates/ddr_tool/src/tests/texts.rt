@@ -1,7 +1,9 @@
 //! The texts of the faults, and the statuses that they end the program with.
 use crate::fault::Fault;
+use crate::job::job_of;
+use crate::refusal::Refusal;
 use ddr_timing::key::Key;
-use std::alloc::Global;
+use std::alloc::{AllocError, Global};
 use std::process::Abort;
 use std::test::Fail;
 
@@ -17,6 +19,18 @@ fn is_told(
     assert_eq!(rt; written.as_str(), text);
     assert_eq!(rt; fault.status(), status, "{text}");
     Ok(())
+}
+
+/// That a fault of an input's line has this text, with the line's number behind it.
+fn is_told_of_line(
+    rt: &impl Abort,
+    alloc: Global,
+    fault: Fault,
+    text: &str,
+    line: u64,
+) -> Result<(), Fail> {
+    let whole = format!(in alloc; "{text} {line}")?;
+    is_told(rt, alloc, fault, whole.as_str(), 2)
 }
 
 #[test]
@@ -61,28 +75,28 @@ fn faults_of_the_input(rt: HostRuntime) -> Result<(), Fail> {
     is_told(&rt, alloc, Fault::InputTooLong, "input too long", 2)?;
     is_told(&rt, alloc, Fault::InputNotUtf8, "input not UTF-8", 2)?;
     is_told(&rt, alloc, Fault::InputHasNoMark, "input has no ---", 2)?;
-    is_told(
+    is_told_of_line(
         &rt,
         alloc,
         Fault::ScriptLine { line: 12 },
-        "script line 12",
-        2,
+        "script line",
+        12,
     )?;
     is_told(&rt, alloc, Fault::ScriptLimit, "script limit", 2)?;
-    is_told(&rt, alloc, Fault::MapLine { line: 12 }, "map line 12", 2)
+    is_told_of_line(&rt, alloc, Fault::MapLine { line: 12 }, "map line", 12)
 }
 
 #[test]
 fn faults_of_a_trace(rt: HostRuntime) -> Result<(), Fail> {
     let alloc = rt.alloc();
     is_told(&rt, alloc, Fault::TraceHeader, "trace Header", 2)?;
-    is_told(&rt, alloc, Fault::TraceRow { line: 12 }, "trace Row 12", 2)?;
-    is_told(
+    is_told_of_line(&rt, alloc, Fault::TraceRow { line: 12 }, "trace Row", 12)?;
+    is_told_of_line(
         &rt,
         alloc,
         Fault::TraceOrder { line: 12 },
-        "trace Order 12",
-        2,
+        "trace Order",
+        12,
     )?;
     is_told(&rt, alloc, Fault::TraceTruncated, "trace Truncated", 2)?;
     is_told(&rt, alloc, Fault::TraceTooLong, "trace TooLong", 2)?;
@@ -96,4 +110,15 @@ fn faults_of_the_device(rt: HostRuntime) -> Result<(), Fail> {
     is_told(&rt, alloc, Fault::Write, "write failed", 3)?;
     is_told(&rt, alloc, Fault::OutOfMemory, "out of memory", 3)?;
     is_told(&rt, alloc, Fault::ClockSpent, "clock spent", 3)
+}
+
+#[test]
+fn statuses_of_what_ends_the_program(rt: HostRuntime) {
+    assert_eq!(rt; Refusal::NotText.status(), 2);
+    assert_eq!(rt; Refusal::from(Fault::TraceHeader).status(), 2);
+    assert_eq!(rt; Refusal::from(Fault::Read).status(), 3);
+    assert_eq!(rt; Refusal::from(AllocError).status(), 3);
+    let unknown = job_of(rt.alloc(), ["ddr", "erase"].as_slice());
+    let status = unknown.err().map(|error| Refusal::from(error).status());
+    assert_eq!(rt; status, Some(2));
 }
