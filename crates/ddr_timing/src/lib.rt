@@ -6,8 +6,8 @@
 //! as facts on the type, and `config` is the whole, with `Config::read`. A text is read in three steps:
 //! `toml` makes a table of it; `check` looks for the first fault of the table, by the keys of `key`;
 //! `values` takes the values of a table without a fault. Both look into the table by `table`, and
-//! `order` reads the text of the one value that lists words. `error` has the refusals, and `profile` a
-//! sample text.
+//! `order` reads the text of the one value that lists words. `error` has the refusals, `profile` a sample
+//! text, and `units` the numbers that every crate shares, such as the bytes of a line.
 #![tactic(auto)]
 
 mod check;
@@ -20,4 +20,5 @@ mod order;
 pub mod profile;
 mod table;
 pub mod timing;
+pub mod units;
 mod values;

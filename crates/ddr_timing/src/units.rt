@@ -1,0 +1,16 @@
+//! Numbers with a meaning, one name each, for every crate and every definition.
+
+/// The bytes of a line: a burst of 8 beats on a bus of 64 bits (JESD79-4, burst length 8).
+pub const LINE_BYTES: usize = 64;
+
+/// The device columns of a line: one for each beat of a burst (JESD79-4, 8n prefetch).
+pub const LINE_COLUMNS: u32 = 8;
+
+/// The banks of a bank group (JESD79-4, addressing of x8 and x16 devices).
+pub const GROUP_BANKS: u32 = 4;
+
+/// The clocks that a burst is on the data bus: 8 beats, two a clock.
+pub const BURST_CLOCKS: u32 = 4;
+
+/// The cycle at which a clock stops, and the first number that a port does not give: this project's choice.
+pub const CLOCK_STOP: u64 = 1 << 62;
