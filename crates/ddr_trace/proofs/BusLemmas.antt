@@ -1,5 +1,5 @@
 -- In a legal trace no two bursts overlap on the data bus.
-use Rattle.std.proofs.Common.{◌≡◌, ℕ, ◌+◌, ◌<◌, ◌≤◌, true, false, not, nat_lt, List, length, take, get_or, Some, slice_get, sym, arith, ◌∙◌}
+use Rattle.std.proofs.Common.{◌≡◌, ℕ, ◌+◌, ◌<◌, ◌≤◌, true, false, not, nat_lt, List, length, take, get_or, Some, slice_get, sym, arith, ◌∙◌, Bool, ◌&&◌, refl}
 use Rattle.std.proofs.lemmas.Bool.{false≢true, false_from_ne_true}
 use Rattle.std.proofs.lemmas.Bool.Decides.{nat_tests}
 use Rattle.std.proofs.lemmas.List.{get_or-take, length-take-le}
@@ -14,18 +14,21 @@ use Rattle.ddr_trace.specs.declared.command.Entry.{Entry}
 use Rattle.ddr_trace.specs.declared.rule.Rule.{Rule}
 use Rattle.ddr_trace.specs.declared.rule.Rule.TheVariants as rule
 use Rattle.ddr_trace.specs.Commands.{is_column, rank_of}
-use Rattle.ddr_trace.specs.Rules.{Spacing, breaks, breaks_spacing, is_in, is_too_close, ccd_l, ccd_s, wtr_l, wtr_s, rtw}
-use Rattle.ddr_trace.specs.Legality.{number, IsLegal}
+use Rattle.ddr_trace.specs.Rules.{Spacing, breaks, breaks_spacing, is_in, is_on_commands, is_too_close, spacing_of, speaks_of}
+use Rattle.ddr_trace.specs.Legality.{IsLegal}
 use Rattle.ddr_trace.specs.Bus.{latency, KeepsBus}
-use Rattle.ddr_trace.proofs.PairLemmas.{is_close}
+
+-- the pair of commands is one that the spacing speaks of, and the distance is not kept
+abbrev is_close : (ℕ → Bool) → Spacing → Command → Command → Bool
+is_close close s a b = speaks_of s a b && close s.at_least
 
 -- two commands keep the distances that are asked of column commands
 record KeepsDistances (t : Timing) (x y : ℕ) (p q : Command) : Type 0 where
-  same_group : is_close (λ n. nat_lt y (x + n)) (ccd_l t) p q ≡ false
-  other_group : is_close (λ n. nat_lt y (x + n)) (ccd_s t) p q ≡ false
-  read_in_group : is_close (λ n. nat_lt y (x + n)) (wtr_l t) p q ≡ false
-  read_in_other_group : is_close (λ n. nat_lt y (x + n)) (wtr_s t) p q ≡ false
-  write : is_close (λ n. nat_lt y (x + n)) (rtw t) p q ≡ false
+  same_group : is_close (λ n. nat_lt y (x + n)) (spacing_of t rule.CcdL) p q ≡ false
+  other_group : is_close (λ n. nat_lt y (x + n)) (spacing_of t rule.CcdS) p q ≡ false
+  read_in_group : is_close (λ n. nat_lt y (x + n)) (spacing_of t rule.WtrL) p q ≡ false
+  read_in_other_group : is_close (λ n. nat_lt y (x + n)) (spacing_of t rule.WtrS) p q ≡ false
+  write : is_close (λ n. nat_lt y (x + n)) (spacing_of t rule.Rtw) p q ≡ false
 
 -- the distances keep the bursts of one rank's column commands apart
 apart : (t : Timing) (x y : ℕ) (p q : Command) → rank_of p ≡ rank_of q → is_column p ≡ true → is_column q ≡ true → KeepsDistances t x y p q → x + latency t p + 4 ≤ y + latency t q
@@ -57,17 +60,17 @@ far_enough s entries i j a b before within here kept = false_from_ne_true (is_to
 pub bus_kept : (c : Config) (start end : ℕ) (entries : List Entry) → IsLegal c start end entries → KeepsBus c.timing entries
 bus_kept c start end entries legal i j a b before here there first second =
     apart c.timing a.cycle b.cycle a.command b.command one_rank first second record {
-      same_group = far (ccd_l c.timing) (kept rule.CcdL (omega arith));
-      other_group = far (ccd_s c.timing) (kept rule.CcdS (omega arith));
-      read_in_group = far (wtr_l c.timing) (kept rule.WtrL (omega arith));
-      read_in_other_group = far (wtr_s c.timing) (kept rule.WtrS (omega arith));
-      write = far (rtw c.timing) (kept rule.Rtw (omega arith));
+      same_group = far (spacing_of c.timing rule.CcdL) (kept rule.CcdL refl);
+      other_group = far (spacing_of c.timing rule.CcdS) (kept rule.CcdS refl);
+      read_in_group = far (spacing_of c.timing rule.WtrL) (kept rule.WtrL refl);
+      read_in_other_group = far (spacing_of c.timing rule.WtrS) (kept rule.WtrS refl);
+      write = far (spacing_of c.timing rule.Rtw) (kept rule.Rtw refl);
     }
   where
-    unbroken_at : (place : ℕ) (e : Entry) → slice_get entries place ≡ Some e → (r : Rule) → number r ≤ 20 → breaks c start end r (take place entries) e ≡ false
+    unbroken_at : (place : ℕ) (e : Entry) → slice_get entries place ≡ Some e → (r : Rule) → is_on_commands r ≡ true → breaks c start end r (take place entries) e ≡ false
     unbroken_at place e at_place r low = rw at_place at (legal place r low)
 
-    kept : (r : Rule) → number r ≤ 20 → breaks c start end r (take j entries) b ≡ false
+    kept : (r : Rule) → is_on_commands r ≡ true → breaks c start end r (take j entries) b ≡ false
     kept = unbroken_at j b there
 
     far : (s : Spacing) → breaks_spacing s (take j entries) b ≡ false → is_too_close s a b ≡ false
@@ -77,5 +80,5 @@ bus_kept c start end entries legal i j a b before here there first second =
 
     one_rank : rank_of a.command ≡ rank_of b.command
     one_rank =
-        of_one_rank c.geometry a.command (unbroken_at i a here rule.Place (omega arith))
-        ∙ sym (of_one_rank c.geometry b.command (kept rule.Place (omega arith)))
+        of_one_rank c.geometry a.command (unbroken_at i a here rule.Place refl)
+        ∙ sym (of_one_rank c.geometry b.command (kept rule.Place refl))

@@ -2,12 +2,10 @@ pub mod BackLemmas
 pub mod BankLemmas
 pub mod BusLemmas
 pub mod Earlier
-pub mod CheckerLemmas
 pub mod CountedLemmas
 pub mod FaultLemmas
-pub mod Lowest
+pub mod LowestLemmas
 pub mod NumberLemmas
-pub mod PairLemmas
 pub mod ReadLemmas
 pub mod TextLemmas
 pub mod WindowLemmas

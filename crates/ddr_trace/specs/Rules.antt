@@ -1,10 +1,11 @@
 -- The rules of a trace, one definition each. The history of an entry is all that stands before it, oldest
 -- first, and a distance is the later cycle minus the earlier cycle.
-use Rattle.std.specs.Prelude.{ℕ, ◌+◌, ◌*◌, ◌/◌, Bool, true, false, ◌&&◌, ◌||◌, not, ◌==◌, nat_lt, nat_le, List, [], ◌∷◌, count_by}
+use Rattle.std.specs.Prelude.{◌≡◌, ℕ, ◌+◌, ◌*◌, ◌/◌, Bool, true, false, ◌&&◌, ◌||◌, not, ◌==◌, nat_lt, nat_le, List, [], ◌∷◌, Option, Some, None, count_by}
 use Rattle.std.specs.List.{list_any}
 use Rattle.ddr_timing.specs.declared.config.Config.{Config}
 use Rattle.ddr_timing.specs.declared.geometry.Geometry.{Geometry}
 use Rattle.ddr_timing.specs.declared.timing.Timing.{Timing}
+use Rattle.ddr_timing.specs.declared.units.TheConstants.{BURST_CLOCKS, GROUP_BANKS, LINE_COLUMNS}
 use Rattle.ddr_trace.specs.declared.command.Command.{Command}
 use Rattle.ddr_trace.specs.declared.command.Command.TheVariants.{Act, Rd, Wr, Pre, PreAll, Refresh}
 use Rattle.ddr_trace.specs.declared.command.Entry.{Entry}
@@ -12,62 +13,45 @@ use Rattle.ddr_trace.specs.declared.rule.Rule.{Rule}
 use Rattle.ddr_trace.specs.declared.rule.Rule.TheVariants as rule
 use Rattle.ddr_trace.specs.Commands.{is_activate, is_read, is_write, is_column, is_precharge, is_refresh, is_same_kind, is_same_rank, is_same_group, is_other_group, is_same_bank, is_other_bank, row_of}
 
--- Rules on two commands: which comes earlier, which later, which pairs of the two, and the least distance.
+-- A rule on two commands: which comes earlier, which later, which pairs of the two, and the least distance.
 pub record Spacing : Type 0 where
   pub earlier : Command → Bool
   pub later : Command → Bool
   pub pairs : Command → Command → Bool
   pub at_least : ℕ
 
-abbrev pub rcd : Timing → Spacing
-rcd t = record { earlier = is_activate; later = is_column; pairs = is_same_bank; at_least = t.rcd }
+abbrev pub spacing : (Command → Bool) → (Command → Bool) → (Command → Command → Bool) → ℕ → Spacing
+spacing a b p least = record { earlier = a; later = b; pairs = p; at_least = least }
 
-abbrev pub ras : Timing → Spacing
-ras t = record { earlier = is_activate; later = is_precharge; pairs = is_same_bank; at_least = t.ras }
+abbrev pub no_spacing : Spacing
+no_spacing = spacing (λ _. false) (λ _. false) (λ _ _. false) 0
 
-abbrev pub rc : Timing → Spacing
-rc t = record { earlier = is_activate; later = is_activate; pairs = is_same_bank; at_least = t.rc }
+-- The table of the rules on two commands. Where a write's data count, they end WL + 4 after the command.
+abbrev pub spacing_of : Timing → Rule → Spacing
+spacing_of t rule.Rcd = spacing is_activate is_column is_same_bank t.rcd
+spacing_of t rule.Ras = spacing is_activate is_precharge is_same_bank t.ras
+spacing_of t rule.Rc = spacing is_activate is_activate is_same_bank t.rc
+spacing_of t rule.Rp = spacing is_precharge is_activate is_same_bank t.rp
+spacing_of t rule.RrdL = spacing is_activate is_activate is_other_bank t.rrd_l
+spacing_of t rule.RrdS = spacing is_activate is_activate is_other_group t.rrd_s
+spacing_of t rule.CcdL = spacing is_column is_column (λ a b. is_same_kind a b && is_same_group a b) t.ccd_l
+spacing_of t rule.CcdS = spacing is_column is_column (λ a b. is_same_kind a b && is_other_group a b) t.ccd_s
+spacing_of t rule.WtrL = spacing is_write is_read is_same_group (t.cwl + BURST_CLOCKS + t.wtr_l)
+spacing_of t rule.WtrS = spacing is_write is_read is_other_group (t.cwl + BURST_CLOCKS + t.wtr_s)
+spacing_of t rule.Rtp = spacing is_read is_precharge is_same_bank t.rtp
+spacing_of t rule.Wr = spacing is_write is_precharge is_same_bank (t.cwl + BURST_CLOCKS + t.wr)
+spacing_of t rule.Rtw = spacing is_read is_write is_same_rank t.rtw
+spacing_of t rule.RpRef = spacing is_precharge is_refresh is_same_rank t.rp
+spacing_of t rule.Rfc = spacing is_refresh (λ _. true) is_same_rank t.rfc
+spacing_of t _ = no_spacing
 
-abbrev pub rp : Timing → Spacing
-rp t = record { earlier = is_precharge; later = is_activate; pairs = is_same_bank; at_least = t.rp }
+-- the two are a pair of the rule's
+abbrev pub speaks_of : Spacing → Command → Command → Bool
+speaks_of s a b = s.earlier a && s.later b && s.pairs a b
 
-abbrev pub rrd_l : Timing → Spacing
-rrd_l t = record { earlier = is_activate; later = is_activate; pairs = is_other_bank; at_least = t.rrd_l }
-
-abbrev pub rrd_s : Timing → Spacing
-rrd_s t = record { earlier = is_activate; later = is_activate; pairs = is_other_group; at_least = t.rrd_s }
-
-abbrev pub ccd_l : Timing → Spacing
-ccd_l t = record { earlier = is_column; later = is_column; pairs = λ a b. is_same_kind a b && is_same_group a b; at_least = t.ccd_l }
-
-abbrev pub ccd_s : Timing → Spacing
-ccd_s t = record { earlier = is_column; later = is_column; pairs = λ a b. is_same_kind a b && is_other_group a b; at_least = t.ccd_s }
-
--- from the end of the write's data, WL + 4 after the command
-abbrev pub wtr_l : Timing → Spacing
-wtr_l t = record { earlier = is_write; later = is_read; pairs = is_same_group; at_least = t.cwl + 4 + t.wtr_l }
-
-abbrev pub wtr_s : Timing → Spacing
-wtr_s t = record { earlier = is_write; later = is_read; pairs = is_other_group; at_least = t.cwl + 4 + t.wtr_s }
-
-abbrev pub rtp : Timing → Spacing
-rtp t = record { earlier = is_read; later = is_precharge; pairs = is_same_bank; at_least = t.rtp }
-
-abbrev pub wr : Timing → Spacing
-wr t = record { earlier = is_write; later = is_precharge; pairs = is_same_bank; at_least = t.cwl + 4 + t.wr }
-
-abbrev pub rtw : Timing → Spacing
-rtw t = record { earlier = is_read; later = is_write; pairs = is_same_rank; at_least = t.rtw }
-
-abbrev pub rp_ref : Timing → Spacing
-rp_ref t = record { earlier = is_precharge; later = is_refresh; pairs = is_same_rank; at_least = t.rp }
-
-abbrev pub rfc : Timing → Spacing
-rfc t = record { earlier = is_refresh; later = λ _. true; pairs = is_same_rank; at_least = t.rfc }
-
--- the two are a pair that the rule speaks of, and stand too close
+-- the two are a pair of the rule's, and stand too close
 abbrev pub is_too_close : Spacing → Entry → Entry → Bool
-is_too_close s a b = s.earlier a.command && s.later b.command && s.pairs a.command b.command && nat_lt b.cycle (a.cycle + s.at_least)
+is_too_close s a b = speaks_of s a.command b.command && nat_lt b.cycle (a.cycle + s.at_least)
 
 -- the entry is the later one of a pair that is too close
 abbrev pub breaks_spacing : Spacing → List Entry → Entry → Bool
@@ -89,12 +73,12 @@ breaks_order start end history e = not (last_cycle_below history e.cycle && nat_
 
 -- PLACE: the rank is 0, and group, bank, row and line lie in the geometry.
 abbrev pub is_bank_in : Geometry → ℕ → ℕ → ℕ → Bool
-is_bank_in g rank group bank = rank == 0 && nat_lt group g.groups && nat_lt bank 4
+is_bank_in g rank group bank = rank == 0 && nat_lt group g.groups && nat_lt bank GROUP_BANKS
 
 abbrev pub is_in : Geometry → Command → Bool
 is_in g (Act rank group bank row) = is_bank_in g rank group bank && nat_lt row g.rows
-is_in g (Rd rank group bank row line) = is_bank_in g rank group bank && nat_lt row g.rows && nat_lt line (g.columns / 8)
-is_in g (Wr rank group bank row line) = is_bank_in g rank group bank && nat_lt row g.rows && nat_lt line (g.columns / 8)
+is_in g (Rd rank group bank row line) = is_bank_in g rank group bank && nat_lt row g.rows && nat_lt line (g.columns / LINE_COLUMNS)
+is_in g (Wr rank group bank row line) = is_bank_in g rank group bank && nat_lt row g.rows && nat_lt line (g.columns / LINE_COLUMNS)
 is_in g (Pre rank group bank) = is_bank_in g rank group bank
 is_in g (PreAll rank) = rank == 0
 is_in g (Refresh rank) = rank == 0
@@ -111,6 +95,11 @@ is_bank_active history command = some_earlier (λ a between. stands_open a betwe
 abbrev pub is_row_open : List Entry → Command → Bool
 is_row_open history command =
     some_earlier (λ a between. stands_open a between && is_same_bank a.command command && row_of a.command == row_of command) history
+
+-- the open row of a bank of rank 0, or none where the bank is idle
+abbrev pub IsOpenRow : List Entry → ℕ → ℕ → Option ℕ → Type 0
+IsOpenRow history group bank None = is_bank_active history (Pre 0 group bank) ≡ false
+IsOpenRow history group bank (Some row) = (other : ℕ) → is_row_open history (Act 0 group bank other) ≡ (other == row)
 
 -- some bank of the command's rank is active
 abbrev pub is_rank_active : List Entry → Command → Bool
@@ -156,27 +145,23 @@ breaks_ref_gap t history e = some_earlier (λ a between.
 abbrev pub ends_late : Timing → ℕ → ℕ → List Entry → Bool
 ends_late t start end entries = nat_lt (start + (refresh_count entries (Refresh 0) + 9) * t.refi) end
 
+-- The rules on the banks of a rank: the entry breaks the rule after its history, whatever the trace's start and end.
+abbrev pub breaks_on_rank : Timing → Rule → List Entry → Entry → Bool
+breaks_on_rank t rule.State history e = breaks_state history e.command
+breaks_on_rank t rule.Row history e = breaks_row history e.command
+breaks_on_rank t rule.Faw history e = breaks_faw t history e
+breaks_on_rank t r history e = breaks_spacing (spacing_of t r) history e
+
 -- the entry breaks the rule, after its history, in a trace of this start and end
 abbrev pub breaks : Config → ℕ → ℕ → Rule → List Entry → Entry → Bool
 breaks c start end rule.Order history e = breaks_order start end history e
 breaks c start end rule.Place history e = not (is_in c.geometry e.command)
-breaks c start end rule.State history e = breaks_state history e.command
-breaks c start end rule.Row history e = breaks_row history e.command
-breaks c start end rule.Rcd history e = breaks_spacing (rcd c.timing) history e
-breaks c start end rule.Ras history e = breaks_spacing (ras c.timing) history e
-breaks c start end rule.Rc history e = breaks_spacing (rc c.timing) history e
-breaks c start end rule.Rp history e = breaks_spacing (rp c.timing) history e
-breaks c start end rule.RrdL history e = breaks_spacing (rrd_l c.timing) history e
-breaks c start end rule.RrdS history e = breaks_spacing (rrd_s c.timing) history e
-breaks c start end rule.Faw history e = breaks_faw c.timing history e
-breaks c start end rule.CcdL history e = breaks_spacing (ccd_l c.timing) history e
-breaks c start end rule.CcdS history e = breaks_spacing (ccd_s c.timing) history e
-breaks c start end rule.WtrL history e = breaks_spacing (wtr_l c.timing) history e
-breaks c start end rule.WtrS history e = breaks_spacing (wtr_s c.timing) history e
-breaks c start end rule.Rtp history e = breaks_spacing (rtp c.timing) history e
-breaks c start end rule.Wr history e = breaks_spacing (wr c.timing) history e
-breaks c start end rule.Rtw history e = breaks_spacing (rtw c.timing) history e
-breaks c start end rule.RpRef history e = breaks_spacing (rp_ref c.timing) history e
-breaks c start end rule.Rfc history e = breaks_spacing (rfc c.timing) history e
 breaks c start end rule.RefLate history e = breaks_ref_late c.timing start history e
 breaks c start end rule.RefGap history e = breaks_ref_gap c.timing history e
+breaks c start end r history e = breaks_on_rank c.timing r history e
+
+-- the rules on commands, which a legal trace keeps, are all but the two on refresh
+abbrev pub is_on_commands : Rule → Bool
+is_on_commands rule.RefLate = false
+is_on_commands rule.RefGap = false
+is_on_commands _ = true

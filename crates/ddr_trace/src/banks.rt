@@ -6,12 +6,13 @@ ghost use Rattle.ddr_trace.specs.Rules.{breaks_row, breaks_state, is_bank_active
 
 use crate::command::{Command, Entry};
 use ddr_timing::geometry::Geometry;
+use ddr_timing::units::{GROUP_BANKS, LINE_COLUMNS};
 
 /// Whether the command's rank is 0 and its group, bank, row and line lie in the geometry.
 pub(crate) fn is_in(geometry: &Geometry, command: &Command) -> bool
     ensures { result ≡ is_in geometry.now command.now }
 {
-    let lines = geometry.columns / 8;
+    let lines = geometry.columns / LINE_COLUMNS;
     match *command {
         Command::Act {
             rank,
@@ -38,11 +39,11 @@ pub(crate) fn is_in(geometry: &Geometry, command: &Command) -> bool
     }
 }
 
-/// Whether there is such a bank; a group has 4.
+/// Whether there is such a bank.
 fn is_bank_in(geometry: &Geometry, rank: u32, group: u32, bank: u32) -> bool
     ensures { result ≡ is_bank_in geometry.now rank group bank }
 {
-    rank == 0 && group < geometry.groups && bank < 4
+    rank == 0 && group < geometry.groups && bank < GROUP_BANKS
 }
 
 /// Whether an ACT finds its bank active, a read or a write finds it idle, or a REF finds some bank active.

@@ -2,12 +2,10 @@
 //!
 //! It is a plain scan of the whole history, and keeps no state from one entry to the next. Below stand
 //! `banks`, `spacing` and `window`, one function for each kind of rule.
-ghost use Rattle.std.specs.Prelude.{◌↔◌, IfNone, IfSome, IsNone};
-ghost use Rattle.ddr_trace.specs.declared.rule.Rule.{Rule};
+ghost use Rattle.std.specs.Prelude.{◌≡◌, ◌↔◌, IfNone, IfSome, IsNone};
 ghost use Rattle.ddr_trace.specs.Bus.{KeepsBus};
 ghost use Rattle.ddr_trace.specs.Rules.{breaks};
-ghost use Rattle.ddr_trace.specs.Legality.{IsFirstFault, IsLegal, IsLowestBroken, IsRefreshed, KeepsRules};
-ghost use Rattle.ddr_trace.specs.Pairs.{IsLowest};
+ghost use Rattle.ddr_trace.specs.Legality.{IsFirstFault, IsLegal, IsRefreshed, lowest_broken, lowest_rule};
 
 use crate::command::Entry;
 use crate::rule::Rule;
@@ -54,15 +52,14 @@ fn lowest_of_all(
     start: u64,
     end: u64,
 ) -> Option<Rule>
-    ensures { IsLowest (λ r. breaks config.now start end r history.now entry.now) result }
+    ensures { result ≡ lowest_rule (λ r. breaks config.now start end r history.now entry.now) }
 {
-    if let Some(rule) = lowest_broken(history, entry, config, start, end) {
-        return Some(rule);
+    for rule in Rule::ALL {
+        if breaks(rule, history, entry, config, start, end) {
+            return Some(rule);
+        }
     }
-    if window::breaks_ref_late(history, entry, &config.timing, start) {
-        return Some(Rule::RefLate);
-    }
-    window::breaks_ref_gap(history, entry, &config.timing).then_some(Rule::RefGap)
+    None
 }
 
 /// The lowest rule on commands (all rules but the two on refresh) that `entry` would break after `history`,
@@ -74,21 +71,36 @@ pub fn lowest_broken(
     start: u64,
     end: u64,
 ) -> Option<Rule>
-    ensures kept { IfNone result (KeepsRules config.now start end history.now entry.now) }
-    ensures broken { IfSome result (IsLowestBroken config.now start end history.now entry.now) }
+    ensures { result ≡ lowest_broken config.now start end history.now entry.now }
 {
-    if window::breaks_order(history, entry, start, end) {
-        return Some(Rule::Order);
+    for rule in Rule::ALL {
+        if rule.is_on_commands() && breaks(rule, history, entry, config, start, end) {
+            return Some(rule);
+        }
     }
-    if !banks::is_in(&config.geometry, &entry.command) {
-        return Some(Rule::Place);
+    None
+}
+
+/// Whether the entry breaks the rule after its history, in a trace of this start and end.
+fn breaks(
+    rule: Rule,
+    history: &[Entry],
+    entry: &Entry,
+    config: &Config,
+    start: u64,
+    end: u64,
+) -> bool
+    ensures { result ≡ breaks config.now start end rule history.now entry.now }
+{
+    let timing = &config.timing;
+    match rule {
+        Rule::Order => window::breaks_order(history, entry, start, end),
+        Rule::Place => !banks::is_in(&config.geometry, &entry.command),
+        Rule::State => banks::breaks_state(history, &entry.command),
+        Rule::Row => banks::breaks_row(history, &entry.command),
+        Rule::Faw => window::breaks_faw(history, entry, timing),
+        Rule::RefLate => window::breaks_ref_late(history, entry, timing, start),
+        Rule::RefGap => window::breaks_ref_gap(history, entry, timing),
+        _ => spacing::breaks_spacing(rule, history, entry, timing),
     }
-    if banks::breaks_state(history, &entry.command) {
-        return Some(Rule::State);
-    }
-    if banks::breaks_row(history, &entry.command) {
-        return Some(Rule::Row);
-    }
-    let faw = window::breaks_faw(history, entry, &config.timing).then_some(Rule::Faw);
-    Rule::lower(faw, spacing::lowest_spacing(history, entry, &config.timing))
 }

@@ -1,6 +1,6 @@
 //! Commands on a channel's command bus.
 ghost use Rattle.std.specs.Prelude.{◌≡◌, ◌+◌, ◌&&◌, ◌==◌, nat_lt};
-ghost use Rattle.ddr_trace.specs.Commands.{bank_of, group_of, is_activate, is_column, is_of_all_banks, is_precharge, is_refresh, is_same_bank, is_same_group, is_same_rank, rank_of, row_of};
+ghost use Rattle.ddr_trace.specs.Commands.{bank_of, group_of, is_activate, is_column, is_of_all_banks, is_other_bank, is_other_group, is_precharge, is_read, is_refresh, is_same_bank, is_same_group, is_same_kind, is_same_rank, is_write, rank_of, row_of};
 
 /// A DDR4 command (JESD79-4, "Command truth table"), with the place that it is for.
 #[derive(Clone, Copy, Debug, PartialEq, Eq)]
@@ -58,6 +58,19 @@ impl Command {
         matches!(self, Command::Act { .. })
     }
 
+    pub(crate) fn is_read(&self) -> bool
+        ensures { result ≡ is_read self.now }
+    {
+        matches!(self, Command::Rd { .. })
+    }
+
+    pub(crate) fn is_write(&self) -> bool
+        ensures { result ≡ is_write self.now }
+    {
+        matches!(self, Command::Wr { .. })
+    }
+
+    /// Whether this is a read or a write.
     pub(crate) fn is_column(&self) -> bool
         ensures { result ≡ is_column self.now }
     {
@@ -169,6 +182,27 @@ impl Command {
         ensures { result ≡ is_same_group self.now other.now }
     {
         self.is_same_rank(other) && self.group() == other.group()
+    }
+
+    /// Whether both are of one rank and not of one group.
+    pub(crate) fn is_other_group(&self, other: &Command) -> bool
+        ensures { result ≡ is_other_group self.now other.now }
+    {
+        self.is_same_rank(other) && self.group() != other.group()
+    }
+
+    /// Whether both are of one group and not of one bank number.
+    pub(crate) fn is_other_bank(&self, other: &Command) -> bool
+        ensures { result ≡ is_other_bank self.now other.now }
+    {
+        self.is_same_group(other) && self.bank() != other.bank()
+    }
+
+    /// Whether both are reads, or both writes.
+    pub(crate) fn is_same_kind(&self, other: &Command) -> bool
+        ensures { result ≡ is_same_kind self.now other.now }
+    {
+        (self.is_read() && other.is_read()) || (self.is_write() && other.is_write())
     }
 
     /// Whether both are of one bank; PREA is of every bank of its rank.

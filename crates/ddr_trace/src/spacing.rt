@@ -1,110 +1,81 @@
-//! Rules on two commands: from one command of a rank to a later one, at least so many clocks.
-//!
-//! Each pair of commands has at most one such rule, so one pass over the history finds the lowest that is
-//! broken.
-ghost use Rattle.std.specs.Prelude.{◌≡◌};
-ghost use Rattle.ddr_trace.specs.declared.rule.Rule.{Rule};
-ghost use Rattle.ddr_trace.specs.Rules.{breaks_spacing, is_too_close};
-ghost use Rattle.ddr_trace.specs.Pairs.{IsLowest, after_activate, after_precharge, after_read, after_write, distance_between, is_rule, spacing_of};
+//! Rules on two commands: from an earlier command to a later one, at least so many clocks.
+ghost use Rattle.std.specs.Prelude.{◌≡◌, Some, None, if◌then◌else◌};
+ghost use Rattle.ddr_trace.specs.Rules.{breaks_spacing, is_too_close, spacing_of, speaks_of};
 
 use crate::command::{Command, Entry};
 use crate::rule::Rule;
 use ddr_timing::timing::Timing;
+use ddr_timing::units::BURST_CLOCKS;
 
-/// The lowest rule on two commands that `entry` breaks as the later of the two.
-pub(crate) fn lowest_spacing(history: &[Entry], entry: &Entry, timing: &Timing) -> Option<Rule>
-    ensures { IsLowest (λ r. breaks_spacing (spacing_of timing.now r) history.now entry.now) result }
+/// Whether the entry stands too close behind an earlier one that the rule speaks of.
+pub(crate) fn breaks_spacing(rule: Rule, history: &[Entry], entry: &Entry, timing: &Timing) -> bool
+    ensures { result ≡ breaks_spacing (spacing_of timing.now rule) history.now entry.now }
 {
-    let mut lowest = None;
-    for earlier in history {
-        lowest = Rule::lower(lowest, broken_by_pair(earlier, entry, timing));
-    }
-    lowest
+    history
+        .iter()
+        .any(|earlier| is_too_close(rule, earlier, entry, timing))
 }
 
-/// The rule that the two entries break, if they stand too close.
-fn broken_by_pair(earlier: &Entry, later: &Entry, timing: &Timing) -> Option<Rule>
-    ensures { (r : Rule) → is_too_close (spacing_of timing.now r) earlier.now later.now ≡ is_rule result r }
+/// Whether the two are a pair of the rule's, and stand too close.
+fn is_too_close(rule: Rule, earlier: &Entry, later: &Entry, timing: &Timing) -> bool
+    ensures { result ≡ is_too_close (spacing_of timing.now rule) earlier.now later.now }
 {
-    let (rule, at_least) = distance_between(&earlier.command, &later.command, timing)?;
-    later.is_within(at_least, earlier).then_some(rule)
-}
-
-/// The rule that speaks of the pair, with the least distance.
-fn distance_between(earlier: &Command, later: &Command, timing: &Timing) -> Option<(Rule, u32)>
-    ensures { result ≡ distance_between timing.now earlier.now later.now }
-{
-    if !earlier.is_same_rank(later) {
-        return None;
-    }
-    match earlier {
-        Command::Act { .. } => after_activate(earlier, later, timing),
-        Command::Rd { .. } => after_read(earlier, later, timing),
-        Command::Wr { .. } => after_write(earlier, later, timing),
-        Command::Pre { .. } | Command::PreAll { .. } => after_precharge(earlier, later, timing),
-        Command::Refresh { .. } => Some((Rule::Rfc, timing.rfc)),
+    match least_distance(rule, &earlier.command, &later.command, timing) {
+        Some(clocks) => later.is_within(clocks, earlier),
+        None => false,
     }
 }
 
-/// The distance from an ACT to a later command of its rank.
-fn after_activate(activate: &Command, later: &Command, timing: &Timing) -> Option<(Rule, u32)>
-    ensures { result ≡ after_activate timing.now activate.now later.now }
+/// The clocks that the rule asks for between the two commands, where they are a pair of the rule's.
+fn least_distance(rule: Rule, a: &Command, b: &Command, t: &Timing) -> Option<u32>
+    ensures { let s = spacing_of t.now rule in
+        result ≡ (if speaks_of s a.now b.now then Some s.at_least else None) }
 {
-    let same_bank = activate.is_same_bank(later);
-    match later {
-        Command::Act { .. } if same_bank => Some((Rule::Rc, timing.rc)),
-        Command::Act { .. } if activate.is_same_group(later) => Some((Rule::RrdL, timing.rrd_l)),
-        Command::Act { .. } => Some((Rule::RrdS, timing.rrd_s)),
-        Command::Rd { .. } | Command::Wr { .. } if same_bank => Some((Rule::Rcd, timing.rcd)),
-        Command::Pre { .. } | Command::PreAll { .. } if same_bank => {
-            Some((Rule::Ras, timing.ras))
-        }
-        _ => None,
-    }
-}
-
-/// The distance from a read to a later command of its rank.
-fn after_read(read: &Command, later: &Command, timing: &Timing) -> Option<(Rule, u32)>
-    ensures { result ≡ after_read timing.now read.now later.now }
-{
-    match later {
-        Command::Rd { .. } if read.is_same_group(later) => Some((Rule::CcdL, timing.ccd_l)),
-        Command::Rd { .. } => Some((Rule::CcdS, timing.ccd_s)),
-        Command::Wr { .. } => Some((Rule::Rtw, timing.rtw)),
-        Command::Pre { .. } | Command::PreAll { .. } if read.is_same_bank(later) => {
-            Some((Rule::Rtp, timing.rtp))
-        }
-        _ => None,
-    }
-}
-
-/// The distance from a write to a later command of its rank. Where its data counts, they end `cwl + 4`
-/// clocks after the command.
-fn after_write(write: &Command, later: &Command, timing: &Timing) -> Option<(Rule, u32)>
-    ensures { result ≡ after_write timing.now write.now later.now }
-{
-    let data_end = timing.cwl + 4;
-    match later {
-        Command::Rd { .. } if write.is_same_group(later) => {
-            Some((Rule::WtrL, data_end + timing.wtr_l))
-        }
-        Command::Rd { .. } => Some((Rule::WtrS, data_end + timing.wtr_s)),
-        Command::Wr { .. } if write.is_same_group(later) => Some((Rule::CcdL, timing.ccd_l)),
-        Command::Wr { .. } => Some((Rule::CcdS, timing.ccd_s)),
-        Command::Pre { .. } | Command::PreAll { .. } if write.is_same_bank(later) => {
-            Some((Rule::Wr, data_end + timing.wr))
-        }
-        _ => None,
-    }
-}
-
-/// The distance from a precharge to a later command of its rank.
-fn after_precharge(precharge: &Command, later: &Command, timing: &Timing) -> Option<(Rule, u32)>
-    ensures { result ≡ after_precharge timing.now precharge.now later.now }
-{
-    match later {
-        Command::Act { .. } if precharge.is_same_bank(later) => Some((Rule::Rp, timing.rp)),
-        Command::Refresh { .. } => Some((Rule::RpRef, timing.rp)),
-        _ => None,
-    }
+    let data_end = t.cwl + BURST_CLOCKS;
+    let (is_pair, clocks) = match rule {
+        Rule::Rcd => (a.is_activate() && b.is_column() && a.is_same_bank(b), t.rcd),
+        Rule::Ras => (
+            a.is_activate() && b.is_precharge() && a.is_same_bank(b),
+            t.ras,
+        ),
+        Rule::Rc => (
+            a.is_activate() && b.is_activate() && a.is_same_bank(b),
+            t.rc,
+        ),
+        Rule::Rp => (
+            a.is_precharge() && b.is_activate() && a.is_same_bank(b),
+            t.rp,
+        ),
+        Rule::RrdL => (
+            a.is_activate() && b.is_activate() && a.is_other_bank(b),
+            t.rrd_l,
+        ),
+        Rule::RrdS => (
+            a.is_activate() && b.is_activate() && a.is_other_group(b),
+            t.rrd_s,
+        ),
+        Rule::CcdL => (a.is_same_kind(b) && a.is_same_group(b), t.ccd_l),
+        Rule::CcdS => (a.is_same_kind(b) && a.is_other_group(b), t.ccd_s),
+        Rule::WtrL => (
+            a.is_write() && b.is_read() && a.is_same_group(b),
+            data_end + t.wtr_l,
+        ),
+        Rule::WtrS => (
+            a.is_write() && b.is_read() && a.is_other_group(b),
+            data_end + t.wtr_s,
+        ),
+        Rule::Rtp => (a.is_read() && b.is_precharge() && a.is_same_bank(b), t.rtp),
+        Rule::Wr => (
+            a.is_write() && b.is_precharge() && a.is_same_bank(b),
+            data_end + t.wr,
+        ),
+        Rule::Rtw => (a.is_read() && b.is_write() && a.is_same_rank(b), t.rtw),
+        Rule::RpRef => (
+            a.is_precharge() && b.is_refresh() && a.is_same_rank(b),
+            t.rp,
+        ),
+        Rule::Rfc => (a.is_refresh() && a.is_same_rank(b), t.rfc),
+        _ => return None,
+    };
+    is_pair.then_some(clocks)
 }

@@ -1,13 +1,14 @@
 -- Below the place that is looked at nothing is broken.
-use Rattle.std.proofs.Common.{◌≡◌, length, refl, arith}
+use Rattle.std.proofs.Common.{◌≡◌, length, refl, sym, arith}
 use Rattle.ddr_trace.specs.declared.rule.Rule.TheVariants as rule
 use Rattle.ddr_trace.proofs.FaultLemmas.{clean_more, first_at_entry, first_at_end, clean_all, not_clean}
+use Rattle.ddr_trace.proofs.LowestLemmas.{none_broken}
 use Rattle.ddr_trace.proofs.BusLemmas.{bus_kept}
 use Rattle.ddr_trace.proofs.checker.first_fault.Goals as goal
 
 pub returns-in-Some-clause-fault : goal.returns-in-Some-clause-fault
 returns-in-Some-clause-fault c =
-    first_at_entry c.args.config.now c.args.start c.args.end c.args.entries.now c.loop-place.place _ c.in-Some.rule c.loop-place-test.true c.loop-place.invariant c.in-Some.ensures
+    first_at_entry c.args.config.now c.args.start c.args.end c.args.entries.now c.loop-place.place _ c.in-Some.rule _ c.loop-place-test.true c.loop-place.invariant (λ q. refl) (sym c.in-Some.ensures)
 
 pub returns-in-Some-clause-none : goal.returns-in-Some-clause-none
 returns-in-Some-clause-none c =
@@ -15,7 +16,7 @@ returns-in-Some-clause-none c =
 
 pub loop-place-preserved : goal.loop-place-preserved
 loop-place-preserved c =
-    clean_more c.args.config.now c.args.start c.args.end c.args.entries.now c.loop-place.place _ c.loop-place-test.true c.loop-place.invariant c.in_default.ensures
+    clean_more c.args.config.now c.args.start c.args.end c.args.entries.now c.loop-place.place _ c.loop-place-test.true c.loop-place.invariant (none_broken _ (sym c.in_default.ensures))
 
 pub returns-then-ends_late-clause-fault : goal.returns-then-ends_late-clause-fault
 returns-then-ends_late-clause-fault c =

@@ -1,24 +1,30 @@
--- The rules are looked at in their order, those on two commands and on four activations together.
-use Rattle.ddr_trace.specs.Pairs.{IsLowest}
-use Rattle.ddr_trace.proofs.Lowest.{IsLowest-lower_of, IsLowest-is_rule}
-use Rattle.ddr_trace.proofs.CheckerLemmas.{KeepsFirst, breaks_other, none_broken, lowest_is_broken}
+use Rattle.std.proofs.Common.{◌≡◌, Bool, true, false, ◌&&◌, sym, ◌∙◌}
+use Rattle.ddr_trace.proofs.LowestLemmas.{lowest_here, none_more, none_at_end}
 use Rattle.ddr_trace.proofs.checker.lowest_broken.Goals as goal
+use Rattle.ddr_trace.proofs.checker.lowest_broken.Goals.{else-is_on_commands-via-then-is_on_commands+else-breaks, else-is_on_commands-via-else-is_on_commands}
 
-keeps_first : (c : goal.After-lower) → KeepsFirst c.args.config.now c.args.start c.args.end c.args.history.now c.args.entry.now
-keeps_first c = record {
-  order = c.if-breaks_order.ensures;
-  place = c.if-not-is_in.ensures;
-  state = c.if-breaks_state.ensures;
-  row = c.if-breaks_row.ensures;
-}
+both : (a b x y : Bool) → x ≡ a → x ≡ true → y ≡ b → y ≡ true → (a && b) ≡ true
+both a b x y ax x_is by y_is = rw (sym ax ∙ x_is) (sym by ∙ y_is)
 
-is_lowest : (c : goal.After-lower) → IsLowest (breaks_other c.args.config.now c.args.history.now c.args.entry.now) c.lower.result
-is_lowest c =
-    rw (c.lower.ensures, c.then_some-faw.ensures, c.breaks_faw.ensures)
-    (IsLowest-lower_of _ _ _ c.lowest_spacing.result (IsLowest-is_rule _) c.lowest_spacing.ensures)
+first_fails : (a b x : Bool) → x ≡ a → x ≡ false → (a && b) ≡ false
+first_fails a b x ax x_is = rw (sym ax ∙ x_is)
 
-pub returns-clause-kept : goal.returns-clause-kept
-returns-clause-kept c = none_broken _ _ _ _ _ c.lower.result (keeps_first c) (is_lowest c)
+second_fails : (a b y : Bool) → y ≡ b → y ≡ false → (a && b) ≡ false
+second_fails true b y by y_is = sym by ∙ y_is
+second_fails false b y by y_is = λ i. false
 
-pub returns-clause-broken : goal.returns-clause-broken
-returns-clause-broken c = lowest_is_broken _ _ _ _ _ c.lower.result (keeps_first c) (is_lowest c)
+pub returns-then-breaks : goal.returns-then-breaks
+returns-then-breaks c =
+    lowest_here _ c.loop-rule.rule-index c.loop-rule-test.true c.loop-rule.invariant
+    (both _ _ _ _ c.is_on_commands.ensures c.if-is_on_commands.true c.breaks.ensures c.if-breaks.true)
+
+pub loop-rule-preserved : goal.loop-rule-preserved
+loop-rule-preserved c =
+    none_more _ c.loop-rule.rule-index c.loop-rule-test.true c.loop-rule.invariant
+    (elim c.else-is_on_commands.branch [
+      | else-is_on_commands-via-then-is_on_commands+else-breaks w ↦ second_fails _ _ _ w.breaks.ensures w.if-breaks.false
+      | else-is_on_commands-via-else-is_on_commands w ↦ first_fails _ _ _ c.is_on_commands.ensures w.if-is_on_commands.false
+    ])
+
+pub returns : goal.returns
+returns c = none_at_end _ c.loop-rule.rule-index c.loop-rule-test.false c.loop-rule.invariant
