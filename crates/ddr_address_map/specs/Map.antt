@@ -4,20 +4,21 @@ use Rattle.std.specs.Prelude.{ℕ, ◌+◌, ◌*◌, ◌/◌, ◌%◌, List, [],
 use Rattle.ddr_timing.specs.declared.geometry.Digit.{Digit}
 use Rattle.ddr_timing.specs.declared.geometry.Digit.TheVariants.{Channel, Group, Bank, Column, Row}
 use Rattle.ddr_timing.specs.declared.geometry.Geometry.{Geometry}
+use Rattle.ddr_timing.specs.declared.units.TheConstants.{GROUP_BANKS, LINE_BYTES, LINE_COLUMNS}
 use Rattle.ddr_timing.specs.Order.{same_digit}
 use Rattle.ddr_address_map.specs.declared.place.Place.{Place}
 
--- how many values a digit has: a group has 4 banks, and a line is 8 columns
+-- how many values a digit has
 abbrev pub size_of : Geometry → Digit → ℕ
 size_of shape Channel = shape.channels
 size_of shape Group = shape.groups
-size_of shape Bank = 4
-size_of shape Column = shape.columns / 8
+size_of shape Bank = GROUP_BANKS
+size_of shape Column = shape.columns / LINE_COLUMNS
 size_of shape Row = shape.rows
 
 -- the bytes of the memory
 abbrev pub capacity_of : Geometry → ℕ
-capacity_of shape = 64 * (shape.channels * shape.groups * 4 * (shape.columns / 8) * shape.rows)
+capacity_of shape = LINE_BYTES * (shape.channels * shape.groups * GROUP_BANKS * (shape.columns / LINE_COLUMNS) * shape.rows)
 
 -- one digit of a number in mixed radix; the order has the least significant digit first
 unfoldable pub digit_of : (Digit → ℕ) → List Digit → ℕ → Digit → ℕ
@@ -47,28 +48,28 @@ place_with value byte =
 -- also the way back
 abbrev pub with_bank_xor : Geometry → Place → Place
 with_bank_xor shape place =
-    if shape.bank_xor then record place { bank = bit_xor place.bank (place.row % 4) } else place
+    if shape.bank_xor then record place { bank = bit_xor place.bank (place.row % GROUP_BANKS) } else place
 
 -- each part of the place is below its size
 abbrev pub in_range : Geometry → Place → Bool
 in_range shape place =
     nat_lt place.channel shape.channels
     && nat_lt place.group shape.groups
-    && nat_lt place.bank 4
+    && nat_lt place.bank GROUP_BANKS
     && nat_lt place.row shape.rows
-    && nat_lt place.line (shape.columns / 8)
-    && nat_lt place.offset 64
+    && nat_lt place.line (shape.columns / LINE_COLUMNS)
+    && nat_lt place.offset LINE_BYTES
 
 -- where an address lies
 unfoldable pub place_of : Geometry → ℕ → Option Place
 place_of shape addr =
     if nat_lt addr (capacity_of shape)
-    then Some (with_bank_xor shape (place_with (digit_of (size_of shape) shape.map (addr / 64)) (addr % 64)))
+    then Some (with_bank_xor shape (place_with (digit_of (size_of shape) shape.map (addr / LINE_BYTES)) (addr % LINE_BYTES)))
     else None
 
 -- the address of a place
 unfoldable pub address_of : Geometry → Place → Option ℕ
 address_of shape place =
     if in_range shape place
-    then Some (64 * number_of (size_of shape) shape.map (digit_in (with_bank_xor shape place)) + place.offset)
+    then Some (LINE_BYTES * number_of (size_of shape) shape.map (digit_in (with_bank_xor shape place)) + place.offset)
     else None

@@ -11,9 +11,7 @@ ghost use Rattle.ddr_address_map.specs.Map.{size_of, capacity_of, digit_in, with
 use crate::place::Place;
 use ddr_timing::config::Config;
 use ddr_timing::geometry::{Digit, Geometry};
-
-/// The bytes of a line: a burst of 8 beats on a 64-bit bus.
-const LINE_BYTES: u64 = 64;
+use ddr_timing::units::{GROUP_BANKS, LINE_BYTES, LINE_COLUMNS};
 
 /// The address map of a configuration: this project's choice, the standard leaves it to the controller.
 #[derive(Clone, Copy, Debug)]
@@ -41,14 +39,14 @@ impl Map {
         ensures within { IfSome result (λ place. IsTrue (in_range self.now.geometry place)) }
         ensures back { IfSome result (λ place. address_of self.now.geometry place ≡ Some addr) }
     {
-        let mut rest = addr / LINE_BYTES;
+        let mut rest = addr / LINE_BYTES as u64;
         let mut place = Place {
             channel: 0,
             group: 0,
             bank: 0,
             row: 0,
             line: 0,
-            offset: (addr % LINE_BYTES) as u32,
+            offset: (addr % LINE_BYTES as u64) as u32,
         };
         for digit in self.geometry.map {
             let size = self.size(digit);
@@ -81,10 +79,10 @@ impl Map {
             number += weight * u64::from(digit_of(digits, digit));
             weight *= self.size(digit);
         }
-        Some(LINE_BYTES * number + u64::from(place.offset))
+        Some(LINE_BYTES as u64 * number + u64::from(place.offset))
     }
 
-    // How many values a digit has: a group has 4 banks, and a line is 8 columns.
+    // How many values a digit has.
     fn size(&self, digit: Digit) -> u64
         ensures exact { result ≡ size_of self.now.geometry digit }
         ensures positive { 1 ≤ result }
@@ -93,8 +91,8 @@ impl Map {
         let size = match digit {
             Digit::Channel => self.geometry.channels,
             Digit::Group => self.geometry.groups,
-            Digit::Bank => 4,
-            Digit::Column => self.geometry.columns / 8,
+            Digit::Bank => GROUP_BANKS,
+            Digit::Column => self.geometry.columns / LINE_COLUMNS,
             Digit::Row => self.geometry.rows,
         };
         u64::from(size)
@@ -105,10 +103,10 @@ impl Map {
     {
         place.channel < self.geometry.channels
             && place.group < self.geometry.groups
-            && place.bank < 4
+            && place.bank < GROUP_BANKS
             && place.row < self.geometry.rows
-            && place.line < self.geometry.columns / 8
-            && place.offset < 64
+            && place.line < self.geometry.columns / LINE_COLUMNS
+            && place.offset < LINE_BYTES as u32
     }
 
     // From the bank digit to the bank, and back: the bits of the row that are mixed in stay the same.
@@ -117,7 +115,7 @@ impl Map {
     {
         if self.geometry.bank_xor {
             Place {
-                bank: place.bank ^ (place.row % 4),
+                bank: place.bank ^ (place.row % GROUP_BANKS),
                 ..place
             }
         } else {

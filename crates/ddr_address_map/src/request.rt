@@ -2,10 +2,11 @@
 ghost use Rattle.std.specs.Prelude.{◌≡◌, ℕ, List};
 
 use crate::place::Place;
+use ddr_timing::units::LINE_BYTES;
 use std::marker::Model;
 
 /// The bytes of one line: a burst of 8 beats on a 64-bit bus.
-pub type Line = [u8; 64];
+pub type Line = [u8; LINE_BYTES];
 
 /// What a request does.
 #[derive(Clone, Copy, Debug, PartialEq, Eq)]

@@ -1,5 +1,6 @@
 -- What becomes of a row array, and of a slot, once a line that was lent for writing is given back.
 use Rattle.std.specs.Prelude.{ℕ, ◌*◌, List, Option}
+use Rattle.ddr_timing.specs.declared.units.TheConstants.{LINE_BYTES}
 use Rattle.std.specs.Borrow.{Lends, LendsIf, MutBor, Fml, u8, Array}
 use Rattle.std.specs.Vec.{with_items_from}
 use Rattle.ddr_row_array.specs.declared.slot.Slot.{Slot}
@@ -10,7 +11,7 @@ use Rattle.ddr_row_array.specs.Writes.{with_burst}
 
 -- a slot, with `new` over its line
 abbrev pub slot_with_line : Slot → ℕ → List ℕ → Slot
-slot_with_line s line new = record s { bytes = with_items_from s.bytes (64 * line) new }
+slot_with_line s line new = record s { bytes = with_items_from s.bytes (LINE_BYTES * line) new }
 
 -- the slot ends with what is left behind r in its line
 abbrev pub LendsLine : MutBor Slot → ℕ → MutBor (List ℕ) → Fml

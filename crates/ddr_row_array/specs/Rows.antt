@@ -1,5 +1,6 @@
 -- What contracts see of a row array: the open row of each bank, and the 64 bytes of each line.
 use Rattle.std.specs.Prelude.{ℕ, ◌+◌, ◌*◌, Bool, ◌&&◌, ◌==◌, nat_lt, if◌then◌else◌, List, [], length, map, find, slice_index, slice_index_or, Option, None, is_some}
+use Rattle.ddr_timing.specs.declared.units.TheConstants.{LINE_BYTES}
 use Rattle.std.specs.Option.{option_map, option_map_or}
 use Rattle.std.specs.List.{range_with_len}
 
@@ -42,7 +43,7 @@ row_bytes stored bank row = option_map_or (λ s. s.bytes) (find (is_row bank row
 
 -- the 64 bytes of a line, where bytes past the end of what is stored are zeros
 unfoldable pub line_bytes : List ℕ → ℕ → List ℕ
-line_bytes bytes line = map (λ i. slice_index bytes (64 * line + i)) (range_with_len 0 64)
+line_bytes bytes line = map (λ i. slice_index bytes (LINE_BYTES * line + i)) (range_with_len 0 LINE_BYTES)
 
 -- the 64 bytes of a line of a row of a bank
 abbrev pub cells : Rows → ℕ → ℕ → ℕ → List ℕ

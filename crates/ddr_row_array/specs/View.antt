@@ -1,5 +1,6 @@
 -- What a row array's fields stand for.
 use Rattle.std.specs.Prelude.{◌≡◌, ℕ, ◌*◌, ◌/◌, Bool, if◌then◌else◌, List, [], ◌∷◌, map, Option, Some, None, vec_len, All, slice_index_or}
+use Rattle.ddr_timing.specs.declared.units.TheConstants.{GROUP_BANKS, LINE_COLUMNS}
 use Rattle.std.specs.Option.{ForSome, option_map}
 use Prim.Native.Nat.{suc}
 use Rattle.std.specs.Ordering.{nat_cmp, ordering_then}
@@ -17,7 +18,7 @@ abbrev pub rows_of : Inside → Rows
 rows_of a = record {
   opened = map (option_map (λ o. o.row)) a.opened.items;
   height = a.geometry.rows;
-  width = a.geometry.columns / 8;
+  width = a.geometry.columns / LINE_COLUMNS;
   stored = map stored_of a.slots.items;
 }
 
@@ -36,7 +37,7 @@ slot_of slots bank row = place_of (is_row bank row) (map stored_of slots)
 
 pub record IsSound (a : Inside) : Type 0 where
   -- there is a place for each bank's open row
-  pub banks : vec_len a.opened ≡ a.geometry.groups * 4
+  pub banks : vec_len a.opened ≡ a.geometry.groups * GROUP_BANKS
   -- each slot has the bytes of a whole row
   pub whole : All (λ s. vec_len s.bytes ≡ a.geometry.columns * 8) a.slots.items
   -- the index names the slot of each row that is stored, and no other

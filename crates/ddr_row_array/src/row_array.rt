@@ -12,6 +12,7 @@ use crate::merge::merge;
 use crate::slot::{RowAddress, Slot};
 use ddr_timing::config::Config;
 use ddr_timing::geometry::Geometry;
+use ddr_timing::units::{GROUP_BANKS, LINE_BYTES, LINE_COLUMNS};
 use std::alloc::{AllocError, Global};
 use std::collections::BTreeMap;
 use std::marker::Model;
@@ -56,7 +57,7 @@ impl RowArray {
     pub fn open(alloc: Global, config: &Config) -> Result<RowArray, AllocError>
         ensures { IfOk result (IsFresh config.now) }
     {
-        let banks = config.geometry.groups as usize * 4;
+        let banks = (config.geometry.groups * GROUP_BANKS) as usize;
         Ok(RowArray {
             alloc,
             geometry: config.geometry,
@@ -122,7 +123,7 @@ impl RowArray {
         ensures { result ≡ is_some (open_burst self.now bank line) }
     {
         let opened = self.opened.get(bank as usize);
-        line < self.geometry.columns / 8 && matches!(opened, Some(Some(_)))
+        line < self.geometry.columns / LINE_COLUMNS && matches!(opened, Some(Some(_)))
     }
 
     /// The 64 bytes of a line of the bank's open row, which is there.
@@ -149,7 +150,7 @@ impl RowArray {
     /// the row has no such line.
     pub fn burst(&self, bank: u32, line: u32) -> Option<&[u8]>
         ensures value { option_copied result ≡ open_burst self.now bank line }
-        ensures length { IfSome result (λ burst. length burst.now ≡ 64) }
+        ensures length { IfSome result (λ burst. length burst.now ≡ LINE_BYTES) }
     {
         if self.has_burst(bank, line) {
             Some(self.open_line(bank, line))
@@ -163,7 +164,7 @@ impl RowArray {
     pub fn burst_mut(&mut self, bank: u32, line: u32) -> Option<&mut [u8]>
         ensures* writes_back { sem 𝓛 (LendsBurst self.entry bank line result) }
         ensures value { option_copied_mut result ≡ open_burst self.old bank line }
-        ensures length { IfSome result (λ burst. length burst.now ≡ 64) }
+        ensures length { IfSome result (λ burst. length burst.now ≡ LINE_BYTES) }
         ensures only_the_line { OnSome result (ChangesLineAlone self.old bank line) }
     {
         if self.has_burst(bank, line) {
@@ -177,7 +178,7 @@ impl RowArray {
     /// for byte i) by the byte of `bytes`, and says whether there was such a line. Where there
     /// was none, nothing changes. The mask is the data mask of a write (JESD79-4, "Write Data
     /// Mask"), with a set bit for a byte that is written.
-    pub fn write(&mut self, bank: u32, line: u32, mask: u64, bytes: &[u8; 64]) -> bool
+    pub fn write(&mut self, bank: u32, line: u32, mask: u64, bytes: &[u8; LINE_BYTES]) -> bool
         ensures there { result ≡ is_some (open_burst self.old bank line) }
         ensures written { OnTrue result (MergesLine self.old self.new bank line mask bytes.now) }
         ensures unchanged { OnFalse result (self.new ≡ self.old) }
@@ -191,7 +192,7 @@ impl RowArray {
 
     /// Copies the 64 bytes of a line of the bank's open row, and says whether there was such a
     /// line. Where there was none, nothing is copied.
-    pub fn read(&self, bank: u32, line: u32, into: &mut [u8; 64]) -> bool
+    pub fn read(&self, bank: u32, line: u32, into: &mut [u8; LINE_BYTES]) -> bool
         ensures there { result ≡ is_some (open_burst self.now bank line) }
         ensures copied { into.new ≡ unwrap_or (open_burst self.now bank line) into.old }
     {
