@@ -5,6 +5,7 @@ use Rattle.std.specs.List.{list_any}
 use Rattle.std.specs.Option.{option_map_or}
 use Rattle.std.specs.Str.{bytes_eq}
 use Rattle.toml.specs.Data.{Members, no_members, member}
+use Rattle.ddr_timing.specs.declared.units.TheConstants.{BURST_CLOCKS}
 use Rattle.ddr_timing.specs.declared.error.ConfigError.{ConfigError}
 use Rattle.ddr_timing.specs.declared.error.ConfigError.TheVariants.{Syntax, Missing, UnknownKey, Range, NotPowerOfTwo, Relation}
 use Rattle.ddr_timing.specs.declared.key.Key.{Key}
@@ -51,11 +52,11 @@ not_power_of_two table = find (is_no_power table) keys
 abbrev pub relations : Members → List Bool
 relations table =
     let n = number_of table in
-    nat_le 4 (n CcdS)
+    nat_le BURST_CLOCKS (n CcdS)
     ∷ nat_le (n CcdS) (n CcdL)
     ∷ nat_le (n RrdS) (n RrdL)
-    ∷ (nat_le 4 (n Rtw) && nat_le (n Cl + 4) (n Rtw + n Cwl))
-    ∷ nat_le (max (max (max (n Ras) (n Cwl + 4 + n Wr)) (n Rtp) + n Rp) (n Rfc) + 4) (n Refi)
+    ∷ (nat_le BURST_CLOCKS (n Rtw) && nat_le (n Cl + BURST_CLOCKS) (n Rtw + n Cwl))
+    ∷ nat_le (max (max (max (n Ras) (n Cwl + BURST_CLOCKS + n Wr)) (n Rtp) + n Rp) (n Rfc) + 4) (n Refi)
     ∷ nat_lt (n Low) (n High)
     ∷ nat_le (n High) (n Writes)
     ∷ []

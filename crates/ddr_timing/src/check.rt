@@ -11,6 +11,7 @@ ghost use Rattle.ddr_timing.specs.Refusals.{IsSound, broken_relation, has_unknow
 use crate::error::ConfigError;
 use crate::key::{Domain, Key};
 use crate::table::{is_in, number, value_at};
+use crate::units::BURST_CLOCKS;
 use toml::Table;
 
 /// The first fault of the table, if it has one.
@@ -140,12 +141,12 @@ fn relations(table: &Table) -> [bool; 7]
     let low = number(table, Key::Low);
     let high = number(table, Key::High);
     let writes = number(table, Key::Writes);
-    let precharged = ras.max(cwl + 4 + wr).max(rtp) + rp;
+    let precharged = ras.max(cwl + BURST_CLOCKS + wr).max(rtp) + rp;
     [
-        ccd_s >= 4,
+        ccd_s >= BURST_CLOCKS,
         ccd_l >= ccd_s,
         rrd_l >= rrd_s,
-        rtw >= 4 && rtw + cwl >= cl + 4,
+        rtw >= BURST_CLOCKS && rtw + cwl >= cl + BURST_CLOCKS,
         precharged.max(rfc) + 4 <= refi,
         low < high,
         high <= writes,
