@@ -3,7 +3,7 @@ use Rattle.std.proofs.Common.{◌≡◌, ℕ, ◌+◌, ◌-◌, ◌*◌, ◌/◌
 use Rattle.std.specs.Prelude.{nat_lt, nat_le}
 use Rattle.std.specs.List.{flat_map, list_all}
 use Rattle.std.specs.Fmt.{decimal}
-use Rattle.std.proofs.lemmas.Bool.{le-leb, leb-true, lt-ltb, ltb-true}
+use Rattle.std.proofs.lemmas.Bool.{and_parts, le-leb, leb-true, lt-ltb, ltb-true}
 use Rattle.std.proofs.lemmas.List.{append-nil, length-append, length-map}
 use Rattle.ddr_trace.specs.Reader.{FitsText, IsAnswer, behind_end, entries_of, records_in, trace_of}
 use Rattle.ddr_trace.proofs.ReadLemmas.{Records, end_taken, entry_taken}
@@ -15,13 +15,15 @@ use Rattle.csv.specs.Writing.{default_writer, read_back, row_text}
 use Rattle.csv.specs.declared.parser.State.TheVariants as state
 use Rattle.csv.proofs.RoundTrip.{read-write, rows_text}
 use Rattle.ddr_timing.specs.declared.geometry.Geometry.{Geometry}
+use Rattle.ddr_timing.specs.declared.units.TheConstants.{CLOCK_STOP, LINE_COLUMNS}
 use Rattle.ddr_trace.specs.declared.command.Command.{Command}
 use Rattle.ddr_trace.specs.declared.command.Command.TheVariants.{Act, Rd, Wr, Pre, PreAll, Refresh}
 use Rattle.ddr_trace.specs.declared.command.Entry.{Entry}
 use Rattle.ddr_trace.specs.declared.parse.Parsed.TheVariants as says
-use Rattle.ddr_trace.specs.Parse.{act_of, command_of, end_of, entry_of, index_of, line_of, number_of, pre_of, prea_of, rd_of, record_of, ref_of, with_cycle, wr_of}
+use Rattle.ddr_trace.specs.Parse.{act_of, command_of, end_of, entry_of, index_of, line_of, pre_of, prea_of, rd_of, record_of, ref_of, with_cycle, wr_of}
+use Rattle.ddr_trace.specs.Numbers.{number_of}
 use Rattle.ddr_trace.specs.Rules.{is_bank_in, is_in}
-use Rattle.ddr_trace.specs.Text.{command_fields, end_fields, header, line, trace_text}
+use Rattle.ddr_trace.specs.Text.{command_fields, end_fields, header, record_text, trace_text}
 use Rattle.ddr_trace.specs.Table.{IsPlain}
 use Rattle.ddr_trace.specs.Traces.{Recorded}
 use Rattle.ddr_trace.specs.declared.text.TraceError.{TraceError}
@@ -42,42 +44,42 @@ number_back most n small wide =
 index_back : (n : ℕ) → n < 2 ^ 32 → index_of (decimal n) ≡ Some n
 index_back n small = number_back (2 ^ 32 - 1) n (omega arith) (omega arith)
 
-line_back : (n : ℕ) → n < 2 ^ 29 → line_of (decimal (8 * n)) ≡ Some n
+line_back : (n : ℕ) → n < 2 ^ 29 → line_of (decimal (LINE_COLUMNS * n)) ≡ Some n
 unfolding line_of
 line_back n small =
-    let column = index_back (8 * n) (omega arith) in
-    let whole : (8 * n) % 8 ≡ 0 = omega arith in
-    let back : (8 * n) / 8 ≡ n = omega arith in
+    let column = index_back (LINE_COLUMNS * n) (omega arith) in
+    let whole : (LINE_COLUMNS * n) % LINE_COLUMNS ≡ 0 = omega arith in
+    let back : (LINE_COLUMNS * n) / LINE_COLUMNS ≡ n = omega arith in
     rw (column, whole, back) refl
 
 -- the fields of a command say it
-act_back : (c k g b w : ℕ) → c ≤ 2 ^ 62 → k < 2 ^ 32 → g < 2 ^ 32 → b < 2 ^ 32 → w < 2 ^ 32 → record_of (command_fields c (Act k g b w)) ≡ Some (says.Command (record { cycle = c; command = Act k g b w }))
+act_back : (c k g b w : ℕ) → c ≤ CLOCK_STOP → k < 2 ^ 32 → g < 2 ^ 32 → b < 2 ^ 32 → w < 2 ^ 32 → record_of (command_fields c (Act k g b w)) ≡ Some (says.Command (record { cycle = c; command = Act k g b w }))
 unfolding record_of with_cycle entry_of command_of act_of command_fields
-act_back c k g b w hc hk hg hb hw = rw (number_back (2 ^ 62) c hc (omega arith), index_back k hk, index_back g hg, index_back b hb, index_back w hw) refl
+act_back c k g b w hc hk hg hb hw = rw (number_back CLOCK_STOP c hc (omega arith), index_back k hk, index_back g hg, index_back b hb, index_back w hw) refl
 
-rd_back : (c k g b w l : ℕ) → c ≤ 2 ^ 62 → k < 2 ^ 32 → g < 2 ^ 32 → b < 2 ^ 32 → w < 2 ^ 32 → l < 2 ^ 29 → record_of (command_fields c (Rd k g b w l)) ≡ Some (says.Command (record { cycle = c; command = Rd k g b w l }))
+rd_back : (c k g b w l : ℕ) → c ≤ CLOCK_STOP → k < 2 ^ 32 → g < 2 ^ 32 → b < 2 ^ 32 → w < 2 ^ 32 → l < 2 ^ 29 → record_of (command_fields c (Rd k g b w l)) ≡ Some (says.Command (record { cycle = c; command = Rd k g b w l }))
 unfolding record_of with_cycle entry_of command_of rd_of command_fields
-rd_back c k g b w l hc hk hg hb hw hl = rw (number_back (2 ^ 62) c hc (omega arith), index_back k hk, index_back g hg, index_back b hb, index_back w hw, line_back l hl) refl
+rd_back c k g b w l hc hk hg hb hw hl = rw (number_back CLOCK_STOP c hc (omega arith), index_back k hk, index_back g hg, index_back b hb, index_back w hw, line_back l hl) refl
 
-wr_back : (c k g b w l : ℕ) → c ≤ 2 ^ 62 → k < 2 ^ 32 → g < 2 ^ 32 → b < 2 ^ 32 → w < 2 ^ 32 → l < 2 ^ 29 → record_of (command_fields c (Wr k g b w l)) ≡ Some (says.Command (record { cycle = c; command = Wr k g b w l }))
+wr_back : (c k g b w l : ℕ) → c ≤ CLOCK_STOP → k < 2 ^ 32 → g < 2 ^ 32 → b < 2 ^ 32 → w < 2 ^ 32 → l < 2 ^ 29 → record_of (command_fields c (Wr k g b w l)) ≡ Some (says.Command (record { cycle = c; command = Wr k g b w l }))
 unfolding record_of with_cycle entry_of command_of wr_of command_fields
-wr_back c k g b w l hc hk hg hb hw hl = rw (number_back (2 ^ 62) c hc (omega arith), index_back k hk, index_back g hg, index_back b hb, index_back w hw, line_back l hl) refl
+wr_back c k g b w l hc hk hg hb hw hl = rw (number_back CLOCK_STOP c hc (omega arith), index_back k hk, index_back g hg, index_back b hb, index_back w hw, line_back l hl) refl
 
-pre_back : (c k g b : ℕ) → c ≤ 2 ^ 62 → k < 2 ^ 32 → g < 2 ^ 32 → b < 2 ^ 32 → record_of (command_fields c (Pre k g b)) ≡ Some (says.Command (record { cycle = c; command = Pre k g b }))
+pre_back : (c k g b : ℕ) → c ≤ CLOCK_STOP → k < 2 ^ 32 → g < 2 ^ 32 → b < 2 ^ 32 → record_of (command_fields c (Pre k g b)) ≡ Some (says.Command (record { cycle = c; command = Pre k g b }))
 unfolding record_of with_cycle entry_of command_of pre_of command_fields
-pre_back c k g b hc hk hg hb = rw (number_back (2 ^ 62) c hc (omega arith), index_back k hk, index_back g hg, index_back b hb) refl
+pre_back c k g b hc hk hg hb = rw (number_back CLOCK_STOP c hc (omega arith), index_back k hk, index_back g hg, index_back b hb) refl
 
-prea_back : (c k : ℕ) → c ≤ 2 ^ 62 → k < 2 ^ 32 → record_of (command_fields c (PreAll k)) ≡ Some (says.Command (record { cycle = c; command = PreAll k }))
+prea_back : (c k : ℕ) → c ≤ CLOCK_STOP → k < 2 ^ 32 → record_of (command_fields c (PreAll k)) ≡ Some (says.Command (record { cycle = c; command = PreAll k }))
 unfolding record_of with_cycle entry_of command_of prea_of command_fields
-prea_back c k hc hk = rw (number_back (2 ^ 62) c hc (omega arith), index_back k hk) refl
+prea_back c k hc hk = rw (number_back CLOCK_STOP c hc (omega arith), index_back k hk) refl
 
-ref_back : (c k : ℕ) → c ≤ 2 ^ 62 → k < 2 ^ 32 → record_of (command_fields c (Refresh k)) ≡ Some (says.Command (record { cycle = c; command = Refresh k }))
+ref_back : (c k : ℕ) → c ≤ CLOCK_STOP → k < 2 ^ 32 → record_of (command_fields c (Refresh k)) ≡ Some (says.Command (record { cycle = c; command = Refresh k }))
 unfolding record_of with_cycle entry_of command_of ref_of command_fields
-ref_back c k hc hk = rw (number_back (2 ^ 62) c hc (omega arith), index_back k hk) refl
+ref_back c k hc hk = rw (number_back CLOCK_STOP c hc (omega arith), index_back k hk) refl
 
-end_back : (c : ℕ) → c ≤ 2 ^ 62 → record_of (end_fields c) ≡ Some (says.End c)
+end_back : (c : ℕ) → c ≤ CLOCK_STOP → record_of (end_fields c) ≡ Some (says.End c)
 unfolding record_of with_cycle end_of end_fields
-end_back c hc = rw (number_back (2 ^ 62) c hc (omega arith)) refl
+end_back c hc = rw (number_back CLOCK_STOP c hc (omega arith)) refl
 
 -- each index in a geometry is small
 bank_small : (g : Geometry) (k n b : ℕ) → is_bank_in g k n b ≡ true → (k < 2 ^ 32) × (n < 2 ^ 32) × (b < 2 ^ 32)
@@ -85,23 +87,19 @@ bank_small g k n b h =
     let groups : g.groups ≤ 4 = grind (arith, nat_tests, g.groups_are) in
     (grind (arith, nat_tests), grind (arith, nat_tests, groups), grind (arith, nat_tests))
 
-both : (a b : Bool) → (a && b) ≡ true → (a ≡ true) × (b ≡ true)
-both true b h = (refl, h)
-both false b h = cc h
-
 row_small : (g : Geometry) (p : Bool) (w : ℕ) → (p && nat_lt w g.rows) ≡ true → (p ≡ true) × (w < 2 ^ 32)
 row_small g true w h = (refl, let below = ltb-true _ _ h in omega (arith, g.rows_range))
 row_small g false w h = cc h
 
-line_small : (g : Geometry) (p : Bool) (w l : ℕ) → (p && nat_lt w g.rows && nat_lt l (g.columns / 8)) ≡ true → (p ≡ true) × (w < 2 ^ 32) × (l < 2 ^ 29)
+line_small : (g : Geometry) (p : Bool) (w l : ℕ) → (p && nat_lt w g.rows && nat_lt l (g.columns / LINE_COLUMNS)) ≡ true → (p ≡ true) × (w < 2 ^ 32) × (l < 2 ^ 29)
 line_small g true w l h =
-    let r = both (nat_lt w g.rows) (nat_lt l (g.columns / 8)) h in
+    let r = and_parts (nat_lt w g.rows) (nat_lt l (g.columns / LINE_COLUMNS)) h in
     let row = ltb-true _ _ r.0 in
     let column = ltb-true _ _ r.1 in
     (refl, omega (arith, g.rows_range), omega (arith, g.columns_range))
 line_small g false w l h = cc h
 
-command_back : (g : Geometry) (c : ℕ) (command : Command) → is_in g command ≡ true → c ≤ 2 ^ 62 → record_of (command_fields c command) ≡ Some (says.Command (record { cycle = c; command = command }))
+command_back : (g : Geometry) (c : ℕ) (command : Command) → is_in g command ≡ true → c ≤ CLOCK_STOP → record_of (command_fields c command) ≡ Some (says.Command (record { cycle = c; command = command }))
 command_back g c (Act k n b w) h hc =
     let r = row_small g (is_bank_in g k n b) w h in
     let s = bank_small g k n b r.0 in
@@ -123,14 +121,14 @@ abbrev rows_of : List Entry → ℕ → Records
 rows_of entries end = header ∷ (map (λ e. command_fields e.cycle e.command) entries ++ end_fields end ∷ [])
 
 -- commands that fit, and END, are read as they stand
-entries_back : (g : Geometry) (line : ℕ) (so_far entries : List Entry) (end : ℕ) → length so_far + length entries ≤ 65536 → list_all (λ e. is_in g e.command && nat_le e.cycle (2 ^ 62)) entries ≡ true → end ≤ 2 ^ 62
+entries_back : (g : Geometry) (line : ℕ) (so_far entries : List Entry) (end : ℕ) → length so_far + length entries ≤ 65536 → list_all (λ e. is_in g e.command && nat_le e.cycle CLOCK_STOP) entries ≡ true → end ≤ CLOCK_STOP
     → entries_of line so_far (map (λ e. command_fields e.cycle e.command) entries ++ end_fields end ∷ []) ≡ Ok (record { start = 0; end = end; entries = so_far ++ entries })
 unfolding behind_end
 entries_back g line so_far [] end few within ends =
     end_taken line so_far _ [] (end_fields end) end refl (end_back end ends) ∙ ap (λ es. Ok (record { start = 0; end = end; entries = es })) (sym (append-nil so_far))
 entries_back g line so_far (e ∷ entries) end few within ends =
-    let first = both (is_in g e.command && nat_le e.cycle (2 ^ 62)) _ within in
-    let fits = both (is_in g e.command) _ first.0 in
+    let first = and_parts (is_in g e.command && nat_le e.cycle CLOCK_STOP) _ within in
+    let fits = and_parts (is_in g e.command) _ first.0 in
     let said = command_back g e.cycle e.command fits.0 (leb-true _ _ fits.1) in
     let longer = length-append so_far (e ∷ []) in
     entry_taken line so_far _ _ (command_fields e.cycle e.command) e refl said (omega arith)
@@ -153,7 +151,7 @@ all_read (suc n) (row ∷ rows) few = rw (read-write row (rows_text rows)) (ap (
 small_plain : (n : ℕ) → n < 2 ^ 32 → IsPlain (decimal n)
 small_plain n h = decimal_plain n (omega arith)
 
-command_line : (g : Geometry) (c : ℕ) (command : Command) → is_in g command ≡ true → c ≤ 2 ^ 62 → row_text default_writer (command_fields c command) ≡ line (command_fields c command)
+command_line : (g : Geometry) (c : ℕ) (command : Command) → is_in g command ≡ true → c ≤ CLOCK_STOP → row_text default_writer (command_fields c command) ≡ record_text (command_fields c command)
 unfolding command_fields
 command_line g c (Act k n b w) h hc =
     let r = row_small g (is_bank_in g k n b) w h in
@@ -175,31 +173,31 @@ command_line g c (PreAll k) h hc =
 command_line g c (Refresh k) h hc =
     row_is_line _ _ _ (decimal_plain c (omega arith), (refl, (small_plain k (grind (arith, nat_tests)), (refl, (refl, (refl, (refl, tt)))))))
 
-end_line : (c : ℕ) → c ≤ 2 ^ 62 → row_text default_writer (end_fields c) ≡ line (end_fields c)
+end_line : (c : ℕ) → c ≤ CLOCK_STOP → row_text default_writer (end_fields c) ≡ record_text (end_fields c)
 unfolding end_fields
 end_line c hc = row_is_line _ _ _ (decimal_plain c (omega arith), (refl, (refl, (refl, (refl, (refl, (refl, tt)))))))
 
 -- the text of a trace is the text of its records
-lines_are_rows : (g : Geometry) (entries : List Entry) (end : ℕ) → list_all (λ e. is_in g e.command && nat_le e.cycle (2 ^ 62)) entries ≡ true → end ≤ 2 ^ 62
-    → flat_map (λ e. line (command_fields e.cycle e.command)) entries ++ line (end_fields end) ≡ rows_text (map (λ e. command_fields e.cycle e.command) entries ++ end_fields end ∷ [])
+lines_are_rows : (g : Geometry) (entries : List Entry) (end : ℕ) → list_all (λ e. is_in g e.command && nat_le e.cycle CLOCK_STOP) entries ≡ true → end ≤ CLOCK_STOP
+    → flat_map (λ e. record_text (command_fields e.cycle e.command)) entries ++ record_text (end_fields end) ≡ rows_text (map (λ e. command_fields e.cycle e.command) entries ++ end_fields end ∷ [])
 unfolding rows_text
 lines_are_rows g [] end within ends = sym (append-nil _ ∙ end_line end ends)
 lines_are_rows g (e ∷ entries) end within ends =
-    let first = both (is_in g e.command && nat_le e.cycle (2 ^ 62)) _ within in
-    let fits = both (is_in g e.command) _ first.0 in
-    append_assoc (line (command_fields e.cycle e.command)) _ _
-    ∙ ap (λ (t : List ℕ). line (command_fields e.cycle e.command) ++ t) (lines_are_rows g entries end first.1 ends)
+    let first = and_parts (is_in g e.command && nat_le e.cycle CLOCK_STOP) _ within in
+    let fits = and_parts (is_in g e.command) _ first.0 in
+    append_assoc (record_text (command_fields e.cycle e.command)) _ _
+    ∙ ap (λ (t : List ℕ). record_text (command_fields e.cycle e.command) ++ t) (lines_are_rows g entries end first.1 ends)
     ∙ ap (λ (t : List ℕ). t ++ rows_text (map (λ e. command_fields e.cycle e.command) entries ++ end_fields end ∷ [])) (sym (command_line g e.cycle e.command fits.0 (leb-true _ _ fits.1)))
 
 text_is_rows : (g : Geometry) (entries : List Entry) (end : ℕ) → FitsText g entries end → trace_text entries end ≡ rows_text (rows_of entries end)
-unfolding rows_text trace_text line header end_fields
+unfolding rows_text trace_text record_text header end_fields
 text_is_rows g entries end fits =
-    ap (λ (t : List ℕ). line header ++ t) (lines_are_rows g entries end fits.within fits.ends)
+    ap (λ (t : List ℕ). record_text header ++ t) (lines_are_rows g entries end fits.within fits.ends)
     ∙ ap (λ (t : List ℕ). t ++ rows_text (map (λ e. command_fields e.cycle e.command) entries ++ end_fields end ∷ [])) (sym header_is_line)
 
 -- it begins with no byte order mark
 no_mark : (entries : List Entry) (end : ℕ) → strip_bom (trace_text entries end) ≡ trace_text entries end
-unfolding trace_text line header strip_bom
+unfolding trace_text record_text header strip_bom
 no_mark entries end = refl
 
 -- no record of it is one of no fields

@@ -4,8 +4,10 @@ pub mod BusLemmas
 pub mod Earlier
 pub mod CountedLemmas
 pub mod FaultLemmas
+pub mod FieldLemmas
 pub mod LowestLemmas
 pub mod NumberLemmas
 pub mod ReadLemmas
+pub mod RefusalLemmas
 pub mod TextLemmas
 pub mod WindowLemmas

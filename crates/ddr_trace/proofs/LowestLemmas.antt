@@ -1,5 +1,5 @@
 -- The lowest rule that passes a test.
-use Rattle.std.proofs.Common.{◌≡◌, ℕ, zero, suc, ◌+◌, ◌<◌, ◌≤◌, length, take, take_all, get_or, Bool, true, false, cond, List, [], ◌∷◌, Option, Some, None, refl, sym, add-one, arith, ◌∙◌}
+use Rattle.std.proofs.Common.{◌≡◌, ℕ, zero, suc, ◌+◌, ◌<◌, ◌≤◌, length, take, take_all, get_or, Bool, true, false, List, [], ◌∷◌, Some, None, refl, sym, add-one, arith}
 use Rattle.std.specs.List.{find, AllByRecursion}
 use Rattle.ddr_trace.specs.declared.rule.Rule.{Rule}
 use Rattle.ddr_trace.specs.declared.rule.Rule.TheVariants as rule

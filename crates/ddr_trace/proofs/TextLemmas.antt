@@ -9,7 +9,7 @@ use Rattle.std.specs.Fmt.{decimal}
 use Rattle.csv.specs.Writing.{default_writer, row_text, fields_text, field_text, is_blank, needs_byte, writer_setup}
 use Rattle.csv.specs.declared.writer.Writer.{Writer}
 use Rattle.csv.specs.declared.writer.QuoteStyle.TheVariants as style
-use Rattle.ddr_trace.specs.Text.{line, header}
+use Rattle.ddr_trace.specs.Text.{record_text, header}
 use Rattle.ddr_trace.specs.Table.{IsPlain}
 
 digit_plain : (n : ℕ) → n < 10 → needs_byte default_writer (48 + n) ≡ false
@@ -40,8 +40,8 @@ fields_plain f (g ∷ gs) p =
     ap (λ rest. f ++ 44 ∷ rest) (ap (λ text. text ++ fields_text default_writer gs) (plain_text g p.0) ∙ fields_plain g gs p.1)
 
 -- a record of plain fields is a line
-pub row_is_line : (f g : List ℕ) (fs : List (List ℕ)) → AllPlain (f ∷ g ∷ fs) → row_text default_writer (f ∷ g ∷ fs) ≡ line (f ∷ g ∷ fs)
-unfolding line is_blank
+pub row_is_line : (f g : List ℕ) (fs : List (List ℕ)) → AllPlain (f ∷ g ∷ fs) → row_text default_writer (f ∷ g ∷ fs) ≡ record_text (f ∷ g ∷ fs)
+unfolding record_text is_blank
 row_is_line f g fs p =
     ap (λ body. body ++ 10 ∷ [])
     (ap (λ text. text ++ fields_text default_writer (g ∷ fs)) (plain_text f p.0) ∙ fields_plain f (g ∷ fs) p.1)
@@ -65,7 +65,7 @@ pub fields_joined : (none one two more all : List (List ℕ)) (cycle partial nam
 fields_joined none one two more all cycle partial name numbers empty e0 e1 ep e2 e3 e4 = rw (e4, e3, e2, e1, e0, ep)
 
 -- the header's names are plain
-pub header_is_line : row_text default_writer header ≡ line header
+pub header_is_line : row_text default_writer header ≡ record_text header
 unfolding header
 header_is_line =
     let plain : AllPlain header = (refl, (refl, (refl, (refl, (refl, (refl, (refl, tt))))))) in

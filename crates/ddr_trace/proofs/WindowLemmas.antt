@@ -1,6 +1,5 @@
 -- The rules on cycles and on refresh, as the newest entry joins the history.
-use Rattle.std.proofs.Common.{◌≡◌, ℕ, ◌+◌, ◌*◌, ◌-◌, Bool, true, false, ◌&&◌, nat_lt, List, [], ◌∷◌, ◌++◌, refl, arith, sym, ◌∙◌}
-use Rattle.std.proofs.lemmas.Bool.Decides.{nat_tests}
+use Rattle.std.proofs.Common.{◌≡◌, ℕ, ◌+◌, ◌*◌, Bool, true, false, ◌&&◌, nat_lt, List, [], ◌∷◌, ◌++◌, refl, sym, ◌∙◌}
 use Rattle.ddr_timing.specs.declared.timing.Timing.{Timing}
 use Rattle.ddr_trace.specs.declared.command.Entry.{Entry}
 use Rattle.ddr_trace.specs.Commands.{is_activate, is_refresh, is_same_rank}
@@ -75,7 +74,3 @@ pub gap_skip : (t : Timing) (e : Entry) (all history before : List Entry) (x : E
 gap_skip t e all history before x so_far split other =
     so_far ∙ rw split
     (counted_skip (λ a. is_refresh a.command && is_refresh e.command && is_same_rank a.command e.command) (is_rank_refresh e) (λ a. nat_lt (a.cycle + 9 * t.refi) e.cycle) 0 before x (sym other) (split_false (is_refresh x.command) (is_refresh e.command) (is_same_rank x.command e.command) (sym other)))
-
--- the distance taken the other way round
-pub above_by : (span first last : ℕ) → nat_lt span (last - first) ≡ nat_lt (first + span) last
-above_by span first last = grind (arith, nat_tests)

@@ -1,7 +1,12 @@
 -- Kinds of commands, and which banks two commands share.
 use Rattle.std.specs.Prelude.{ℕ, Bool, true, false, ◌&&◌, ◌||◌, not, ◌==◌}
 use Rattle.ddr_trace.specs.declared.command.Command.{Command}
+use Rattle.ddr_trace.specs.declared.command.Entry.{Entry}
 use Rattle.ddr_trace.specs.declared.command.Command.TheVariants.{Act, Rd, Wr, Pre, PreAll, Refresh}
+
+-- the command on the bus in that cycle
+abbrev pub entry : ℕ → Command → Entry
+entry cycle command = record { cycle = cycle; command = command }
 
 abbrev pub is_activate : Command → Bool
 is_activate (Act rank group bank row) = true

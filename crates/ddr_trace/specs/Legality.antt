@@ -15,6 +15,10 @@ lowest_rule test = find test ALL
 abbrev pub lowest_broken : Config → ℕ → ℕ → List Entry → Entry → Option Rule
 lowest_broken c start end history e = lowest_rule (λ r. is_on_commands r && breaks c start end r history e)
 
+-- the entry breaks no rule on commands
+abbrev pub KeepsRules : Config → ℕ → ℕ → List Entry → Entry → Type 0
+KeepsRules c start end history e = (r : Rule) → is_on_commands r ≡ true → breaks c start end r history e ≡ false
+
 -- REF_LATE is broken at the end of the trace too
 abbrev pub breaks_at_end : Config → ℕ → ℕ → List Entry → Rule → Bool
 breaks_at_end c start end entries rule.RefLate = ends_late c.timing start end entries

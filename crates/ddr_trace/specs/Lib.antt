@@ -6,5 +6,6 @@ pub mod Names
 pub mod Table
 pub mod Text
 pub mod Traces
+pub mod Numbers
 pub mod Parse
 pub mod Reader

@@ -1,38 +1,29 @@
 -- One record of a trace's text behind its header: seven fields, and the command or the END that they say.
-use Rattle.std.specs.Prelude.{ℕ, ◌-◌, ◌^◌, ◌/◌, ◌%◌, ◌==◌, Bool, false, ◌&&◌, nat_lt, nat_le, if◌then◌else◌, List, [], ◌∷◌, length, get_or, codes, Option, Some, None, option_and_then}
-use Rattle.std.specs.Char.{is_ascii_digit}
-use Rattle.std.specs.List.{list_all}
+use Rattle.std.specs.Prelude.{ℕ, ◌-◌, ◌^◌, ◌/◌, ◌%◌, ◌==◌, Bool, false, ◌&&◌, if◌then◌else◌, List, [], ◌∷◌, length, get_or, codes, Option, Some, None, option_and_then}
 use Rattle.std.specs.Str.{bytes_eq}
-use Rattle.std.specs.Str.Parse.{digits_value}
+use Rattle.ddr_timing.specs.declared.units.TheConstants.{CLOCK_STOP, LINE_COLUMNS}
 use Rattle.ddr_trace.specs.declared.command.Command.{Command}
 use Rattle.ddr_trace.specs.declared.command.Command.TheVariants.{Act, Rd, Wr, Pre, PreAll, Refresh}
 use Rattle.ddr_trace.specs.declared.parse.Parsed.{Parsed}
 use Rattle.ddr_trace.specs.declared.parse.Parsed.TheVariants as says
+use Rattle.ddr_trace.specs.Numbers.{number_of}
 
 infixl 10 ◌>>=◌
 abbrev pub ◌>>=◌ : {A B : Type 0} → Option A → (A → Option B) → Option B
 o >>= f = option_and_then f o
 
--- 1 to 20 decimal digits, leading zeros among them, of a number that is at most `most`
-abbrev pub is_number : ℕ → List ℕ → Bool
-is_number most field =
-    nat_lt 0 (length field) && nat_le (length field) 20 && list_all is_ascii_digit field && nat_le (digits_value 10 field) most
-
-unfoldable pub number_of : ℕ → List ℕ → Option ℕ
-number_of most field = if is_number most field then Some (digits_value 10 field) else None
-
--- a cycle is at most 2^62, another number is below 2^32
+-- a cycle is at most the one at which a clock stops, another number is below 2^32
 abbrev pub cycle_of : List ℕ → Option ℕ
-cycle_of field = number_of (2 ^ 62) field
+cycle_of field = number_of CLOCK_STOP field
 
 abbrev pub index_of : List ℕ → Option ℕ
 index_of field = number_of (2 ^ 32 - 1) field
 
--- a line is 8 device columns, and a burst begins at a line
+-- a burst begins at a line
 unfoldable pub line_of : List ℕ → Option ℕ
 line_of field = do
   column ← index_of field
-  if column % 8 == 0 then Some (column / 8) else None
+  if column % LINE_COLUMNS == 0 then Some (column / LINE_COLUMNS) else None
 
 abbrev pub is_empty : List ℕ → Bool
 is_empty field = length field == 0

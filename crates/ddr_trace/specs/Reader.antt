@@ -1,7 +1,8 @@
 -- The text of a trace, read: a header, the commands, END, and nothing behind it. A line counts records from 1.
-use Rattle.std.specs.Prelude.{◌≡◌, ℕ, ◌+◌, ◌^◌, ◌≤◌, ◌==◌, ◌&&◌, nat_le, true, if◌then◌else◌, List, [], ◌∷◌, ◌++◌, length, Option, Some, None, Result, Ok, Err}
+use Rattle.std.specs.Prelude.{◌≡◌, ℕ, ◌+◌, ◌≤◌, ◌==◌, ◌&&◌, nat_le, true, if◌then◌else◌, List, [], ◌∷◌, ◌++◌, length, Option, Some, None, Result, Ok, Err}
 use Rattle.std.specs.List.{list_all}
 use Rattle.ddr_timing.specs.declared.geometry.Geometry.{Geometry}
+use Rattle.ddr_timing.specs.declared.units.TheConstants.{CLOCK_STOP}
 use Rattle.csv.specs.Reading.{default_config, records_from, strip_bom}
 use Rattle.csv.specs.declared.parser.State.TheVariants as state
 use Rattle.ddr_trace.specs.declared.command.Entry.{Entry}
@@ -51,8 +52,9 @@ IsAnswer said answer = answer ≡ said
 abbrev pub FailsAs : Result Recorded TraceError → TraceError → Type 0
 FailsAs said fault = IsAnswer said (Err fault)
 
--- what a text carries there and back: at most 65,536 commands, each in the geometry, and no cycle above 2^62
+-- what a text carries there and back: at most 65,536 commands, each in the geometry, and no cycle behind the one at
+-- which a clock stops
 pub record FitsText (g : Geometry) (entries : List Entry) (end : ℕ) : Type 0 where
   pub few : length entries ≤ 65536
-  pub within : list_all (λ e. is_in g e.command && nat_le e.cycle (2 ^ 62)) entries ≡ true
-  pub ends : end ≤ 2 ^ 62
+  pub within : list_all (λ e. is_in g e.command && nat_le e.cycle CLOCK_STOP) entries ≡ true
+  pub ends : end ≤ CLOCK_STOP

@@ -1,50 +1,10 @@
-//! Rules on one command: its place, and the state of its bank.
+//! Rules on the state of banks: whether a bank is active, and with which row.
 ghost use Rattle.std.specs.Prelude.{◌≡◌, ◌&&◌, ◌||◌, IsTrue};
 ghost use Rattle.std.specs.List.{list_any};
 ghost use Rattle.ddr_trace.specs.Commands.{is_activate, is_column, is_precharge, is_same_bank};
-ghost use Rattle.ddr_trace.specs.Rules.{breaks_row, breaks_state, is_bank_active, is_bank_in, is_in, is_rank_active, is_row_open, stands_open};
+ghost use Rattle.ddr_trace.specs.Rules.{breaks_row, breaks_state, is_bank_active, is_rank_active, is_row_open, stands_open};
 
 use crate::command::{Command, Entry};
-use ddr_timing::geometry::Geometry;
-use ddr_timing::units::{GROUP_BANKS, LINE_COLUMNS};
-
-/// Whether the command's rank is 0 and its group, bank, row and line lie in the geometry.
-pub(crate) fn is_in(geometry: &Geometry, command: &Command) -> bool
-    ensures { result ≡ is_in geometry.now command.now }
-{
-    let lines = geometry.columns / LINE_COLUMNS;
-    match *command {
-        Command::Act {
-            rank,
-            group,
-            bank,
-            row,
-        } => is_bank_in(geometry, rank, group, bank) && row < geometry.rows,
-        Command::Rd {
-            rank,
-            group,
-            bank,
-            row,
-            line,
-        }
-        | Command::Wr {
-            rank,
-            group,
-            bank,
-            row,
-            line,
-        } => is_bank_in(geometry, rank, group, bank) && row < geometry.rows && line < lines,
-        Command::Pre { rank, group, bank } => is_bank_in(geometry, rank, group, bank),
-        Command::PreAll { rank } | Command::Refresh { rank } => rank == 0,
-    }
-}
-
-/// Whether there is such a bank.
-fn is_bank_in(geometry: &Geometry, rank: u32, group: u32, bank: u32) -> bool
-    ensures { result ≡ is_bank_in geometry.now rank group bank }
-{
-    rank == 0 && group < geometry.groups && bank < GROUP_BANKS
-}
 
 /// Whether an ACT finds its bank active, a read or a write finds it idle, or a REF finds some bank active.
 pub(crate) fn breaks_state(history: &[Entry], command: &Command) -> bool

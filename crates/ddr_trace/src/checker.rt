@@ -95,7 +95,7 @@ fn breaks(
     let timing = &config.timing;
     match rule {
         Rule::Order => window::breaks_order(history, entry, start, end),
-        Rule::Place => !banks::is_in(&config.geometry, &entry.command),
+        Rule::Place => !entry.command.is_in(&config.geometry),
         Rule::State => banks::breaks_state(history, &entry.command),
         Rule::Row => banks::breaks_row(history, &entry.command),
         Rule::Faw => window::breaks_faw(history, entry, timing),

@@ -1,6 +1,10 @@
 //! Commands on a channel's command bus.
 ghost use Rattle.std.specs.Prelude.{◌≡◌, ◌+◌, ◌&&◌, ◌==◌, nat_lt};
 ghost use Rattle.ddr_trace.specs.Commands.{bank_of, group_of, is_activate, is_column, is_of_all_banks, is_other_bank, is_other_group, is_precharge, is_read, is_refresh, is_same_bank, is_same_group, is_same_kind, is_same_rank, is_write, rank_of, row_of};
+ghost use Rattle.ddr_trace.specs.Rules.{is_bank_in, is_in};
+
+use ddr_timing::geometry::Geometry;
+use ddr_timing::units::{GROUP_BANKS, LINE_COLUMNS};
 
 /// A DDR4 command (JESD79-4, "Command truth table"), with the place that it is for.
 #[derive(Clone, Copy, Debug, PartialEq, Eq)]
@@ -52,6 +56,37 @@ pub struct Entry {
 }
 
 impl Command {
+    /// Whether the command's rank is 0 and its group, bank, row and line lie in the geometry.
+    pub fn is_in(&self, geometry: &Geometry) -> bool
+        ensures { result ≡ is_in geometry.now self.now }
+    {
+        let lines = geometry.columns / LINE_COLUMNS;
+        match *self {
+            Command::Act {
+                rank,
+                group,
+                bank,
+                row,
+            } => is_bank_in(geometry, rank, group, bank) && row < geometry.rows,
+            Command::Rd {
+                rank,
+                group,
+                bank,
+                row,
+                line,
+            }
+            | Command::Wr {
+                rank,
+                group,
+                bank,
+                row,
+                line,
+            } => is_bank_in(geometry, rank, group, bank) && row < geometry.rows && line < lines,
+            Command::Pre { rank, group, bank } => is_bank_in(geometry, rank, group, bank),
+            Command::PreAll { rank } | Command::Refresh { rank } => rank == 0,
+        }
+    }
+
     pub(crate) fn is_activate(&self) -> bool
         ensures { result ≡ is_activate self.now }
     {
@@ -227,4 +262,11 @@ impl Entry {
             None => true,
         }
     }
+}
+
+/// Whether there is such a bank.
+fn is_bank_in(geometry: &Geometry, rank: u32, group: u32, bank: u32) -> bool
+    ensures { result ≡ is_bank_in geometry.now rank group bank }
+{
+    rank == 0 && group < geometry.groups && bank < GROUP_BANKS
 }

@@ -3,14 +3,17 @@
 //!
 //! Below stands `ddr_timing`. `command` is one command with its cycle; `rule` names the rules, which
 //! `specs/Rules.antt` defines; `checker` finds the first fault, over `banks`, `spacing` and `window`, one for each
-//! kind of rule; `trace` is a whole trace; `text` writes one, and `reader` reads one, record by record with `parse`.
+//! kind of rule; `refresh` says when a REF comes too late; `trace` is a whole trace; `text` writes one, and
+//! `reader` reads one, record by record with `parse`; `number` reads decimal digits.
 #![tactic(auto)]
 
 mod banks;
 pub mod checker;
 pub mod command;
+pub mod number;
 mod parse;
 pub mod reader;
+pub mod refresh;
 pub mod rule;
 mod spacing;
 #[cfg(test)]

@@ -1,27 +1,18 @@
 //! One record of a trace's text behind its header: a command with its cycle, or END.
 //!
-//! `specs/Parse.antt` has the fields of each command. `reader` stands above, which reads a text of records.
-ghost use Rattle.std.specs.Prelude.{◌≡◌, ◌≤◌, ◌&&◌, [], IfSome, get_or, length, true};
-ghost use Rattle.std.specs.Char.{is_ascii_digit};
-ghost use Rattle.std.specs.List.{list_all};
+//! `specs/Parse.antt` has the fields of each command. `number` stands below, and `reader` above, which reads a text of
+//! records.
+ghost use Rattle.std.specs.Prelude.{◌≡◌, ◌&&◌, [], get_or};
 ghost use Rattle.csv.specs.Records.{fields_of};
-ghost use Rattle.ddr_trace.specs.Parse.{act_of, are_empty, command_of, index_of, is_empty, is_header, line_of, number_of, pre_of, prea_of, rd_of, record_of, ref_of, seven_of, wr_of};
+ghost use Rattle.ddr_trace.specs.Parse.{act_of, are_empty, command_of, index_of, is_empty, is_header, line_of, pre_of, prea_of, rd_of, record_of, ref_of, seven_of, wr_of};
 
 use crate::command::{Command, Entry};
+use crate::number::parse_number;
 use csv::ByteRecord;
-use std::str;
-
-/// The last cycle that a trace may name.
-const LAST_CYCLE: u64 = 1 << 62;
-
-/// The most digits of a number.
-const MOST_DIGITS: usize = 20;
+use ddr_timing::units::{CLOCK_STOP, LINE_COLUMNS};
 
 /// The fields of a record.
 const FIELDS: usize = 7;
-
-/// Device columns in a line of 64 bytes.
-const COLUMNS_OF_A_LINE: u32 = 8;
 
 /// What a record behind the header says.
 #[derive(Clone, Copy, Debug, PartialEq, Eq)]
@@ -33,7 +24,7 @@ pub(crate) enum Parsed {
 
 /// The fields that say where a command goes.
 #[derive(Clone, Copy)]
-struct Place<'a> {
+struct Address<'a> {
     rank: &'a [u8],
     group: &'a [u8],
     bank: &'a [u8],
@@ -42,7 +33,7 @@ struct Place<'a> {
 }
 
 /// Whether the record is the header.
-#[tactic(auto, using(crate::proofs::NumberLemmas::header_by_seven, crate::proofs::NumberLemmas::header_not_seven))]
+#[tactic(auto, using(crate::proofs::FieldLemmas::header_by_seven, crate::proofs::FieldLemmas::header_not_seven))]
 pub(crate) fn is_header(fields: &ByteRecord) -> bool
     ensures { result ≡ is_header (fields_of fields.now) }
 {
@@ -63,7 +54,7 @@ fn names_columns(fields: &ByteRecord) -> bool
 }
 
 /// What the record says; none where it is not one of a trace.
-#[tactic(auto, using(crate::proofs::NumberLemmas::record_by_seven, crate::proofs::NumberLemmas::record_not_seven))]
+#[tactic(auto, using(crate::proofs::FieldLemmas::record_by_seven, crate::proofs::FieldLemmas::record_not_seven))]
 pub(crate) fn parse_record(fields: &ByteRecord) -> Option<Parsed>
     ensures { result ≡ record_of (fields_of fields.now) }
 {
@@ -78,9 +69,9 @@ pub(crate) fn parse_record(fields: &ByteRecord) -> Option<Parsed>
 fn parse_seven(fields: &ByteRecord) -> Option<Parsed>
     ensures { result ≡ record_of (seven_of (fields_of fields.now)) }
 {
-    let cycle = number(field(fields, 0), LAST_CYCLE)?;
+    let cycle = parse_number(field(fields, 0), CLOCK_STOP)?;
     let name = field(fields, 1);
-    let place = Place {
+    let address = Address {
         rank: field(fields, 2),
         group: field(fields, 3),
         bank: field(fields, 4),
@@ -88,24 +79,24 @@ fn parse_seven(fields: &ByteRecord) -> Option<Parsed>
         column: field(fields, 6),
     };
     if name == b"END".as_slice() {
-        return place.is_empty().then_some(Parsed::End(cycle));
+        return address.is_empty().then_some(Parsed::End(cycle));
     }
-    let command = place.command(name)?;
+    let command = address.command(name)?;
     Some(Parsed::Command(Entry { cycle, command }))
 }
 
-#[tactic(auto, using(crate::proofs::NumberLemmas::field_there, crate::proofs::NumberLemmas::field_absent))]
-/// The field at a place, counted from 0; empty where there is none.
-fn field(fields: &ByteRecord, place: usize) -> &[u8]
-    ensures { result.now ≡ get_or (fields_of fields.now) place [] }
+#[tactic(auto, using(crate::proofs::FieldLemmas::field_there, crate::proofs::FieldLemmas::field_absent))]
+/// The field of this number, counted from 0; empty where there is none.
+fn field(fields: &ByteRecord, number: usize) -> &[u8]
+    ensures { result.now ≡ get_or (fields_of fields.now) number [] }
 {
-    match fields.get(place) {
+    match fields.get(number) {
         Some(field) => field,
         None => b"",
     }
 }
 
-impl Place<'_> {
+impl Address<'_> {
     /// The command of this name; none where there is none of it, or a field is not as it wants it.
     #[tactic(auto, unfolding(crate::specs::Parse::command_of))]
     fn command(&self, name: &[u8]) -> Option<Command>
@@ -218,48 +209,13 @@ fn line(field: &[u8]) -> Option<u32>
     ensures { result ≡ line_of field.now }
 {
     let column = index(field)?;
-    (column % COLUMNS_OF_A_LINE == 0).then_some(column / COLUMNS_OF_A_LINE)
+    (column % LINE_COLUMNS == 0).then_some(column / LINE_COLUMNS)
 }
 
 /// A rank, a group, a bank, a row or a column: a number below 2^32.
 fn index(field: &[u8]) -> Option<u32>
     ensures { result ≡ index_of field.now }
 {
-    let index = number(field, u64::from(u32::MAX))?;
+    let index = parse_number(field, u64::from(u32::MAX))?;
     Some(index as u32)
-}
-
-/// The number that the field spells: 1 to 20 decimal digits, at most `most`.
-#[tactic(auto, unfolding(crate::specs::Parse::number_of))]
-fn number(field: &[u8], most: u64) -> Option<u64>
-    ensures exact { result ≡ number_of most field.now }
-    ensures small { IfSome result (λ number. number ≤ most) }
-{
-    if field.len() > MOST_DIGITS || !is_digits(field) {
-        return None;
-    }
-    match str::from_utf8(field) {
-        Ok(text) => parse_at_most(text, most),
-        Err(_) => None,
-    }
-}
-
-/// The number that the digits spell, where it is at most `most`.
-#[tactic(auto, unfolding(crate::specs::Parse::number_of))]
-fn parse_at_most(digits: &str, most: u64) -> Option<u64>
-    requires digits { list_all is_ascii_digit digits.now ≡ true }
-    requires few { length digits.now ≤ MOST_DIGITS }
-    ensures exact { result ≡ number_of most digits.now }
-    ensures small { IfSome result (λ number. number ≤ most) }
-{
-    match digits.parse::<u64>() {
-        Ok(number) => (number <= most).then_some(number),
-        Err(_) => None,
-    }
-}
-
-fn is_digits(field: &[u8]) -> bool
-    ensures { result ≡ list_all is_ascii_digit field.now }
-{
-    field.iter().all(|byte| byte.is_ascii_digit())
 }

@@ -60,10 +60,10 @@ pub fn read_trace<R: Read + Drop>(alloc: Global, reader: R) -> Result<Trace, Tra
 fn read_header<R: Read>(table: &mut Reader<R>, fields: &mut ByteRecord) -> Result<(), TraceError>
     requires { IsReading table.old }
     ensures reading { OnOk result (IsReading table.new) }
-    ensures header { OnOk result ((n : ℕ) (rows : List (List (List ℕ))) → HasLeft R.remaining table.old (suc n) rows
-        → (rest : List (List (List ℕ))) × (trace_of rows ≡ entries_of FIRST_LINE [] rest) × HasLeft R.remaining table.new n rest) }
-    ensures fault { IfErr result (λ e. (n : ℕ) (rows : List (List (List ℕ))) → HasLeft R.remaining table.old (suc n) rows
-        → FailsAs (trace_of rows) e) }
+    ensures header { OnOk result ((n : ℕ) (records : List (List (List ℕ))) → HasLeft R.remaining table.old (suc n) records
+        → (rest : List (List (List ℕ))) × (trace_of records ≡ entries_of FIRST_LINE [] rest) × HasLeft R.remaining table.new n rest) }
+    ensures fault { IfErr result (λ e. (n : ℕ) (records : List (List (List ℕ))) → HasLeft R.remaining table.old (suc n) records
+        → FailsAs (trace_of records) e) }
 {
     if !next(table, fields)? {
         return Err(TraceError::Header);
@@ -84,11 +84,11 @@ fn read_entries<R: Read>(
     requires none { entries.old.items ≡ [] }
     ensures reading { OnOk result (IsReading table.new) }
     ensures few { OnOk result (length entries.new.items ≤ 65536) }
-    ensures taken { IfOk result (λ end. (rows : List (List (List ℕ))) → HasLeft R.remaining table.old 65538 rows
+    ensures taken { IfOk result (λ end. (records : List (List (List ℕ))) → HasLeft R.remaining table.old 65538 records
         → (n : ℕ) × (rest : List (List (List ℕ))) × HasLeft R.remaining table.new (suc n) rest
-        × (entries_of FIRST_LINE [] rows ≡ behind_end (length entries.new.items + 3) (record { start = 0; end = end; entries = entries.new.items }) rest)) }
-    ensures fault { IfErr result (λ e. (rows : List (List (List ℕ))) → HasLeft R.remaining table.old 65538 rows
-        → FailsAs (entries_of FIRST_LINE [] rows) e) }
+        × (entries_of FIRST_LINE [] records ≡ behind_end (length entries.new.items + 3) (record { start = 0; end = end; entries = entries.new.items }) rest)) }
+    ensures fault { IfErr result (λ e. (records : List (List (List ℕ))) → HasLeft R.remaining table.old 65538 records
+        → FailsAs (entries_of FIRST_LINE [] records) e) }
 {
     for line in FIRST_LINE..LINE_TOO_FAR {
         match read_record(table, fields, line)? {
@@ -110,11 +110,11 @@ fn read_record<R: Read>(
 ) -> Result<Parsed, TraceError>
     requires { IsReading table.old }
     ensures reading { OnOk result (IsReading table.new) }
-    ensures said { IfOk result (λ said. (n : ℕ) (rows : List (List (List ℕ))) → HasLeft R.remaining table.old (suc n) rows
+    ensures said { IfOk result (λ said. (n : ℕ) (records : List (List (List ℕ))) → HasLeft R.remaining table.old (suc n) records
         → (first : List (List ℕ)) × (rest : List (List (List ℕ)))
-        × (rows ≡ first ∷ rest) × (record_of first ≡ Some said) × HasLeft R.remaining table.new n rest) }
-    ensures fault { IfErr result (λ e. (n : ℕ) (rows : List (List (List ℕ))) (so_far : List Entry) → HasLeft R.remaining table.old (suc n) rows
-        → FailsAs (entries_of line so_far rows) e) }
+        × (records ≡ first ∷ rest) × (record_of first ≡ Some said) × HasLeft R.remaining table.new n rest) }
+    ensures fault { IfErr result (λ e. (n : ℕ) (records : List (List (List ℕ))) (so_far : List Entry) → HasLeft R.remaining table.old (suc n) records
+        → FailsAs (entries_of line so_far records) e) }
 {
     if !next(table, fields)? {
         return Err(TraceError::Truncated);
@@ -132,9 +132,9 @@ fn read_nothing<R: Read>(
     line: u64,
 ) -> Result<(), TraceError>
     requires { IsReading table.old }
-    ensures nothing { OnOk result ((n : ℕ) (rows : List (List (List ℕ))) → HasLeft R.remaining table.old (suc n) rows → rows ≡ []) }
-    ensures fault { IfErr result (λ e. (n : ℕ) (rows : List (List (List ℕ))) (trace : Recorded) → HasLeft R.remaining table.old (suc n) rows
-        → FailsAs (behind_end line trace rows) e) }
+    ensures nothing { OnOk result ((n : ℕ) (records : List (List (List ℕ))) → HasLeft R.remaining table.old (suc n) records → records ≡ []) }
+    ensures fault { IfErr result (λ e. (n : ℕ) (records : List (List (List ℕ))) (trace : Recorded) → HasLeft R.remaining table.old (suc n) records
+        → FailsAs (behind_end line trace records) e) }
 {
     if !next(table, fields)? {
         return Ok(());

@@ -7,10 +7,11 @@ ghost use Rattle.std.specs.Io.KnownBytes.{Appends};
 ghost use Rattle.csv.specs.Records.{fields_of, partial_of};
 ghost use Rattle.ddr_trace.specs.declared.text.TraceError.TheVariants.{OutOfMemory};
 ghost use Rattle.ddr_trace.specs.Text.{command_fields, header, trace_text};
-ghost use Rattle.ddr_trace.specs.Table.{AddsLine, IsPlain, IsReady};
+ghost use Rattle.ddr_trace.specs.Table.{AddsRecord, IsPlain, IsReady};
 
 use crate::command::{Command, Entry};
 use csv::{ByteRecord, Writer, WriterBuilder};
+use ddr_timing::units::LINE_COLUMNS;
 use std::alloc::{AllocError, AllocFailed, Global};
 use std::io::Write;
 use thiserror::Error;
@@ -90,7 +91,7 @@ fn trace_text(alloc: Global, entries: &[Entry], end: u64) -> Result<Vec<u8>, Tra
 
 fn write_header(table: &mut Writer<Vec<u8>>) -> Result<(), TraceError>
     requires { IsReady table.old }
-    ensures text { OnOk result (AddsLine (λ v. Some v.items) table.old table.new header) }
+    ensures text { OnOk result (AddsRecord (λ v. Some v.items) table.old table.new header) }
     ensures ready { OnOk result (IsReady table.new) }
     ensures refused { IsOkUnless result OutOfMemory }
 {
@@ -103,7 +104,7 @@ fn write_header(table: &mut Writer<Vec<u8>>) -> Result<(), TraceError>
 
 fn write_entry(alloc: Global, table: &mut Writer<Vec<u8>>, entry: &Entry) -> Result<(), TraceError>
     requires { IsReady table.old }
-    ensures text { OnOk result (AddsLine (λ v. Some v.items) table.old table.new
+    ensures text { OnOk result (AddsRecord (λ v. Some v.items) table.old table.new
         (command_fields entry.now.cycle entry.now.command)) }
     ensures ready { OnOk result (IsReady table.new) }
     ensures refused { IsOkUnless result OutOfMemory }
@@ -157,16 +158,16 @@ fn write_entry(alloc: Global, table: &mut Writer<Vec<u8>>, entry: &Entry) -> Res
     }
 }
 
-/// The numbers of a read or a write; a line is 8 device columns.
+/// The numbers of a read or a write.
 fn column_numbers(rank: u32, group: u32, bank: u32, row: u32, line: u32) -> [u64; 5]
-    ensures { result ≡ rank ∷ group ∷ bank ∷ row ∷ 8 * line ∷ [] }
+    ensures { result ≡ rank ∷ group ∷ bank ∷ row ∷ LINE_COLUMNS * line ∷ [] }
 {
     [
         u64::from(rank),
         u64::from(group),
         u64::from(bank),
         u64::from(row),
-        8 * u64::from(line),
+        u64::from(LINE_COLUMNS) * u64::from(line),
     ]
 }
 
@@ -181,56 +182,56 @@ fn write_record(
     requires ready { IsReady table.old }
     requires plain { IsPlain name.now }
     requires few { length numbers.now ≤ 5 }
-    ensures text { OnOk result (AddsLine (λ v. Some v.items) table.old table.new
+    ensures text { OnOk result (AddsRecord (λ v. Some v.items) table.old table.new
         (decimal cycle ∷ name.now ∷ (map decimal numbers.now ++ replicate (5 - length numbers.now) []))) }
     ensures ready { OnOk result (IsReady table.new) }
     ensures refused { IsOkUnless result OutOfMemory }
 {
-    let mut row = ByteRecord::new(alloc);
-    push_number(alloc, &mut row, cycle)?;
-    row.push_field(name)?;
-    push_numbers(alloc, &mut row, numbers)?;
-    push_empty(&mut row, 5 - numbers.len())?;
-    match table.write_byte_record(&row) {
+    let mut fields = ByteRecord::new(alloc);
+    push_number(alloc, &mut fields, cycle)?;
+    fields.push_field(name)?;
+    push_numbers(alloc, &mut fields, numbers)?;
+    push_empty(&mut fields, 5 - numbers.len())?;
+    match table.write_byte_record(&fields) {
         Ok(()) => Ok(()),
         Err(_) => Err(TraceError::OutOfMemory),
     }
 }
 
 /// Adds a field for each number.
-fn push_numbers(alloc: Global, row: &mut ByteRecord, numbers: &[u64]) -> Result<(), TraceError>
-    requires { partial_of row.old ≡ [] }
-    ensures fields { OnOk result (fields_of row.new ≡ fields_of row.old ++ map decimal numbers.now) }
-    ensures partial { OnOk result (partial_of row.new ≡ []) }
+fn push_numbers(alloc: Global, fields: &mut ByteRecord, numbers: &[u64]) -> Result<(), TraceError>
+    requires { partial_of fields.old ≡ [] }
+    ensures fields { OnOk result (fields_of fields.new ≡ fields_of fields.old ++ map decimal numbers.now) }
+    ensures partial { OnOk result (partial_of fields.new ≡ []) }
     ensures refused { IsOkUnless result OutOfMemory }
 {
     for number in numbers {
-        push_number(alloc, row, *number)?;
+        push_number(alloc, fields, *number)?;
     }
     Ok(())
 }
 
 /// Adds so many empty fields.
-fn push_empty(row: &mut ByteRecord, count: usize) -> Result<(), TraceError>
-    requires { partial_of row.old ≡ [] }
-    ensures fields { OnOk result (fields_of row.new ≡ fields_of row.old ++ replicate count []) }
-    ensures partial { OnOk result (partial_of row.new ≡ []) }
+fn push_empty(fields: &mut ByteRecord, count: usize) -> Result<(), TraceError>
+    requires { partial_of fields.old ≡ [] }
+    ensures fields { OnOk result (fields_of fields.new ≡ fields_of fields.old ++ replicate count []) }
+    ensures partial { OnOk result (partial_of fields.new ≡ []) }
     ensures refused { IsOkUnless result OutOfMemory }
 {
-    for _place in 0..count {
-        row.push_field(b"")?;
+    for _number in 0..count {
+        fields.push_field(b"")?;
     }
     Ok(())
 }
 
 /// Adds a field for the number, in decimal.
-fn push_number(alloc: Global, row: &mut ByteRecord, number: u64) -> Result<(), TraceError>
-    requires { partial_of row.old ≡ [] }
-    ensures fields { OnOk result (fields_of row.new ≡ fields_of row.old ++ decimal number ∷ []) }
-    ensures partial { OnOk result (partial_of row.new ≡ []) }
+fn push_number(alloc: Global, fields: &mut ByteRecord, number: u64) -> Result<(), TraceError>
+    requires { partial_of fields.old ≡ [] }
+    ensures fields { OnOk result (fields_of fields.new ≡ fields_of fields.old ++ decimal number ∷ []) }
+    ensures partial { OnOk result (partial_of fields.new ≡ []) }
     ensures refused { IsOkUnless result OutOfMemory }
 {
     let text = number.to_string(alloc)?;
-    row.push_field(text.as_bytes())?;
+    fields.push_field(text.as_bytes())?;
     Ok(())
 }

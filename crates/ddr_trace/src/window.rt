@@ -1,8 +1,9 @@
 //! Rules on more than two commands: the order of cycles, four activations, and refresh.
-ghost use Rattle.std.specs.Prelude.{◌≡◌, ◌+◌, ◌*◌, ◌^◌, ◌≤◌, MatchOption, nat_lt};
+ghost use Rattle.std.specs.Prelude.{◌≡◌};
 ghost use Rattle.ddr_trace.specs.Rules.{breaks_faw, breaks_order, breaks_ref_gap, breaks_ref_late, ends_late, last_cycle_below, refresh_count};
 
 use crate::command::{Command, Entry};
+use crate::refresh::{is_gap_too_long, is_overdue};
 use ddr_timing::timing::Timing;
 
 /// Whether the entry's cycle is not above that of the entry before, below `start`, or not below `end`.
@@ -48,7 +49,7 @@ pub(crate) fn breaks_ref_late(history: &[Entry], entry: &Entry, timing: &Timing,
     ensures { result ≡ breaks_ref_late timing.now start history.now entry.now }
 {
     entry.command.is_refresh()
-        && is_refresh_late(
+        && is_overdue(
             refresh_count(history, &entry.command),
             timing,
             start,
@@ -61,7 +62,7 @@ pub(crate) fn ends_late(entries: &[Entry], timing: &Timing, start: u64, end: u64
     ensures { result ≡ ends_late timing.now start end entries.now }
 {
     let refreshes = refresh_count(entries, &Command::Refresh { rank: 0 });
-    is_refresh_late(refreshes, timing, start, end)
+    is_overdue(refreshes, timing, start, end)
 }
 
 /// Whether the entry is a REF more than 9 REFI after the REF before.
@@ -74,7 +75,7 @@ pub(crate) fn breaks_ref_gap(history: &[Entry], entry: &Entry, timing: &Timing) 
     let mut earlier = history;
     while let Some((last, before)) = earlier.split_last() {
         if last.command.is_refresh_of_rank(&entry.command) {
-            return 9 * u64::from(timing.refi) < entry.cycle.saturating_sub(last.cycle);
+            return is_gap_too_long(last.cycle, entry.cycle, timing);
         }
         earlier = before;
     }
@@ -89,24 +90,4 @@ fn refresh_count(history: &[Entry], command: &Command) -> usize
         .iter()
         .filter(|a| a.command.is_refresh_of_rank(command))
         .count()
-}
-
-/// Whether, after so many REFs, `cycle` lies after the deadline of the next one.
-fn is_refresh_late(refreshes: usize, timing: &Timing, start: u64, cycle: u64) -> bool
-    ensures { result ≡ nat_lt (start + (refreshes + 9) * timing.now.refi) cycle }
-{
-    match deadline(refreshes, timing, start) {
-        Some(due) => due < cycle,
-        None => false,
-    }
-}
-
-/// The deadline of the REF that follows so many REFs, where a clock can reach it.
-fn deadline(refreshes: usize, timing: &Timing, start: u64) -> Option<u64>
-    ensures { let due = start + (refreshes + 9) * timing.now.refi in
-        MatchOption result (2 ^ 64 ≤ due) (λ d. d ≡ due) }
-{
-    let intervals = (refreshes as u64).checked_add(9)?;
-    let span = intervals.checked_mul(u64::from(timing.refi))?;
-    start.checked_add(span)
 }

@@ -5,4 +5,4 @@ use Rattle.ddr_trace.proofs.text.push_numbers.Given as goal
 
 abbrev pub invariant-loop-number : goal.invariant-loop-number
 invariant-loop-number l =
-    record { fields : fields_of l.row ≡ fields_of l.initial.row ++ map decimal (take l.number-index l.numbers); partial : partial_of l.row ≡ [] }
+    record { fields : fields_of l.fields ≡ fields_of l.initial.fields ++ map decimal (take l.number-index l.numbers); partial : partial_of l.fields ≡ [] }
