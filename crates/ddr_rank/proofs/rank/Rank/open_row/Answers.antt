@@ -1,0 +1,13 @@
+use Rattle.std.proofs.Common.{inl, inr, arith}
+use Rattle.ddr_rank.proofs.OpenLemmas.{outside_idle}
+use Rattle.ddr_rank.proofs.rank.Rank.open_row.Goals as goal
+use Rattle.ddr_rank.proofs.rank.Rank.open_row.Goals.{then-group-self-via-then-group-self, then-group-self-via-else-group-self+then-bank-ge-GROUP_BANKS}
+
+pub returns-then-group-self : goal.returns-then-group-self
+returns-then-group-self c =
+    rw (← c.self.view_is)
+    (λ history stands. outside_idle c.self.inside.config.geometry history c.args.group c.args.bank stands.placed
+    (elim c.then-group-self.branch [
+      | then-group-self-via-then-group-self w ↦ inl (omega arith)
+      | then-group-self-via-else-group-self+then-bank-ge-GROUP_BANKS w ↦ inr (omega arith)
+    ]))

@@ -1,0 +1,46 @@
+-- What contracts see of a rank: the cycles that a later command is measured from.
+use Rattle.std.specs.Prelude.{◌≡◌, ℕ, ◌+◌, ◌*◌, List, length, Option, None, slice_get, slice_index_or, ◌==◌, if◌then◌else◌}
+use Rattle.ddr_timing.specs.declared.config.Config.{Config}
+use Rattle.ddr_timing.specs.declared.units.TheConstants.{GROUP_BANKS}
+use Rattle.ddr_rank.specs.declared.bank.Bank.{Bank}
+use Rattle.ddr_rank.specs.declared.last.Kind.{Kind}
+use Rattle.ddr_rank.specs.declared.last.Kind.TheVariants.{Activate, Read, Write}
+use Rattle.ddr_rank.specs.declared.last.Last.{Last}
+
+pub record Readiness : Type 0 where
+  pub config : Config
+  -- bank b of group g stands at g * GROUP_BANKS + b
+  pub banks : List Bank
+  -- of each group, the cycles of its last commands
+  pub groups : List Last
+  -- the cycle of the last REF
+  pub refresh : Option ℕ
+  -- the cycles of the last four ACTs, the oldest first
+  pub activates : List ℕ
+
+-- before the first command
+abbrev pub never : Last
+never = record { activate = None; read = None; write = None }
+
+abbrev pub idle : Bank
+idle = record { row = None; precharge = None; last = never }
+
+abbrev pub last_of : Kind → Last → Option ℕ
+last_of Activate last = last.activate
+last_of Read last = last.read
+last_of Write last = last.write
+
+abbrev pub bank_at : Readiness → ℕ → ℕ → Bank
+bank_at r group bank = slice_index_or r.banks (group * GROUP_BANKS + bank) idle
+
+abbrev pub group_at : Readiness → ℕ → Last
+group_at r group = slice_index_or r.groups group never
+
+-- the cycle of the fourth ACT before the next one
+abbrev pub fourth_activate : Readiness → Option ℕ
+fourth_activate r = if length r.activates == 4 then slice_get r.activates 0 else None
+
+-- there are as many banks and groups as the geometry has
+pub record IsWhole (r : Readiness) : Type 0 where
+  pub banks : length r.banks ≡ r.config.geometry.groups * GROUP_BANKS
+  pub groups : length r.groups ≡ r.config.geometry.groups

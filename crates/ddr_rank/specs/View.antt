@@ -1,0 +1,18 @@
+-- What a rank's fields stand for.
+use Rattle.std.specs.Prelude.{◌≡◌}
+use Rattle.ddr_rank.specs.declared.rank.Rank.TheInside.{Inside}
+use Rattle.ddr_rank.specs.Readiness.{IsWhole, Readiness}
+
+abbrev pub readiness_of : Inside → Readiness
+readiness_of a = record {
+  config = a.config;
+  banks = a.banks.items;
+  groups = a.groups.items;
+  refresh = a.refresh;
+  activates = a.activates.items;
+}
+
+pub record IsSound (a : Inside) : Type 0 where
+  pub whole : IsWhole (readiness_of a)
+  -- the window has room for four ACTs
+  pub four : a.activates.capacity ≡ 4

@@ -1,0 +1,50 @@
+//! The cycles of the last ACT, read and write, of a bank or of a bank group.
+ghost use Rattle.std.specs.Prelude.{◌≡◌};
+ghost use Rattle.ddr_rank.specs.Noted.{with_last};
+ghost use Rattle.ddr_rank.specs.Readiness.{last_of};
+
+/// A command that opens a row, or that moves data.
+#[derive(Clone, Copy)]
+pub enum Kind {
+    Activate,
+    Read,
+    Write,
+}
+
+/// The cycles of the last commands, `None` where there was none.
+#[derive(Clone, Copy)]
+pub struct Last {
+    pub activate: Option<u64>,
+    pub read: Option<u64>,
+    pub write: Option<u64>,
+}
+
+impl Last {
+    /// Before the first command.
+    pub const NEVER: Last = Last {
+        activate: None,
+        read: None,
+        write: None,
+    };
+
+    pub fn of(&self, kind: Kind) -> Option<u64>
+        ensures { result ≡ last_of kind self.now }
+    {
+        match kind {
+            Kind::Activate => self.activate,
+            Kind::Read => self.read,
+            Kind::Write => self.write,
+        }
+    }
+
+    /// Keeps the cycle of a command.
+    pub fn note(&mut self, kind: Kind, cycle: u64)
+        ensures { self.new ≡ with_last kind cycle self.old }
+    {
+        match kind {
+            Kind::Activate => self.activate = Some(cycle),
+            Kind::Read => self.read = Some(cycle),
+            Kind::Write => self.write = Some(cycle),
+        }
+    }
+}

@@ -1,0 +1,15 @@
+//! The readiness of one rank: which rule its next command would break.
+//!
+//! No list of commands is kept: of each bank its open row and the cycles of its last commands, of each group those
+//! of its last ACT, read and write, and of the rank its last REF and its last four ACTs. A rule is told from these
+//! in a fixed number of steps, and in one pass over the banks for REF.
+//!
+//! Below stand the rules of a trace (`ddr_trace`) and the configuration (`ddr_timing`); `ddr_legality` stands
+//! above. `rank` is the rank with its calls, and in it `rules` is what each command is tested against. `bank` is
+//! what is kept of a bank, `last` the cycles of the last ACT, read and write, and `cycles` how two such cycles compare.
+#![tactic(auto)]
+
+mod bank;
+mod cycles;
+mod last;
+pub mod rank;

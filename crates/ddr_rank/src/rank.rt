@@ -1,0 +1,216 @@
+//! One rank: what was issued to it, as far as a later command can break a rule by it.
+ghost use Rattle.std.specs.Prelude.{◌≡◌, ◌+◌, ◌*◌, ◌<◌, List, [], ◌∷◌, ◌++◌, None, IsTrue, IsOk, IfOk};
+ghost use Rattle.std.specs.Option.{is_none};
+ghost use Rattle.ddr_timing.specs.declared.units.TheConstants.{GROUP_BANKS};
+ghost use Rattle.ddr_trace.specs.declared.command.Entry.{Entry};
+ghost use Rattle.ddr_trace.specs.Rules.{IsOpenRow, is_in};
+ghost use Rattle.ddr_trace.specs.Legality.{lowest_rule};
+ghost use Rattle.ddr_rank.specs.Breaks.{breaks_now};
+ghost use Rattle.ddr_rank.specs.Noted.{activate_noted, column_noted, noted, precharge_all_noted, precharge_noted};
+ghost use Rattle.ddr_rank.specs.Readiness.{bank_at, group_at};
+ghost use Rattle.ddr_rank.specs.Stands.{IsAfter, StandsFor, entry, lowest_on_rank};
+
+use crate::bank::Bank;
+use crate::last::{Kind, Last};
+use circular_buffer::HeapCircularBuffer;
+use ddr_timing::config::Config;
+use ddr_timing::units::GROUP_BANKS;
+use ddr_trace::command::Command;
+use ddr_trace::rule::Rule;
+use std::alloc::{AllocError, Global};
+use std::marker::Model;
+
+mod rules;
+
+/// The activations that the rule on four of them looks back at (JESD79-4, tFAW).
+const WINDOW: usize = 4;
+
+/// One rank. Contracts speak of every list of commands that it stands for: those issued to it, in order.
+#[derive(Drop)]
+pub struct Rank {
+    config: Config,
+    // Bank b of group g stands at g * GROUP_BANKS + b.
+    banks: Vec<Bank>,
+    // Of each group, the cycles of its last commands.
+    groups: Vec<Last>,
+    // The last REF.
+    refresh: Option<u64>,
+    // The last four ACTs, the oldest first.
+    activates: HeapCircularBuffer<u64>,
+}
+
+impl Model for Rank {
+    ghost use Rattle.ddr_rank.specs.Readiness.{Readiness};
+
+    ghost Value = { Readiness };
+
+    ghost use Rattle.ddr_rank.specs.View.{IsSound, readiness_of};
+
+    ghost view = { readiness_of };
+
+    ghost invariant = { IsSound };
+}
+
+impl Rank {
+    /// A rank to which nothing was issued: all banks idle. It takes all its memory here.
+    pub fn open(alloc: Global, config: &Config) -> Result<Rank, AllocError>
+        ensures config { IfOk result (λ r. r.config ≡ config.now) }
+        ensures stands { IfOk result (λ r. StandsFor r []) }
+    {
+        let groups = config.geometry.groups as usize;
+        Ok(Rank {
+            config: *config,
+            banks: vec![in alloc; Bank::IDLE; groups * GROUP_BANKS as usize]?,
+            groups: vec![in alloc; Last::NEVER; groups]?,
+            refresh: None,
+            activates: HeapCircularBuffer::with_capacity(alloc, WINDOW)?,
+        })
+    }
+
+    /// The lowest rule, from STATE to RFC, that the command would break in this cycle, after those issued.
+    pub fn fault(&self, cycle: u64, command: Command) -> Option<Rule>
+        requires { IsTrue (is_in self.now.config.geometry command) }
+        ensures { (history : List Entry) → StandsFor self.entry.now history → IsAfter history cycle
+            → result ≡ lowest_on_rank self.entry.now.config.timing history (entry cycle command) }
+    {
+        self.lowest(cycle, &command)
+    }
+
+    /// Whether the command breaks none of these rules in this cycle.
+    pub fn may(&self, cycle: u64, command: Command) -> bool
+        requires { IsTrue (is_in self.now.config.geometry command) }
+        ensures { (history : List Entry) → StandsFor self.entry.now history → IsAfter history cycle
+            → result ≡ is_none (lowest_on_rank self.entry.now.config.timing history (entry cycle command)) }
+    {
+        self.fault(cycle, command).is_none()
+    }
+
+    /// Makes room for one more command, which a rank has at all times: it takes no memory.
+    pub fn reserve(&mut self) -> Result<(), AllocError>
+        ensures ok { IsOk result }
+        ensures unchanged { self.new ≡ self.old }
+        ensures config { self.new.config ≡ self.old.config }
+        ensures stands { (history : List Entry) → StandsFor self.old history → StandsFor self.new history }
+    {
+        Ok(())
+    }
+
+    /// Issues the command in this cycle. What a rank says after a command that breaks one of these rules is left
+    /// open.
+    pub fn issue(&mut self, cycle: u64, command: Command)
+        requires { IsTrue (is_in self.old.config.geometry command) }
+        ensures config { self.new.config ≡ self.old.config }
+        ensures stands { (history : List Entry) → StandsFor self.old history → IsAfter history cycle
+            → lowest_on_rank self.old.config.timing history (entry cycle command) ≡ None
+            → StandsFor self.new (history ++ entry cycle command ∷ []) }
+    {
+        self.note(cycle, &command);
+    }
+
+    /// The open row of a bank, if it is active. `None` also outside the geometry.
+    pub fn open_row(&self, group: u32, bank: u32) -> Option<u32>
+        ensures { (history : List Entry) → StandsFor self.entry.now history → IsOpenRow history group bank result }
+    {
+        if group >= self.config.geometry.groups || bank >= GROUP_BANKS {
+            return None;
+        }
+        self.bank(group, bank).row
+    }
+
+    /// The lowest rule that the command would break, by what is kept.
+    fn lowest(&self, cycle: u64, command: &Command) -> Option<Rule>
+        requires { IsTrue (is_in self.now.config.geometry command.now) }
+        ensures { result ≡ lowest_rule (λ r. breaks_now self.now r cycle command.now) }
+    {
+        for rule in Rule::ALL {
+            if self.breaks(rule, cycle, command) {
+                return Some(rule);
+            }
+        }
+        None
+    }
+
+    /// Keeps what a later command is measured from.
+    fn note(&mut self, cycle: u64, command: &Command)
+        requires { IsTrue (is_in self.old.config.geometry command.now) }
+        ensures { self.new ≡ noted self.old cycle command.now }
+    {
+        match *command {
+            Command::Act {
+                group,
+                bank,
+                row,
+                ..
+            } => self.note_activate(cycle, group, bank, row),
+            Command::Rd { group, bank, .. } => self.note_column(Kind::Read, cycle, group, bank),
+            Command::Wr { group, bank, .. } => self.note_column(Kind::Write, cycle, group, bank),
+            Command::Pre { group, bank, .. } => self.note_precharge(cycle, group, bank),
+            Command::PreAll { .. } => self.note_precharge_all(cycle),
+            Command::Refresh { .. } => self.refresh = Some(cycle),
+        }
+    }
+
+    fn note_activate(&mut self, cycle: u64, group: u32, bank: u32, row: u32)
+        requires group_in { group < self.old.config.geometry.groups }
+        requires bank_in { bank < GROUP_BANKS }
+        ensures { self.new ≡ activate_noted self.old cycle group bank row }
+    {
+        self.banks[number(group, bank)].activate(cycle, row);
+        self.groups[group as usize].note(Kind::Activate, cycle);
+        let _ = self.activates.push_back(cycle);
+    }
+
+    /// A read or a write.
+    fn note_column(&mut self, kind: Kind, cycle: u64, group: u32, bank: u32)
+        requires group_in { group < self.old.config.geometry.groups }
+        requires bank_in { bank < GROUP_BANKS }
+        ensures { self.new ≡ column_noted self.old kind cycle group bank }
+    {
+        self.banks[number(group, bank)].last.note(kind, cycle);
+        self.groups[group as usize].note(kind, cycle);
+    }
+
+    fn note_precharge(&mut self, cycle: u64, group: u32, bank: u32)
+        requires group_in { group < self.old.config.geometry.groups }
+        requires bank_in { bank < GROUP_BANKS }
+        ensures { self.new ≡ precharge_noted self.old cycle group bank }
+    {
+        self.banks[number(group, bank)].precharge(cycle);
+    }
+
+    fn note_precharge_all(&mut self, cycle: u64)
+        ensures { self.new ≡ precharge_all_noted self.old cycle }
+    {
+        for bank in self.banks.iter_mut() {
+            bank.precharge(cycle);
+        }
+    }
+
+    /// What is kept of a bank.
+    fn bank(&self, group: u32, bank: u32) -> &Bank
+        requires group_in { group < self.now.config.geometry.groups }
+        requires bank_in { bank < GROUP_BANKS }
+        ensures { result.now ≡ bank_at self.now group bank }
+    {
+        &self.banks[number(group, bank)]
+    }
+
+    /// The cycles of a group's last commands.
+    fn group(&self, group: u32) -> &Last
+        requires { group < self.now.config.geometry.groups }
+        ensures { result.now ≡ group_at self.now group }
+    {
+        &self.groups[group as usize]
+    }
+}
+
+/// The number of a bank in its rank.
+fn number(group: u32, bank: u32) -> usize
+    requires { bank < GROUP_BANKS }
+    ensures { result ≡ group * GROUP_BANKS + bank }
+{
+    group as usize * GROUP_BANKS as usize + bank as usize
+}
+
+#[cfg(test)]
+mod tests;

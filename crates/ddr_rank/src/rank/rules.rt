@@ -1,0 +1,225 @@
+//! Which rules a command would break: for each command its rules, and what each is measured from.
+ghost use Rattle.std.specs.Prelude.{◌≡◌, ◌<◌, IsTrue, is_some};
+ghost use Rattle.std.specs.List.{list_any};
+ghost use Rattle.ddr_timing.specs.declared.units.TheConstants.{GROUP_BANKS};
+ghost use Rattle.ddr_trace.specs.Rules.{is_in};
+ghost use Rattle.ddr_rank.specs.Breaks.{activate_breaks, all_groups, any_precharge, breaks_now, is_open, other_banks, other_groups, precharge_all_breaks, precharge_breaks, read_breaks, refresh_breaks, write_breaks};
+ghost use Rattle.ddr_rank.specs.Readiness.{fourth_activate};
+
+use super::Rank;
+use crate::cycles::{is_within, later};
+use crate::last::Kind;
+use ddr_timing::units::{BURST_CLOCKS, GROUP_BANKS};
+use ddr_trace::command::Command;
+use ddr_trace::rule::Rule;
+
+impl Rank {
+    /// Whether the command would break the rule in this cycle.
+    pub(super) fn breaks(&self, rule: Rule, cycle: u64, command: &Command) -> bool
+        requires { IsTrue (is_in self.now.config.geometry command.now) }
+        ensures { result ≡ breaks_now self.now rule cycle command.now }
+    {
+        match *command {
+            Command::Act { group, bank, .. } => self.activate_breaks(rule, cycle, group, bank),
+            Command::Rd {
+                group,
+                bank,
+                row,
+                ..
+            } => self.read_breaks(rule, cycle, group, bank, row),
+            Command::Wr {
+                group,
+                bank,
+                row,
+                ..
+            } => self.write_breaks(rule, cycle, group, bank, row),
+            Command::Pre { group, bank, .. } => self.precharge_breaks(rule, cycle, group, bank),
+            Command::PreAll { .. } => self.precharge_all_breaks(rule, cycle),
+            Command::Refresh { .. } => self.refresh_breaks(rule, cycle),
+        }
+    }
+
+    fn activate_breaks(&self, rule: Rule, cycle: u64, group: u32, bank: u32) -> bool
+        requires group_in { group < self.now.config.geometry.groups }
+        requires bank_in { bank < GROUP_BANKS }
+        ensures { result ≡ activate_breaks self.now rule cycle group bank }
+    {
+        let t = &self.config.timing;
+        let kept = self.bank(group, bank);
+        match rule {
+            Rule::State => kept.row.is_some(),
+            Rule::Rc => is_within(t.rc, cycle, kept.last.activate),
+            Rule::Rp => is_within(t.rp, cycle, kept.precharge),
+            Rule::RrdL => is_within(t.rrd_l, cycle, self.other_banks(group, bank)),
+            Rule::RrdS => is_within(t.rrd_s, cycle, self.other_groups(Kind::Activate, group)),
+            Rule::Faw => is_within(t.faw, cycle, self.fourth_activate()),
+            Rule::Rfc => is_within(t.rfc, cycle, self.refresh),
+            _ => false,
+        }
+    }
+
+    fn read_breaks(&self, rule: Rule, cycle: u64, group: u32, bank: u32, row: u32) -> bool
+        requires group_in { group < self.now.config.geometry.groups }
+        requires bank_in { bank < GROUP_BANKS }
+        ensures { result ≡ read_breaks self.now rule cycle group bank row }
+    {
+        let t = &self.config.timing;
+        let data_end = t.cwl + BURST_CLOCKS;
+        let kept = self.bank(group, bank);
+        let in_group = self.group(group);
+        match rule {
+            Rule::State => kept.row.is_none(),
+            Rule::Row => !is_open(kept.row, row),
+            Rule::Rcd => is_within(t.rcd, cycle, kept.last.activate),
+            Rule::CcdL => is_within(t.ccd_l, cycle, in_group.read),
+            Rule::CcdS => is_within(t.ccd_s, cycle, self.other_groups(Kind::Read, group)),
+            Rule::WtrL => is_within(data_end + t.wtr_l, cycle, in_group.write),
+            Rule::WtrS => {
+                let last = self.other_groups(Kind::Write, group);
+                is_within(data_end + t.wtr_s, cycle, last)
+            }
+            Rule::Rfc => is_within(t.rfc, cycle, self.refresh),
+            _ => false,
+        }
+    }
+
+    fn write_breaks(&self, rule: Rule, cycle: u64, group: u32, bank: u32, row: u32) -> bool
+        requires group_in { group < self.now.config.geometry.groups }
+        requires bank_in { bank < GROUP_BANKS }
+        ensures { result ≡ write_breaks self.now rule cycle group bank row }
+    {
+        let t = &self.config.timing;
+        let kept = self.bank(group, bank);
+        match rule {
+            Rule::State => kept.row.is_none(),
+            Rule::Row => !is_open(kept.row, row),
+            Rule::Rcd => is_within(t.rcd, cycle, kept.last.activate),
+            Rule::CcdL => is_within(t.ccd_l, cycle, self.group(group).write),
+            Rule::CcdS => is_within(t.ccd_s, cycle, self.other_groups(Kind::Write, group)),
+            Rule::Rtw => is_within(t.rtw, cycle, self.all_groups(Kind::Read)),
+            Rule::Rfc => is_within(t.rfc, cycle, self.refresh),
+            _ => false,
+        }
+    }
+
+    fn precharge_breaks(&self, rule: Rule, cycle: u64, group: u32, bank: u32) -> bool
+        requires group_in { group < self.now.config.geometry.groups }
+        requires bank_in { bank < GROUP_BANKS }
+        ensures { result ≡ precharge_breaks self.now rule cycle group bank }
+    {
+        let t = &self.config.timing;
+        let last = self.bank(group, bank).last;
+        match rule {
+            Rule::Ras => is_within(t.ras, cycle, last.activate),
+            Rule::Rtp => is_within(t.rtp, cycle, last.read),
+            Rule::Wr => is_within(t.cwl + BURST_CLOCKS + t.wr, cycle, last.write),
+            Rule::Rfc => is_within(t.rfc, cycle, self.refresh),
+            _ => false,
+        }
+    }
+
+    fn precharge_all_breaks(&self, rule: Rule, cycle: u64) -> bool
+        ensures { result ≡ precharge_all_breaks self.now rule cycle }
+    {
+        let t = &self.config.timing;
+        match rule {
+            Rule::Ras => is_within(t.ras, cycle, self.all_groups(Kind::Activate)),
+            Rule::Rtp => is_within(t.rtp, cycle, self.all_groups(Kind::Read)),
+            Rule::Wr => {
+                let last = self.all_groups(Kind::Write);
+                is_within(t.cwl + BURST_CLOCKS + t.wr, cycle, last)
+            }
+            Rule::Rfc => is_within(t.rfc, cycle, self.refresh),
+            _ => false,
+        }
+    }
+
+    fn refresh_breaks(&self, rule: Rule, cycle: u64) -> bool
+        ensures { result ≡ refresh_breaks self.now rule cycle }
+    {
+        let t = &self.config.timing;
+        match rule {
+            Rule::State => self.is_active(),
+            Rule::RpRef => is_within(t.rp, cycle, self.any_precharge()),
+            Rule::Rfc => is_within(t.rfc, cycle, self.refresh),
+            _ => false,
+        }
+    }
+
+    /// Whether some bank has an open row.
+    fn is_active(&self) -> bool
+        ensures { result ≡ list_any (λ bank. is_some bank.row) self.now.banks }
+    {
+        self.banks.iter().any(|bank| bank.row.is_some())
+    }
+
+    /// The last ACT of the group's other banks.
+    fn other_banks(&self, group: u32, bank: u32) -> Option<u64>
+        requires { group < self.now.config.geometry.groups }
+        ensures { result ≡ other_banks self.now group bank }
+    {
+        let mut last = None;
+        for other in 0..GROUP_BANKS {
+            if other != bank {
+                last = later(last, self.bank(group, other).last.activate);
+            }
+        }
+        last
+    }
+
+    /// The last command of the kind in the other groups.
+    fn other_groups(&self, kind: Kind, group: u32) -> Option<u64>
+        ensures { result ≡ other_groups self.now kind group }
+    {
+        let mut last = None;
+        for other in 0..self.config.geometry.groups {
+            if other != group {
+                last = later(last, self.group(other).of(kind));
+            }
+        }
+        last
+    }
+
+    /// The last command of the kind in any group.
+    fn all_groups(&self, kind: Kind) -> Option<u64>
+        ensures { result ≡ all_groups self.now kind }
+    {
+        let mut last = None;
+        for group in 0..self.config.geometry.groups {
+            last = later(last, self.group(group).of(kind));
+        }
+        last
+    }
+
+    /// The last precharge of any bank.
+    fn any_precharge(&self) -> Option<u64>
+        ensures { result ≡ any_precharge self.now }
+    {
+        let mut last = None;
+        for bank in &self.banks {
+            last = later(last, bank.precharge);
+        }
+        last
+    }
+
+    /// The fourth ACT before the next one.
+    fn fourth_activate(&self) -> Option<u64>
+        ensures { result ≡ fourth_activate self.now }
+    {
+        if self.activates.is_full() {
+            self.activates.front().copied()
+        } else {
+            None
+        }
+    }
+}
+
+/// Whether the row is the bank's open one.
+fn is_open(opened: Option<u32>, row: u32) -> bool
+    ensures { result ≡ is_open opened row }
+{
+    match opened {
+        Some(opened) => row == opened,
+        None => false,
+    }
+}
