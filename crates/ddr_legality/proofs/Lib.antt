@@ -1,0 +1,3 @@
+pub mod BrokenLemmas
+pub mod LegalLemmas
+pub mod RefreshLemmas

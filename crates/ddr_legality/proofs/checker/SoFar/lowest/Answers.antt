@@ -1,0 +1,17 @@
+-- The rules on commands come first, and then those on refresh.
+use Rattle.std.proofs.Common.{sym, ◌∙◌}
+use Rattle.ddr_legality.proofs.BrokenLemmas.{command_first, rank_here, then_refresh}
+use Rattle.ddr_legality.proofs.checker.SoFar.lowest.Goals as goal
+
+pub returns-in-Some : goal.returns-in-Some
+returns-in-Some c = λ history passed.
+    let i = c.args.self.now.issued in
+    sym (command_first i.config i.start c.args.end history c.args.entry.now c.in-Some.rule (sym (c.broken_by.ensures history passed.issued) ∙ c.in-Some.is))
+
+pub returns : goal.returns
+returns c = λ history passed.
+    let i = c.args.self.now.issued in
+    let e = c.args.entry.now in
+    let none = sym (c.broken_by.ensures history passed.issued) ∙ c.in_default.is in
+    c.broken_by-2.ensures history passed.refreshes (rank_here i.config i.start c.args.end history e none)
+    ∙ sym (then_refresh i.config i.start c.args.end history e none)

@@ -1,0 +1,34 @@
+-- A channel's command bus, and the commands that are legal on it now.
+use Rattle.std.specs.Prelude.{ℕ, ◌+◌, Bool, List, [], ◌∷◌, ◌++◌, Option}
+use Rattle.std.specs.Option.{is_none}
+use Rattle.ddr_timing.specs.declared.config.Config.{Config}
+use Rattle.ddr_trace.specs.declared.command.Command.{Command}
+use Rattle.ddr_trace.specs.declared.command.Entry.{Entry}
+use Rattle.ddr_trace.specs.declared.rule.Rule.{Rule}
+use Rattle.ddr_trace.specs.Commands.{entry}
+use Rattle.ddr_trace.specs.Legality.{lowest_broken}
+
+-- what was issued since the start, and the next cycle
+pub record Bus : Type 0 where
+  pub config : Config
+  pub start : ℕ
+  pub now : ℕ
+  pub trace : List Entry
+
+abbrev pub opened : Config → ℕ → Bus
+opened config start = record { config = config; start = start; now = start; trace = [] }
+
+-- the lowest rule on commands that the command would break now
+abbrev pub broken_now : Bus → Command → Option Rule
+broken_now b c = lowest_broken b.config b.start (b.now + 1) b.trace (entry b.now c)
+
+-- the command is legal now
+abbrev pub is_legal_now : Bus → Command → Bool
+is_legal_now b c = is_none (broken_now b c)
+
+-- the command is issued now
+abbrev pub recorded : Command → Bus → Bus
+recorded c b = record b { trace = b.trace ++ entry b.now c ∷ [] }
+
+abbrev pub ticked : Bus → Bus
+ticked b = record b { now = b.now + 1 }

@@ -1,0 +1,20 @@
+-- The commands for which stands what is kept of them.
+use Rattle.std.specs.Prelude.{◌≡◌, ℕ, Bool, true, ◌&&◌, nat_lt, nat_le, List, Option, Some, None}
+use Rattle.ddr_trace.specs.declared.command.Entry.{Entry}
+use Rattle.ddr_trace.specs.Rules.{last_cycle_below}
+use Rattle.ddr_rank.specs.Stands.{StandsFor}
+use Rattle.ddr_legality.specs.declared.issued.Issued.{Issued}
+
+-- the cycle is above the last one, if there is one
+abbrev pub is_later : Option ℕ → ℕ → Bool
+is_later None cycle = true
+is_later (Some last) cycle = nat_lt last cycle
+
+-- ORDER, by the last cycle
+abbrev pub is_in_order : Option ℕ → ℕ → ℕ → ℕ → Bool
+is_in_order last start end cycle = is_later last cycle && nat_le start cycle && nat_lt cycle end
+
+-- these commands were issued, in this order, and no others
+pub record HasIssued (i : Issued) (history : List Entry) : Type 0 where
+  pub last : (cycle : ℕ) → is_later i.last cycle ≡ last_cycle_below history cycle
+  pub rank : StandsFor i.rank history

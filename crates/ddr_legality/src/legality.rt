@@ -1,0 +1,145 @@
+//! What was issued on a channel's command bus, and what may be issued next.
+ghost use Rattle.std.specs.Prelude.{◌≡◌, ◌+◌, ◌-◌, ◌<◌, ◌≤◌, ◌↔◌, [], ◌∷◌, ◌++◌, None, Some, IsOk, IfOk, OnOk, MatchResult};
+ghost use Rattle.ddr_timing.specs.declared.units.TheConstants.{CLOCK_STOP};
+ghost use Rattle.ddr_trace.specs.Bus.{KeepsBus};
+ghost use Rattle.ddr_trace.specs.Commands.{entry};
+ghost use Rattle.ddr_trace.specs.Legality.{IsLegal};
+ghost use Rattle.ddr_trace.specs.Rules.{IsOpenRow};
+ghost use Rattle.ddr_legality.specs.Bus.{broken_now, opened, recorded, ticked};
+
+use crate::issued::Issued;
+use ddr_timing::config::Config;
+use ddr_trace::command::{Command, Entry};
+use ddr_trace::rule::Rule;
+use std::alloc::{AllocError, Global};
+use std::marker::Model;
+
+/// A channel's command bus: the commands issued on it, each with its cycle, and the cycle that comes next.
+/// Contracts see that, and for how many further entries there is room (`spare`).
+#[derive(Drop)]
+pub struct Legality {
+    issued: Issued,
+    now: u64,
+    entries: Vec<Entry>,
+}
+
+impl Model for Legality {
+    ghost use Rattle.ddr_legality.specs.Kept.{Kept};
+
+    ghost Value = { Kept };
+
+    ghost use Rattle.ddr_legality.specs.View.{kept_of, IsWhole};
+
+    ghost view = { kept_of };
+
+    ghost invariant = { IsWhole };
+}
+
+impl Legality {
+    /// A bus on which nothing was issued, and whose first cycle is `first`.
+    pub fn open(alloc: Global, config: &Config, first: u64) -> Result<Legality, AllocError>
+        requires { first ≤ CLOCK_STOP }
+        ensures { IfOk result (λ l. l.bus ≡ opened config.now first) }
+    {
+        Ok(Legality {
+            issued: Issued::open(alloc, config, first)?,
+            now: first,
+            entries: Vec::new(alloc),
+        })
+    }
+
+    /// The first cycle.
+    pub fn start(&self) -> u64
+        ensures { result ≡ self.entry.now.bus.start }
+    {
+        self.issued.start
+    }
+
+    /// The cycle that comes next.
+    pub fn now(&self) -> u64
+        ensures value { result ≡ self.entry.now.bus.now }
+        ensures bound { result ≤ CLOCK_STOP }
+    {
+        self.now
+    }
+
+    /// Whether the command is legal now, or else the lowest rule on commands that it would break.
+    pub fn may(&self, command: Command) -> Result<(), Rule>
+        ensures lowest { MatchResult result
+            (λ _. broken_now self.entry.now.bus command ≡ None)
+            (λ rule. broken_now self.entry.now.bus command ≡ Some rule) }
+        ensures longer { let b = self.entry.now.bus in
+            IsOk result ↔ IsLegal b.config b.start (b.now + 1) (b.trace ++ entry b.now command ∷ []) }
+    {
+        let entry = Entry {
+            cycle: self.now,
+            command,
+        };
+        match self.issued.broken_by(&entry, self.now + 1) {
+            None => Ok(()),
+            Some(rule) => Err(rule),
+        }
+    }
+
+    /// Makes room for one more entry.
+    pub fn reserve_entry(&mut self) -> Result<(), AllocError>
+        ensures same { self.new.bus ≡ self.old.bus }
+        ensures room { OnOk result (1 ≤ self.new.spare) }
+    {
+        self.entries.reserve(1)
+    }
+
+    /// Issues the command now.
+    pub fn record(&mut self, command: Command)
+        requires legal { broken_now self.old.bus command ≡ None }
+        requires room { 1 ≤ self.old.spare }
+        ensures bus { self.new.bus ≡ recorded command self.old.bus }
+        ensures spare { self.new.spare + 1 ≡ self.old.spare }
+    {
+        let entry = Entry {
+            cycle: self.now,
+            command,
+        };
+        self.issued.issue(&entry);
+        self.entries.push_reserved(entry);
+    }
+
+    /// Goes on to the next cycle.
+    pub fn tick(&mut self)
+        requires { self.old.bus.now < CLOCK_STOP }
+        ensures bus { self.new.bus ≡ ticked self.old.bus }
+        ensures spare { self.new.spare ≡ self.old.spare }
+    {
+        self.now += 1;
+    }
+
+    /// The open row of a bank, if it is active. `None` also outside the geometry.
+    pub fn open_row(&self, group: u32, bank: u32) -> Option<u32>
+        ensures { IsOpenRow self.entry.now.bus.trace group bank result }
+    {
+        self.issued.open_row(group, bank)
+    }
+
+    /// The commands so far. They are legal, in a trace that ends behind this cycle, and no two of their bursts
+    /// overlap on the data bus.
+    pub fn entries(&self) -> &[Entry]
+        ensures value { result.now ≡ self.entry.now.bus.trace }
+        ensures legal { let b = self.entry.now.bus in IsLegal b.config b.start (b.now + 1) result.now }
+        ensures bus { KeepsBus self.entry.now.bus.config.timing result.now }
+    {
+        self.entries.as_slice()
+    }
+
+    /// The commands so far, legal as `entries` says. The bus is given up.
+    pub fn into_entries(self) -> Vec<Entry>
+        ensures value { result.items ≡ self.bus.trace }
+        ensures legal { IsLegal self.bus.config self.bus.start (self.bus.now + 1) result.items }
+    {
+        let Legality {
+            issued: _,
+            now: _,
+            entries,
+        } = self;
+        entries
+    }
+}

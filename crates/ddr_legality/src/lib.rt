@@ -1,0 +1,14 @@
+//! The legality of the next command of a channel, and the trace of those that were issued.
+//!
+//! Below stand the rules of a trace (`ddr_trace`) and the readiness of a rank (`ddr_rank`); the scheduler
+//! (`ddr_arbiter`) and the channel (`ddr_channel`) stand above. `legality` is a channel's command bus, and `checker`
+//! finds the first fault of a whole trace. Both stand on `issued`: what the next command is tested against, with no
+//! list of those before it. `refreshes` is what the rules on refresh ask, which the checker alone tests.
+#![tactic(auto)]
+
+pub mod checker;
+mod issued;
+pub mod legality;
+mod refreshes;
+#[cfg(test)]
+mod tests;

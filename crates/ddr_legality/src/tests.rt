@@ -1,0 +1,4 @@
+//! Traces worked out by hand, with the timing of the sample configuration.
+mod check;
+mod issue;
+mod traces;
