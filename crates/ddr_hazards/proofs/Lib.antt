@@ -1,0 +1,3 @@
+mod CountLemmas
+mod Entries
+mod Soundness

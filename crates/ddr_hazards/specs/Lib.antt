@@ -1,0 +1,4 @@
+pub mod Counts
+pub mod Hazards
+pub mod PendingList
+pub mod View
