@@ -1,0 +1,6 @@
+pub mod AdmittedLemmas
+pub mod ChoiceLemmas
+pub mod CommandLemmas
+pub mod LawLemmas
+pub mod PlaceLemmas
+pub mod RefreshLemmas

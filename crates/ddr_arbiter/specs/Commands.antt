@@ -1,0 +1,27 @@
+-- The commands that serve a request.
+use Rattle.ddr_trace.specs.declared.command.Command.{Command}
+use Rattle.ddr_trace.specs.declared.command.Command.TheVariants as command
+use Rattle.ddr_address_map.specs.declared.place.Place.{Place}
+use Rattle.ddr_address_map.specs.declared.request.Kind.{Kind}
+use Rattle.ddr_address_map.specs.declared.request.Kind.TheVariants.{Read, Write}
+use Rattle.ddr_address_map.specs.Requests.{Request}
+
+-- the rank is always 0
+abbrev pub activate_at : Place → Command
+activate_at p = command.Act 0 p.group p.bank p.row
+
+abbrev pub precharge_at : Place → Command
+precharge_at p = command.Pre 0 p.group p.bank
+
+abbrev pub column_at : Kind → Place → Command
+column_at Read p = command.Rd 0 p.group p.bank p.row p.line
+column_at Write p = command.Wr 0 p.group p.bank p.row p.line
+
+abbrev pub column_of : Request → Command
+column_of r = column_at r.echo.kind r.place
+
+abbrev pub precharge_all : Command
+precharge_all = command.PreAll 0
+
+abbrev pub refresh : Command
+refresh = command.Refresh 0

@@ -1,0 +1,6 @@
+pub mod Choice
+pub mod Commands
+pub mod Laws
+pub mod Mode
+pub mod Situation
+pub mod Rows

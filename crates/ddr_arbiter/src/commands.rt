@@ -1,0 +1,98 @@
+//! The commands that serve a request, and which of them may be issued now.
+ghost use Rattle.std.specs.Prelude.{◌≡◌};
+ghost use Rattle.ddr_trace.specs.Rules.{is_row_open};
+ghost use Rattle.ddr_legality.specs.Bus.{is_legal_now};
+ghost use Rattle.ddr_arbiter.specs.Choice.{can_activate, is_on_other_row};
+ghost use Rattle.ddr_arbiter.specs.Commands.{activate_at, precharge_at, column_at, column_of};
+
+use ddr_address_map::place::Place;
+use ddr_address_map::request::{Kind, Req};
+use ddr_legality::legality::Legality;
+use ddr_trace::command::Command;
+
+/// ACT of the place's row.
+pub(crate) fn activate_at(place: Place) -> Command
+    ensures { result ≡ activate_at place }
+{
+    Command::Act {
+        rank: 0,
+        group: place.group,
+        bank: place.bank,
+        row: place.row,
+    }
+}
+
+/// PRE of the place's bank.
+pub(crate) fn precharge_at(place: Place) -> Command
+    ensures { result ≡ precharge_at place }
+{
+    Command::Pre {
+        rank: 0,
+        group: place.group,
+        bank: place.bank,
+    }
+}
+
+/// RD or WR of the place's line.
+pub(crate) fn column_at(kind: Kind, place: Place) -> Command
+    ensures { result ≡ column_at kind place }
+{
+    let Place {
+        group,
+        bank,
+        row,
+        line,
+        ..
+    } = place;
+    match kind {
+        Kind::Read => Command::Rd {
+            rank: 0,
+            group,
+            bank,
+            row,
+            line,
+        },
+        Kind::Write => Command::Wr {
+            rank: 0,
+            group,
+            bank,
+            row,
+            line,
+        },
+    }
+}
+
+/// Whether the command is legal now.
+pub(crate) fn may(legality: &Legality, command: Command) -> bool
+    ensures { result ≡ is_legal_now legality.entry.now.bus command }
+{
+    legality.may(command).is_ok()
+}
+
+/// Whether the place's row is open in its bank.
+fn is_row_open(legality: &Legality, place: Place) -> bool
+    ensures { result ≡ is_row_open legality.entry.now.bus.trace (activate_at place) }
+{
+    match legality.open_row(place.group, place.bank) {
+        Some(row) => row == place.row,
+        None => false,
+    }
+}
+
+/// Whether the request's column command is legal now.
+pub(crate) fn can_column(legality: &Legality, request: &Req) -> bool
+    ensures { result ≡ is_legal_now legality.entry.now.bus (column_of request.now) }
+{
+    let place = request.place;
+    is_row_open(legality, place) && may(legality, column_at(request.echo.kind, place))
+}
+
+/// Whether the bank of the place is idle and may be activated now.
+pub(crate) fn can_activate(legality: &Legality, place: Place) -> bool
+    ensures { result ≡ can_activate legality.entry.now.bus place }
+{
+    match legality.open_row(place.group, place.bank) {
+        Some(_) => false,
+        None => may(legality, activate_at(place)),
+    }
+}

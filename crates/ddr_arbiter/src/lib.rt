@@ -1,0 +1,16 @@
+//! The scheduler of a channel: what it does in a cycle.
+//!
+//! Below stand the pending requests (`ddr_hazards`), the legality of the next command (`ddr_legality`) and
+//! the refreshes that are due (`ddr_refresh`); the channel, which issues what is chosen, stands above.
+//! `policy` is when writes are drained, `choice` the choice of a cycle; of its steps `refresh` is the one for
+//! a rank that has to be refreshed, `candidates` which requests may be served, and `commands` what may be
+//! issued for a request.
+#![tactic(auto)]
+
+mod candidates;
+pub mod choice;
+mod commands;
+pub mod policy;
+mod refresh;
+#[cfg(test)]
+mod tests;

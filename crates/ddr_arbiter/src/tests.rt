@@ -1,0 +1,339 @@
+//! The choices of cycles in profile S, worked out by hand. `drain` is off and there is room, and the marks and
+//! the cap are the profile's, where a test says nothing else.
+ghost use Rattle.std.specs.Prelude.{◌≡◌, ◌+◌, ◌≤◌, nat_le, All, IsTrue};
+ghost use Rattle.ddr_timing.specs.declared.units.TheConstants.{CLOCK_STOP};
+ghost use Rattle.ddr_arbiter.specs.Choice.{passes_at};
+
+use crate::choice::{Choice, choose};
+use crate::policy::Policy;
+use ddr_address_map::place::Place;
+use ddr_address_map::request::{Echo, Kind, Req};
+use ddr_hazards::pending::Pending;
+use ddr_legality::legality::Legality;
+use ddr_refresh::debt::Debt;
+use ddr_timing::config::Config;
+use ddr_timing::profile::PROFILE_S;
+use ddr_timing::units::CLOCK_STOP;
+use ddr_trace::command::Command;
+use std::alloc::Global;
+use std::test::Fail;
+
+const PROFILE_POLICY: Policy = Policy {
+    cap: 1000,
+    low: 2,
+    high: 6,
+};
+
+/// A channel's state before a choice.
+#[derive(Drop)]
+struct Scene {
+    config: Config,
+    pending: Pending,
+    legality: Legality,
+    policy: Policy,
+    drain: bool,
+    room: bool,
+}
+
+impl Scene {
+    fn open(alloc: Global) -> Result<Scene, Fail> {
+        let config = Config::read(alloc, PROFILE_S)?;
+        let legality = Legality::open(alloc, &config, 0)?;
+        Ok(Scene {
+            config,
+            pending: Pending::open(8, 8),
+            legality,
+            policy: PROFILE_POLICY,
+            drain: false,
+            room: true,
+        })
+    }
+
+    /// Admits a request to a line of bank `bank` in group `group`, in cycle 0.
+    fn admit(
+        &mut self,
+        alloc: Global,
+        kind: Kind,
+        group: u32,
+        bank: u32,
+        row: u32,
+        line: u32,
+    ) -> Result<(), Fail> {
+        if group >= 4 || bank >= 4 {
+            return Err("no such bank".into());
+        }
+        let request = Req {
+            port: 0,
+            number: 0,
+            echo: Echo {
+                kind,
+                addr: 0,
+                len: 1,
+            },
+            place: Place {
+                channel: 0,
+                group,
+                bank,
+                row,
+                line,
+                offset: 0,
+            },
+            mask: 0,
+            line: Box::new(alloc, [0; 64])?,
+        };
+        match self.pending.admit(request, 0) {
+            Ok(()) => Ok(()),
+            Err(_) => Err("the queue is full".into()),
+        }
+    }
+
+    /// Goes on to a cycle.
+    fn wait_until(&mut self, cycle: u64) {
+        for _ in self.legality.now()..cycle {
+            if self.legality.now() < CLOCK_STOP {
+                self.legality.tick();
+            }
+        }
+    }
+
+    /// Issues a command in a cycle.
+    fn issue(&mut self, cycle: u64, command: Command) -> Result<(), Fail> {
+        self.wait_until(cycle);
+        self.legality.reserve_entry()?;
+        match self.legality.may(command) {
+            Ok(()) => {
+                self.legality.record(command);
+                Ok(())
+            }
+            Err(rule) => Err(rule.name().into()),
+        }
+    }
+
+    /// The choice of a cycle.
+    fn choice(&mut self, cycle: u32) -> Result<Choice, Fail> {
+        self.wait_until(u64::from(cycle));
+        let mut debt = Debt::open(&self.config);
+        tick_times(&mut debt, u64::from(cycle) + 1);
+        if !are_admitted(&self.pending, self.legality.now()) {
+            return Err("admitted in a later cycle".into());
+        }
+        Ok(choose(
+            &self.pending,
+            &self.legality,
+            &debt,
+            &self.policy,
+            self.drain,
+            self.room,
+        ))
+    }
+}
+
+/// Ticks so often.
+fn tick_times(debt: &mut Debt, times: u64)
+    requires { debt.old.ticks + times ≤ CLOCK_STOP }
+    ensures { debt.new ≡ record debt.old { ticks = debt.old.ticks + times } }
+{
+    for _tick in 0..times {
+        debt.tick();
+    }
+}
+
+/// Whether no request was admitted after the cycle.
+fn are_admitted(pending: &Pending, now: u64) -> bool
+    ensures { IsTrue result → All (λ w. w.admitted ≤ now) pending.now.waiting }
+{
+    for place in 0..pending.len() {
+        if !is_admitted(pending, place, now) {
+            return false;
+        }
+    }
+    true
+}
+
+fn is_admitted(pending: &Pending, place: usize, now: u64) -> bool
+    ensures { result ≡ passes_at (λ w. nat_le w.admitted now) pending.now.waiting place }
+{
+    match pending.get(place) {
+        Some((_, admitted)) => admitted <= now,
+        None => false,
+    }
+}
+
+fn activate(group: u32, bank: u32, row: u32) -> Command {
+    Command::Act {
+        rank: 0,
+        group,
+        bank,
+        row,
+    }
+}
+
+fn read(group: u32, bank: u32, row: u32, line: u32) -> Command {
+    Command::Rd {
+        rank: 0,
+        group,
+        bank,
+        row,
+        line,
+    }
+}
+
+#[test]
+fn younger_row_hit_first(rt: HostRuntime) -> Result<(), Fail> {
+    let alloc = rt.alloc();
+    let mut scene = Scene::open(alloc)?;
+    scene.admit(alloc, Kind::Read, 0, 0, 1, 0)?;
+    scene.admit(alloc, Kind::Read, 0, 0, 0, 1)?;
+    scene.issue(0, activate(0, 0, 0))?;
+    scene.issue(4, read(0, 0, 0, 0))?;
+    // CCD_L holds the read up to cycle 9, and the row that it wants stays open
+    assert_eq!(rt; scene.choice(8)?, Choice::Nothing);
+    assert_eq!(rt; scene.choice(9)?, Choice::Column { place: 1 });
+    scene.issue(9, read(0, 0, 0, 1))?;
+    assert!(rt; scene.pending.remove(1).is_some());
+    // RTP holds the PRE up to cycle 12
+    assert_eq!(rt; scene.choice(11)?, Choice::Nothing);
+    assert_eq!(rt; scene.choice(12)?, Choice::Pre { place: 0 });
+    Ok(())
+}
+
+#[test]
+fn oldest_alone_from_the_cap_on(rt: HostRuntime) -> Result<(), Fail> {
+    let alloc = rt.alloc();
+    let mut scene = Scene::open(alloc)?;
+    scene.admit(alloc, Kind::Read, 0, 0, 1, 0)?;
+    scene.admit(alloc, Kind::Read, 0, 0, 0, 1)?;
+    scene.issue(0, activate(0, 0, 0))?;
+    scene.policy.cap = 10;
+    assert_eq!(rt; scene.choice(9)?, Choice::Column { place: 1 });
+    // the age is the cap, and RAS is over
+    assert_eq!(rt; scene.choice(10)?, Choice::Pre { place: 0 });
+    scene.policy.cap = 11;
+    assert_eq!(rt; scene.choice(10)?, Choice::Column { place: 1 });
+    Ok(())
+}
+
+#[test]
+fn write_waits_for_an_older_read_of_its_line(rt: HostRuntime) -> Result<(), Fail> {
+    let alloc = rt.alloc();
+    let mut scene = Scene::open(alloc)?;
+    scene.drain = true;
+    scene.admit(alloc, Kind::Read, 0, 0, 0, 0)?;
+    scene.admit(alloc, Kind::Write, 0, 0, 0, 0)?;
+    assert_eq!(rt; scene.choice(0)?, Choice::Act { place: 0 });
+    scene.issue(0, activate(0, 0, 0))?;
+    assert_eq!(rt; scene.choice(4)?, Choice::Column { place: 0 });
+    scene.issue(4, read(0, 0, 0, 0))?;
+    assert!(rt; scene.pending.remove(0).is_some());
+    // RTW holds the write up to cycle 11
+    assert_eq!(rt; scene.choice(10)?, Choice::Nothing);
+    assert_eq!(rt; scene.choice(11)?, Choice::Column { place: 0 });
+    Ok(())
+}
+
+#[test]
+fn read_waits_for_an_older_write_of_its_line(rt: HostRuntime) -> Result<(), Fail> {
+    let alloc = rt.alloc();
+    let mut scene = Scene::open(alloc)?;
+    scene.admit(alloc, Kind::Write, 0, 0, 0, 0)?;
+    scene.admit(alloc, Kind::Read, 0, 0, 0, 0)?;
+    scene.issue(0, activate(0, 0, 0))?;
+    assert_eq!(rt; scene.choice(4)?, Choice::Column { place: 0 });
+    Ok(())
+}
+
+#[test]
+fn idle_rank_is_refreshed_when_one_is_due(rt: HostRuntime) -> Result<(), Fail> {
+    let alloc = rt.alloc();
+    let mut scene = Scene::open(alloc)?;
+    assert_eq!(rt; scene.choice(199)?, Choice::Nothing);
+    assert_eq!(rt; scene.choice(200)?, Choice::Refresh);
+    Ok(())
+}
+
+#[test]
+fn refresh_is_put_off_twice_and_then_forced(rt: HostRuntime) -> Result<(), Fail> {
+    let alloc = rt.alloc();
+    let mut scene = Scene::open(alloc)?;
+    scene.admit(alloc, Kind::Read, 0, 0, 0, 0)?;
+    scene.issue(0, activate(0, 0, 0))?;
+    assert_eq!(rt; scene.choice(599)?, Choice::Column { place: 0 });
+    scene.issue(599, read(0, 0, 0, 0))?;
+    // RTP holds PREA up to cycle 602, and RP holds REF up to 606
+    assert_eq!(rt; scene.choice(601)?, Choice::Nothing);
+    assert_eq!(rt; scene.choice(602)?, Choice::PreAll);
+    scene.issue(602, Command::PreAll { rank: 0 })?;
+    assert_eq!(rt; scene.choice(605)?, Choice::Nothing);
+    assert_eq!(rt; scene.choice(606)?, Choice::Refresh);
+    Ok(())
+}
+
+#[test]
+fn read_goes_before_an_older_write_until_writes_drain(rt: HostRuntime) -> Result<(), Fail> {
+    let alloc = rt.alloc();
+    let mut scene = Scene::open(alloc)?;
+    scene.admit(alloc, Kind::Write, 0, 0, 0, 0)?;
+    scene.admit(alloc, Kind::Read, 1, 0, 0, 0)?;
+    assert_eq!(rt; scene.choice(0)?, Choice::Act { place: 1 });
+    scene.drain = true;
+    assert_eq!(rt; scene.choice(0)?, Choice::Act { place: 0 });
+    scene.drain = false;
+    scene.issue(0, activate(1, 0, 0))?;
+    assert_eq!(rt; scene.choice(4)?, Choice::Column { place: 1 });
+    scene.issue(4, read(1, 0, 0, 0))?;
+    assert!(rt; scene.pending.remove(1).is_some());
+    // no read is left, so the write may be served
+    assert_eq!(rt; scene.choice(5)?, Choice::Act { place: 0 });
+    Ok(())
+}
+
+#[test]
+fn writes_drain_between_the_marks(rt: HostRuntime) {
+    assert!(rt; !PROFILE_POLICY.next_mode(false, 5));
+    assert!(rt; PROFILE_POLICY.next_mode(false, 6));
+    assert!(rt; PROFILE_POLICY.next_mode(true, 3));
+    assert!(rt; !PROFILE_POLICY.next_mode(true, 2));
+}
+
+#[test]
+fn no_column_command_without_room(rt: HostRuntime) -> Result<(), Fail> {
+    let alloc = rt.alloc();
+    let mut scene = Scene::open(alloc)?;
+    scene.admit(alloc, Kind::Read, 0, 0, 0, 0)?;
+    scene.admit(alloc, Kind::Read, 0, 0, 1, 0)?;
+    scene.admit(alloc, Kind::Read, 0, 0, 0, 1)?;
+    scene.issue(0, activate(0, 0, 0))?;
+    scene.room = false;
+    // no PRE either, since a candidate wants the open row
+    assert_eq!(rt; scene.choice(10)?, Choice::Nothing);
+    scene.room = true;
+    assert_eq!(rt; scene.choice(10)?, Choice::Column { place: 0 });
+    Ok(())
+}
+
+#[test]
+fn activation_goes_before_an_older_precharge_that_waits(rt: HostRuntime) -> Result<(), Fail> {
+    let alloc = rt.alloc();
+    let mut scene = Scene::open(alloc)?;
+    scene.admit(alloc, Kind::Read, 0, 0, 1, 0)?;
+    scene.admit(alloc, Kind::Read, 0, 1, 0, 0)?;
+    scene.issue(0, activate(0, 0, 0))?;
+    assert_eq!(rt; scene.choice(2)?, Choice::Nothing);
+    assert_eq!(rt; scene.choice(3)?, Choice::Act { place: 1 });
+    assert_eq!(rt; scene.choice(10)?, Choice::Pre { place: 0 });
+    Ok(())
+}
+
+#[test]
+fn row_that_no_candidate_wants_is_closed(rt: HostRuntime) -> Result<(), Fail> {
+    let alloc = rt.alloc();
+    let mut scene = Scene::open(alloc)?;
+    scene.admit(alloc, Kind::Read, 0, 0, 1, 0)?;
+    scene.admit(alloc, Kind::Write, 0, 0, 0, 1)?;
+    scene.issue(0, activate(0, 0, 0))?;
+    // a write wants the row, but reads are served
+    assert_eq!(rt; scene.choice(10)?, Choice::Pre { place: 0 });
+    scene.drain = true;
+    assert_eq!(rt; scene.choice(10)?, Choice::Column { place: 1 });
+    Ok(())
+}
