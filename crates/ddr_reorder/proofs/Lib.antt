@@ -1,0 +1,5 @@
+pub mod Fills
+pub mod Numbered
+pub mod Prefix
+pub mod Ready
+pub mod Wholes

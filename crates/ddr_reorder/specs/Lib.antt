@@ -1,0 +1,4 @@
+pub mod Replies
+pub mod Sound
+pub mod State
+pub mod View
