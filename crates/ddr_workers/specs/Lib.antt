@@ -1,0 +1,3 @@
+pub mod Law
+pub mod Requests
+pub mod RequestSides

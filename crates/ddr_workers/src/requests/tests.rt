@@ -1,0 +1,326 @@
+//! A queue in one thread and in three: what each port pushed comes out whole and in order.
+ghost use Rattle.std.specs.Prelude.{◌≡◌, ◌<◌, ◌^◌, false, [], ◌∷◌, ◌++◌, IfOk, IfSome};
+ghost use Rattle.std.specs.Thread.{IsSync};
+ghost use Rattle.ddr_workers.specs.Requests.{has_end, IsPlaced};
+ghost use Rattle.ddr_workers.specs.RequestSides.{AreSides};
+
+use super::*;
+use ddr_address_map::map::Map;
+use ddr_address_map::request::{Echo, Kind};
+use ddr_timing::profile::PROFILE_S;
+use ddr_timing::units::LINE_BYTES;
+use std::alloc::AllocError;
+use std::test::Fail;
+use std::thread;
+use std::thread::Threads;
+
+/// The requests that each port pushes.
+const REQUESTS: u64 = 100;
+
+/// How often a push or a pop is tried.
+const TRIES: u32 = 10_000_000;
+
+/// Profile S, which has two ports, with another intake.
+fn config_with(alloc: Global, intake: &str) -> Result<Config, Fail> {
+    let mut text = String::new(alloc);
+    for line in PROFILE_S.lines() {
+        if line.starts_with("intake ") {
+            text.push_str(intake)?;
+        } else {
+            text.push_str(line)?;
+        }
+        text.push('\n')?;
+    }
+    Ok(Config::read(alloc, text.as_str())?)
+}
+
+/// A read of the line with the request's number, which profile S has on channel 0.
+fn request(alloc: Global, config: &Config, port: u32, number: u64) -> Option<Req>
+    requires { number < 2 ^ 32 }
+    ensures port { IfSome result (λ r. r.port ≡ port) }
+    ensures placed { IfSome result (IsPlaced (record { geometry = config.now.geometry; channel = 0 })) }
+{
+    let addr = LINE_BYTES as u64 * number;
+    let place = Map::new(config).place(addr)?;
+    if place.channel != 0 {
+        return None;
+    }
+    let line = Box::new(alloc, [0; LINE_BYTES]).ok()?;
+    Some(Req {
+        port,
+        number,
+        echo: Echo {
+            kind: Kind::Read,
+            addr,
+            len: 64,
+        },
+        place,
+        mask: 0,
+        line,
+    })
+}
+
+/// Pushes a request, in as many tries as there may be.
+fn push_in_time<R: Wait>(rt: &R, side: &mut RequestPut, mut request: Req) -> bool
+    requires own { request.port ≡ side.old.who.port }
+    requires placed { IsPlaced side.old.who.queue.route request }
+    requires before_end { has_end side.old.put ≡ false }
+    ensures who { side.new.who ≡ side.old.who }
+    ensures before_end { has_end side.new.put ≡ false }
+{
+    for _ in 0..TRIES {
+        match side.push(rt, request) {
+            Ok(()) => return true,
+            Err(back) => {
+                request = back;
+                thread::yield_now();
+            }
+        }
+    }
+    false
+}
+
+/// Pushes a port's requests and its End, and says whether that went.
+fn push_all<R: Wait>(
+    rt: &R,
+    alloc: Global,
+    config: &Config,
+    port: u32,
+    mut side: RequestPut,
+) -> (RequestPut, bool)
+    requires port { side.who.port ≡ port }
+    requires route { side.who.queue.route ≡ record { geometry = config.now.geometry; channel = 0 } }
+    requires before_end { has_end side.put ≡ false }
+    ensures { result.0.who ≡ side.who }
+{
+    for number in 0..REQUESTS {
+        match request(alloc, config, port, number) {
+            Some(request) => {
+                if !push_in_time(rt, &mut side, request) {
+                    return (side, false);
+                }
+            }
+            None => return (side, false),
+        }
+    }
+    for _ in 0..TRIES {
+        if side.end(rt).is_ok() {
+            return (side, true);
+        }
+        thread::yield_now();
+    }
+    (side, false)
+}
+
+/// Takes items until both Ends came, or there is no more room for them.
+fn take_all<R: Wait>(rt: &R, mut side: RequestTake, mut got: Vec<Item>) -> (RequestTake, Vec<Item>)
+    requires { got.items ≡ [] }
+    ensures who { result.0.who ≡ side.who }
+    ensures took { result.0.took ≡ side.took ++ result.1.items }
+{
+    let mut has_ended = false;
+    for _ in 0..TRIES {
+        if got.len() == got.capacity() {
+            break;
+        }
+        let Some(item) = side.pop(rt) else {
+            thread::yield_now();
+            continue;
+        };
+        let is_last = has_ended && matches!(item, Item::End(_));
+        has_ended = has_ended || matches!(item, Item::End(_));
+        got.push_reserved(item);
+        if is_last {
+            break;
+        }
+    }
+    (side, got)
+}
+
+/// What the threads of two ports give back.
+type Pushed = ((RequestPut, bool), (RequestPut, bool));
+
+/// Pushes in two threads, as port 0 and as port 1.
+fn push_both<R: Threads + Wait + Sync>(
+    rt: &R,
+    alloc: Global,
+    config: &Config,
+    first: RequestPut,
+    second: RequestPut,
+) -> Pushed
+    requires ports { (first.who.port ≡ 0) × (second.who.port ≡ 1) }
+    requires first { first.who.queue.route ≡ record { geometry = config.now.geometry; channel = 0 } }
+    requires second { second.who.queue.route ≡ record { geometry = config.now.geometry; channel = 0 } }
+    requires before_end { (has_end first.put ≡ false) × (has_end second.put ≡ false) }
+    ensures { (result.0.0.who ≡ first.who) × (result.1.0.who ≡ second.who) }
+{
+    thread::join(
+        rt,
+        move || -> (RequestPut, bool)
+            requires port { first.who.port ≡ 0 }
+            requires route { first.who.queue.route ≡ record { geometry = config.now.geometry; channel = 0 } }
+            requires before_end { has_end first.put ≡ false }
+            ensures { result.0.who ≡ first.who }
+        { push_all(rt, alloc, config, 0, first) },
+        move || -> (RequestPut, bool)
+            requires port { second.who.port ≡ 1 }
+            requires route { second.who.queue.route ≡ record { geometry = config.now.geometry; channel = 0 } }
+            requires before_end { has_end second.put ≡ false }
+            ensures { result.0.who ≡ second.who }
+        { push_all(rt, alloc, config, 1, second) },
+    )
+}
+
+/// What the three threads did, and what was left once the queue was joined.
+#[derive(Drop)]
+struct Exchange {
+    all_pushed: bool,
+    taken: Vec<Item>,
+    left: Vec<Item>,
+}
+
+/// Pushes in two threads, takes in a third, and joins.
+fn exchanged<R: Threads + Wait + Sync>(
+    rt: &R,
+    alloc: Global,
+    config: &Config,
+    first: RequestPut,
+    second: RequestPut,
+    take: RequestTake,
+) -> Result<Exchange, AllocError>
+    requires ports { (first.who.port ≡ 0) × (second.who.port ≡ 1) }
+    requires first { first.who.queue.route ≡ record { geometry = config.now.geometry; channel = 0 } }
+    requires second { second.who.queue.route ≡ record { geometry = config.now.geometry; channel = 0 } }
+    requires before_end { (has_end first.put ≡ false) × (has_end second.put ≡ false) }
+    requires sides { AreSides (first ∷ second ∷ []) take }
+{
+    let taken = Vec::with_capacity(alloc, 2 * (REQUESTS as usize + 1))?;
+    let mut puts = Vec::with_capacity(alloc, 2)?;
+    let (pushed, (take, taken)) = thread::join(
+        rt,
+        move || -> Pushed
+            requires sync { IsSync R.row }
+            requires ports { (first.who.port ≡ 0) × (second.who.port ≡ 1) }
+            requires first { first.who.queue.route ≡ record { geometry = config.now.geometry; channel = 0 } }
+            requires second { second.who.queue.route ≡ record { geometry = config.now.geometry; channel = 0 } }
+            requires before_end { (has_end first.put ≡ false) × (has_end second.put ≡ false) }
+            ensures { (result.0.0.who ≡ first.who) × (result.1.0.who ≡ second.who) }
+        { push_both(rt, alloc, config, first, second) },
+        move || -> (RequestTake, Vec<Item>)
+            requires { taken.items ≡ [] }
+            ensures { result.0.who ≡ take.who }
+        { take_all(rt, take, taken) },
+    );
+    let ((first, first_pushed), (second, second_pushed)) = pushed;
+    puts.push_reserved(first);
+    puts.push_reserved(second);
+    Ok(Exchange {
+        all_pushed: first_pushed && second_pushed,
+        taken,
+        left: join(rt, puts, take),
+    })
+}
+
+/// The sides of a queue of two ports.
+type Sides = (RequestPut, RequestPut, RequestTake);
+
+/// Opens the queue to channel 0, of two ports.
+fn two_ports(alloc: Global, config: &Config) -> Result<Sides, Fail>
+    ensures ports { IfOk result (λ s. (s.0.who.port ≡ 0) × (s.1.who.port ≡ 1)) }
+    ensures first { IfOk result (λ s. s.0.who.queue.route ≡ record { geometry = config.now.geometry; channel = 0 }) }
+    ensures second { IfOk result (λ s. s.1.who.queue.route ≡ record { geometry = config.now.geometry; channel = 0 }) }
+    ensures before_end { IfOk result (λ s. (has_end s.0.put ≡ false) × (has_end s.1.put ≡ false)) }
+    ensures sides { IfOk result (λ s. AreSides (s.0 ∷ s.1 ∷ []) s.2) }
+{
+    let (mut puts, take) = open(alloc, config, 0)?;
+    if puts.len() != 2 {
+        return Err("two ports".into());
+    }
+    let second = puts.pop().ok_or("a second port")?;
+    let first = puts.pop().ok_or("a first port")?;
+    Ok((first, second, take))
+}
+
+/// The numbers of a port's requests in order, and then the End's place among them.
+fn numbers_of(
+    alloc: Global,
+    items: &[Item],
+    port: u32,
+) -> Result<(Vec<u64>, Vec<usize>), AllocError> {
+    let mut numbers = Vec::new(alloc);
+    let mut ends = Vec::new(alloc);
+    for item in items {
+        match item {
+            Item::Request(request) if request.port == port => numbers.push(request.number)?,
+            Item::End(p) if *p == port => ends.push(numbers.len())?,
+            _ => {}
+        }
+    }
+    Ok((numbers, ends))
+}
+
+/// Pushes the request of this number, as port 0, and gives the number of what came back.
+fn offer<R: Wait>(
+    rt: &R,
+    alloc: Global,
+    config: &Config,
+    side: &mut RequestPut,
+    number: u64,
+) -> Result<Option<u64>, Fail>
+    requires number { number < 2 ^ 32 }
+    requires port { side.old.who.port ≡ 0 }
+    requires route { side.old.who.queue.route ≡ record { geometry = config.now.geometry; channel = 0 } }
+    requires before_end { has_end side.old.put ≡ false }
+    ensures who { side.new.who ≡ side.old.who }
+    ensures before_end { has_end side.new.put ≡ false }
+{
+    let request = request(alloc, config, 0, number).ok_or("a request")?;
+    let pushed = side.push(rt, request);
+    Ok(pushed.err().map(|back| back.number))
+}
+
+/// Pops, and gives the number of the request, or None of an End.
+fn number_of(item: Item) -> Option<u64> {
+    match item {
+        Item::Request(request) => Some(request.number),
+        Item::End(_) => None,
+    }
+}
+
+#[test]
+fn one_place_is_full_and_empty_again(rt: HostRuntime) -> Result<(), Fail> {
+    let config = config_with(rt.alloc(), "intake = 1")?;
+    let (mut first, mut second, mut take) = two_ports(rt.alloc(), &config)?;
+    let mut puts = Vec::with_capacity(rt.alloc(), 2)?;
+    assert!(rt; take.pop(&rt).is_none());
+    assert_eq!(rt; offer(&rt, rt.alloc(), &config, &mut first, 7)?, None);
+    assert_eq!(rt; offer(&rt, rt.alloc(), &config, &mut first, 8)?, Some(8));
+    assert_eq!(rt; take.pop(&rt).and_then(number_of), Some(7));
+    assert!(rt; first.end(&rt).is_ok());
+    assert_eq!(rt; second.end(&rt), Err(Full));
+    puts.push_reserved(first);
+    puts.push_reserved(second);
+    let left = join(&rt, puts, take);
+    assert_eq!(rt; left.len(), 1);
+    assert!(rt; matches!(left.as_slice(), [Item::End(0)]));
+    Ok(())
+}
+
+#[test]
+fn three_threads_hand_over_in_order(rt: HostRuntime) -> Result<(), Fail> {
+    let config = config_with(rt.alloc(), "intake = 1")?;
+    let (first, second, take) = two_ports(rt.alloc(), &config)?;
+    let exchange = exchanged(&rt, rt.alloc(), &config, first, second, take)?;
+    assert!(rt; exchange.all_pushed);
+    assert_eq!(rt; exchange.taken.len(), 202);
+    assert_eq!(rt; exchange.left.len(), 0);
+    for port in 0..2 {
+        let (numbers, ends) = numbers_of(rt.alloc(), exchange.taken.as_slice(), port)?;
+        assert_eq!(rt; numbers.len(), 100, "port {port}");
+        for (place, number) in numbers.iter().enumerate() {
+            assert_eq!(rt; *number, place as u64, "port {port}");
+        }
+        assert_eq!(rt; ends.as_slice(), [100].as_slice(), "port {port}");
+    }
+    Ok(())
+}
