@@ -1,15 +1,19 @@
 -- What the calls of a channel make of its fields.
-use Rattle.std.proofs.Common.{◌≡◌, ◌↔◌, IsTrue, ℕ, suc, ◌+◌, ◌*◌, ◌<◌, ◌≤◌, Bool, true, false, not, cond, eqb, ltb, List, [], ◌∷◌, ◌++◌, Option, Some, None, length, drop, refl, sym, ap, ap₂, subst, ◌∙◌, arith}
+use Rattle.std.proofs.Common.{◌≡◌, ◌↔◌, IsTrue, ℕ, suc, ◌+◌, ◌*◌, ◌<◌, ◌≤◌, Bool, true, false, ◌&&◌, not, cond, eqb, ltb, List, [], ◌∷◌, ◌++◌, Option, Some, None, length, drop, refl, sym, ap, ap₂, subst, ◌∙◌, inl, inr, arith}
 use Rattle.std.proofs.Math.Path.{fun_ext}
 use Rattle.std.specs.List.{filter, slice_get}
 use Rattle.std.specs.Option.{IsSomeAnd}
-use Rattle.std.proofs.lemmas.Bool.{eqb-true, true≢false, false≢true, eq-eqb, leb-false}
+use Rattle.std.proofs.lemmas.Bool.{eqb-true, true≢false, false≢true, eq-eqb, ne_eqb, cases_eq, and_right, leb-false}
 use Rattle.std.proofs.lemmas.List.{length-append}
 use Rattle.std.proofs.lemmas.List.Sums.{sum_by-append}
 use Rattle.ddr_timing.specs.declared.config.Config.{Config}
 use Rattle.ddr_trace.specs.declared.command.Command.{Command}
 use Rattle.ddr_trace.specs.declared.command.Entry.{Entry}
+use Rattle.ddr_trace.specs.Commands.{is_same_bank}
+use Rattle.ddr_timing.specs.declared.geometry.Digit.TheVariants.{Bank}
 use Rattle.ddr_trace.specs.Rules.{is_bank_active, is_row_open}
+use Rattle.ddr_address_map.proofs.MapLemmas.{IsInRange-test}
+use Rattle.ddr_legality.specs.Bus.{Bus}
 use Rattle.ddr_address_map.specs.declared.place.Place.{Place}
 use Rattle.ddr_address_map.specs.declared.request.Kind.{Kind}
 use Rattle.ddr_address_map.specs.declared.request.Kind.TheVariants.{Read, Write}
@@ -20,13 +24,14 @@ use Rattle.ddr_channel.specs.declared.choice.Choice.{Choice}
 use Rattle.ddr_channel.specs.declared.choice.Choice.TheVariants as choice
 use Rattle.ddr_channel.specs.declared.waiting.Waiting.{Waiting}
 use Rattle.ddr_channel.specs.Choice.{bus_of, has_room, choice_for, choice_among, choice_of}
-use Rattle.ddr_channel.specs.Commands.{activate_at, precharge_at, column_at, column_of, entry}
+use Rattle.ddr_trace.specs.Commands.{entry}
+use Rattle.ddr_channel.specs.Commands.{activate_at, precharge_at, column_at, column_of}
 use Rattle.ddr_channel.specs.Cycle.{completed, recorded, completion_of, cells_after, served, issued, ticked, after_cycle}
 use Rattle.ddr_channel.specs.Kept.{Kept, state_of, IsOpen, AgreesWith}
 use Rattle.ddr_channel.specs.Memory.{LineAddress, bank_number}
 use Rattle.ddr_channel.specs.Sound.{IsServed}
 use Rattle.ddr_channel.specs.State.{State, is_same_kind, pending_count, queue_size, is_queue_full}
-use Rattle.ddr_channel.proofs.OpenRowLemmas.{active_after_column, row_after_column, active_after_activate, row_after_activate, active_after_precharge}
+use Rattle.ddr_channel.proofs.OpenRowLemmas.{active_after_column, row_after_column, active_after_activate, row_after_activate, active_after_precharge, active_after_other_activate, row_after_other_activate, active_after_other_precharge, row_after_other_precharge}
 use Rattle.ddr_channel.proofs.SoundLemmas.{Allows, choice_allowed, act_on, precharge_on, serve_on, length-filter}
 
 -- the oldest pending request
@@ -82,9 +87,14 @@ allowed_of s w ws c is chosen =
 -- the state after a cycle
 
 -- the cells of two row arrays with the same bytes
-same_cells : (a b : Rows) (f : LineAddress → List ℕ) → ((bank row line : ℕ) → cells b bank row line ≡ f (record { bank = bank; row = row; line = line })) →
+pub same_cells : (a b : Rows) (f : LineAddress → List ℕ) → ((bank row line : ℕ) → cells b bank row line ≡ f (record { bank = bank; row = row; line = line })) →
     (λ (address : LineAddress). cells b address.bank address.row address.line) ≡ f
 same_cells a b f same = fun_ext (λ address. same address.bank address.row address.line)
+
+-- a channel whose bus has gone on
+abbrev pub kept_on : Kept → Bus → List Waiting → List Completion → List Completion → Rows → Kept
+kept_on k b pending flight done rows =
+    record { config = k.config; start = b.start; now = b.now; pending = pending; flight = flight; done = done; trace = b.trace; rows = rows }
 
 state_with : Kept → List Waiting → List Completion → List Completion → List Entry → (LineAddress → List ℕ) → State
 state_with k pending flight done trace bytes = record {
@@ -155,12 +165,23 @@ after_serve k w ws pending trace flight done rows chosen is pending_is trace_is 
 
 -- the open rows
 
--- places that are served are of one bank
-same_bank : (config : Config) (p q : Place) → IsServed config p → IsServed config q → (p.group ≡ q.group) × (p.bank ≡ q.bank) × (bank_number p ≡ bank_number q)
-same_bank config p q a b =
-    let group = a.group ∙ sym b.group in
-    let bank = a.bank ∙ sym b.bank in
-    (group, bank, ap₂ (λ g n. g * 4 + n) group bank)
+-- the bank of a place in the geometry is below 4
+bank_below : (config : Config) (p : Place) → IsServed config p → p.bank < 4
+bank_below config p is = (IsInRange-test config.geometry p is).digits Bank
+
+-- places of one bank number are of one group and one bank of it
+same_bank : (p q : Place) → p.bank < 4 → q.bank < 4 → bank_number q ≡ bank_number p → (p.group ≡ q.group) × (p.bank ≡ q.bank)
+same_bank p q low low' same = (omega arith, omega arith)
+
+-- places of two bank numbers are of two banks
+other_bank : (p q : Place) → (bank_number q ≡ bank_number p → ⊥) → is_same_bank (activate_at p) (activate_at q) ≡ false
+other_bank p q other = elim (cases_eq p.group q.group) [
+  | inl group ↦ elim (cases_eq p.bank q.bank) [
+    | inl bank ↦ absurd (other (ap₂ (λ g n. g * 4 + n) (sym group) (sym bank)))
+    | inr bank ↦ ap (λ t. eqb p.group q.group && t) (ne_eqb p.bank q.bank bank) ∙ and_right (eqb p.group q.group) false refl
+  ]
+  | inr group ↦ ap (λ t. t && eqb p.bank q.bank) (ne_eqb p.group q.group group)
+]
 
 -- in an idle bank no row is open
 pub idle_row : (trace : List Entry) (p : Place) (o : Option ℕ) → IsOpen trace p o → is_bank_active trace (activate_at p) ≡ false → o ≡ None
@@ -186,19 +207,37 @@ agrees_column config trace cycle kind p old new agrees shape opened = record {
   opened = λ q is. subst (IsOpen (trace ++ entry cycle (column_at kind p) ∷ []) q) (sym (opened (bank_number q))) (open_after_column trace cycle kind p q (open_row old (bank_number q)) (agrees.opened q is));
 }
 
+open_after_other_activate : (trace : List Entry) (cycle : ℕ) (p q : Place) (o : Option ℕ) → is_same_bank (activate_at p) (activate_at q) ≡ false → IsOpen trace q o →
+    IsOpen (trace ++ entry cycle (activate_at p) ∷ []) q o
+open_after_other_activate trace cycle p q None other open_is = active_after_other_activate trace cycle p q other ∙ open_is
+open_after_other_activate trace cycle p q (Some row) other open_is =
+    (active_after_other_activate trace cycle p q other ∙ open_is.0, row_after_other_activate trace cycle p q other ∙ open_is.1)
+
 pub agrees_activate : (config : Config) (trace : List Entry) (cycle : ℕ) (p : Place) (old new : Rows) → IsServed config p → is_bank_active trace (activate_at p) ≡ false → AgreesWith config trace old → SameShape old new →
     ((b : ℕ) → open_row new b ≡ cond (eqb b (bank_number p)) (Some p.row) (open_row old b)) → AgreesWith config (trace ++ entry cycle (activate_at p) ∷ []) new
 agrees_activate config trace cycle p old new here idle agrees shape opened = record {
   banks = shape.banks ∙ agrees.banks;
   rows_are = shape.rows ∙ agrees.rows_are;
   lines = shape.lines ∙ agrees.lines;
-  opened = λ q is.
-      let same = same_bank config p q here is in
-      let idle' : is_bank_active trace (activate_at q) ≡ false = ap₂ (λ g b. is_bank_active trace (activate_at (record q { group = g; bank = b }))) (sym same.0) (sym same.1) ∙ idle in
-      subst (IsOpen (trace ++ entry cycle (activate_at p) ∷ []) q)
-      (sym (opened (bank_number q) ∙ ap (λ b. cond b (Some p.row) (open_row old (bank_number q))) (eq-eqb (bank_number q) (bank_number p) (sym same.2))))
-      (active_after_activate trace cycle p q same.0 same.1, row_after_activate trace cycle p q same.0 same.1 idle');
+  opened = λ q is. elim (cases_eq (bank_number q) (bank_number p)) [
+    | inl there ↦
+        let same = same_bank p q (bank_below config p here) (bank_below config q is) there in
+        let idle' : is_bank_active trace (activate_at q) ≡ false = ap₂ (λ g b. is_bank_active trace (activate_at (record q { group = g; bank = b }))) (sym same.0) (sym same.1) ∙ idle in
+        subst (IsOpen (trace ++ entry cycle (activate_at p) ∷ []) q)
+        (sym (opened (bank_number q) ∙ ap (λ b. cond b (Some p.row) (open_row old (bank_number q))) (eq-eqb (bank_number q) (bank_number p) there)))
+        (active_after_activate trace cycle p q same.0 same.1, row_after_activate trace cycle p q same.0 same.1 idle')
+    | inr elsewhere ↦
+        subst (IsOpen (trace ++ entry cycle (activate_at p) ∷ []) q)
+        (sym (opened (bank_number q) ∙ ap (λ b. cond b (Some p.row) (open_row old (bank_number q))) (ne_eqb (bank_number q) (bank_number p) elsewhere)))
+        (open_after_other_activate trace cycle p q (open_row old (bank_number q)) (other_bank p q elsewhere) (agrees.opened q is))
+  ];
 }
+
+open_after_other_precharge : (trace : List Entry) (cycle : ℕ) (p q : Place) (o : Option ℕ) → is_same_bank (activate_at p) (activate_at q) ≡ false → IsOpen trace q o →
+    IsOpen (trace ++ entry cycle (precharge_at p) ∷ []) q o
+open_after_other_precharge trace cycle p q None other open_is = active_after_other_precharge trace cycle p q other ∙ open_is
+open_after_other_precharge trace cycle p q (Some row) other open_is =
+    (active_after_other_precharge trace cycle p q other ∙ open_is.0, row_after_other_precharge trace cycle p q other ∙ open_is.1)
 
 pub agrees_precharge : (config : Config) (trace : List Entry) (cycle : ℕ) (p : Place) (old new : Rows) → IsServed config p → AgreesWith config trace old → SameShape old new →
     ((b : ℕ) → open_row new b ≡ cond (eqb b (bank_number p)) None (open_row old b)) → AgreesWith config (trace ++ entry cycle (precharge_at p) ∷ []) new
@@ -206,11 +245,17 @@ agrees_precharge config trace cycle p old new here agrees shape opened = record 
   banks = shape.banks ∙ agrees.banks;
   rows_are = shape.rows ∙ agrees.rows_are;
   lines = shape.lines ∙ agrees.lines;
-  opened = λ q is.
-      let same = same_bank config p q here is in
-      subst (IsOpen (trace ++ entry cycle (precharge_at p) ∷ []) q)
-      (sym (opened (bank_number q) ∙ ap (λ b. cond b None (open_row old (bank_number q))) (eq-eqb (bank_number q) (bank_number p) (sym same.2))))
-      (active_after_precharge trace cycle p q same.0 same.1);
+  opened = λ q is. elim (cases_eq (bank_number q) (bank_number p)) [
+    | inl there ↦
+        let same = same_bank p q (bank_below config p here) (bank_below config q is) there in
+        subst (IsOpen (trace ++ entry cycle (precharge_at p) ∷ []) q)
+        (sym (opened (bank_number q) ∙ ap (λ b. cond b None (open_row old (bank_number q))) (eq-eqb (bank_number q) (bank_number p) there)))
+        (active_after_precharge trace cycle p q same.0 same.1)
+    | inr elsewhere ↦
+        subst (IsOpen (trace ++ entry cycle (precharge_at p) ∷ []) q)
+        (sym (opened (bank_number q) ∙ ap (λ b. cond b None (open_row old (bank_number q))) (ne_eqb (bank_number q) (bank_number p) elsewhere)))
+        (open_after_other_precharge trace cycle p q (open_row old (bank_number q)) (other_bank p q elsewhere) (agrees.opened q is))
+  ];
 }
 
 -- how many requests are pending

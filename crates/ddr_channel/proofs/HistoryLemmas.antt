@@ -20,8 +20,10 @@ use Rattle.ddr_channel.specs.declared.choice.Choice.{Choice}
 use Rattle.ddr_channel.specs.declared.choice.Choice.TheVariants as choice
 use Rattle.ddr_channel.specs.declared.waiting.Waiting.{Waiting}
 use Rattle.ddr_channel.specs.Choice.{bus_of, has_room, choice_among, choice_of}
-use Rattle.ddr_channel.specs.Commands.{activate_at, precharge_at, column_at, column_of, entry}
-use Rattle.ddr_channel.specs.Cycle.{completed, recorded, completion_at, completion_of, cells_after, served, for_request, issued, ticked, after_cycle, last_cycle}
+use Rattle.ddr_trace.specs.Commands.{entry}
+use Rattle.ddr_channel.specs.Commands.{activate_at, precharge_at, column_at, column_of}
+use Rattle.ddr_timing.specs.declared.units.TheConstants.{CLOCK_STOP}
+use Rattle.ddr_channel.specs.Cycle.{completed, recorded, completion_at, completion_of, cells_after, served, for_request, issued, ticked, after_cycle}
 use Rattle.ddr_channel.specs.History.{Call, Admit, Cycle, Pop, Owner, History, begun, with_owner, after_call, run}
 use Rattle.ddr_channel.specs.Memory.{LineAddress, line_of, line_after}
 use Rattle.ddr_channel.specs.Promise.{answer_to, right_answer, command_of, requests_of, completions_of, MayCall, AreCalls}
@@ -325,7 +327,7 @@ kept_call config start h (Admit r) may k = kept_if config start (is_queue_full h
   sound = IsSound-after_admit h.state r k.sound (subst (λ (c : Config). IsServed c r.place) (sym k.config_is) may);
   keeps = keeps_admit h.state.now h r k.keeps;
 })
-kept_call config start h Cycle may k = kept_if config start (eqb h.state.now last_cycle) h _ k (kept_cycle config start h k)
+kept_call config start h Cycle may k = kept_if config start (eqb h.state.now CLOCK_STOP) h _ k (kept_cycle config start h k)
 kept_call config start h Pop may k = record {
   config_is = k.config_is;
   sound = IsSound-after_pop h.state k.sound;

@@ -1,6 +1,5 @@
 pub mod MemoryLemmas
-pub mod LegalLemmas
-pub mod MayLemmas
+pub mod LegalNowLemmas
 pub mod OpenRowLemmas
 pub mod SoundLemmas
 pub mod HistoryLemmas

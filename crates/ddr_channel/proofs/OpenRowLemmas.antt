@@ -11,7 +11,8 @@ use Rattle.ddr_trace.specs.Rules.{some_earlier, stands_open, is_bank_active, is_
 use Rattle.ddr_address_map.specs.declared.place.Place.{Place}
 use Rattle.ddr_address_map.specs.declared.request.Kind.{Kind}
 use Rattle.ddr_address_map.specs.declared.request.Kind.TheVariants.{Read, Write}
-use Rattle.ddr_channel.specs.Commands.{entry, activate_at, precharge_at, column_at}
+use Rattle.ddr_trace.specs.Commands.{entry}
+use Rattle.ddr_channel.specs.Commands.{activate_at, precharge_at, column_at}
 
 -- tests that agree everywhere find alike
 some_earlier-same : (f g : Entry → List Entry → Bool) (xs : List Entry) → ((a : Entry) (between : List Entry) → f a between ≡ g a between) → some_earlier f xs ≡ some_earlier g xs
@@ -115,7 +116,7 @@ row_after_activate xs cycle p q group bank idle =
     open_append-kept (λ stands a. (stands && is_same_bank a.command (activate_at q)) && eqb (row_of a.command) q.row) xs (entry cycle (activate_at p)) refl
     ∙ ap₂ ◌||◌ (row_closed xs (activate_at q) idle) (ap (λ b. b && eqb p.row q.row) (same_bank_again p q group bank))
 
-eqb-comm : (m n : ℕ) → eqb m n ≡ eqb n m
+pub eqb-comm : (m n : ℕ) → eqb m n ≡ eqb n m
 eqb-comm m n = elim (cases_eq m n) [
   | inl same ↦ eq-eqb m n same ∙ sym (eq-eqb n m (sym same))
   | inr other ↦ ne_eqb m n other ∙ sym (ne_eqb n m (λ same. other (sym same)))
@@ -145,3 +146,74 @@ unfolding closes
 active_after_precharge xs cycle p q group bank =
     open_append (λ stands a. stands && is_same_bank a.command (activate_at q)) xs (entry cycle (precharge_at p))
     ∙ ap (λ b. b || false) (some_earlier-none _ xs (closed_there p q group bank))
+
+-- commands of another bank
+
+none_added : (x y : Bool) → y ≡ false → (x || y) ≡ x
+none_added true y none = refl
+none_added false y none = none
+
+-- an ACT leaves the open rows of other banks as they are
+pub active_after_other_activate : (xs : List Entry) (cycle : ℕ) (p q : Place) → is_same_bank (activate_at p) (activate_at q) ≡ false →
+    is_bank_active (xs ++ entry cycle (activate_at p) ∷ []) (activate_at q) ≡ is_bank_active xs (activate_at q)
+active_after_other_activate xs cycle p q other =
+    open_append-kept (λ stands a. stands && is_same_bank a.command (activate_at q)) xs (entry cycle (activate_at p)) refl
+    ∙ none_added (is_bank_active xs (activate_at q)) _ other
+
+pub row_after_other_activate : (xs : List Entry) (cycle : ℕ) (p q : Place) → is_same_bank (activate_at p) (activate_at q) ≡ false →
+    is_row_open (xs ++ entry cycle (activate_at p) ∷ []) (activate_at q) ≡ is_row_open xs (activate_at q)
+row_after_other_activate xs cycle p q other =
+    open_append-kept (λ stands a. (stands && is_same_bank a.command (activate_at q)) && eqb (row_of a.command) q.row) xs (entry cycle (activate_at p)) refl
+    ∙ none_added (is_row_open xs (activate_at q)) _ (ap (λ b. b && eqb p.row q.row) other)
+
+still_there : (stands closed same : Bool) → (closed && same) ≡ false → ((stands && not closed) && same) ≡ (stands && same)
+still_there stands true true none = cc
+still_there stands true false none = and_false (stands && false) ∙ sym (and_false stands)
+still_there stands false same none = ap (λ b. b && same) (and_true stands)
+
+-- no ACT is of the bank of p and of that of q
+apart : (p q : Place) → is_same_bank (activate_at p) (activate_at q) ≡ false → (rank g b row : ℕ) →
+    (is_same_bank (precharge_at p) (Act rank g b row) && is_same_bank (Act rank g b row) (activate_at q)) ≡ false
+apart p q other rank g b row = elim (cases_eq p.group g) [
+  | inl group ↦ elim (cases_eq p.bank b) [
+    | inl bank ↦
+        ap (λ t. is_same_bank (precharge_at p) (Act rank g b row) && t)
+        (ap (λ t. eqb rank 0 && t) (ap₂ (λ x y. eqb x q.group && eqb y q.bank) (sym group) (sym bank) ∙ other) ∙ and_false (eqb rank 0))
+        ∙ and_false (is_same_bank (precharge_at p) (Act rank g b row))
+    | inr bank ↦ ap (λ t. (eqb 0 rank && (eqb p.group g && t)) && is_same_bank (Act rank g b row) (activate_at q)) (ne_eqb p.bank b bank) ∙ none_of (eqb 0 rank) (eqb p.group g) _
+  ]
+  | inr group ↦ ap (λ t. (eqb 0 rank && (t && eqb p.bank b)) && is_same_bank (Act rank g b row) (activate_at q)) (ne_eqb p.group g group) ∙ none_at (eqb 0 rank) _
+]
+  where
+    none_of : (x y z : Bool) → ((x && (y && false)) && z) ≡ false
+    none_of true true z = refl
+    none_of true false z = refl
+    none_of false y z = refl
+
+    none_at : (x z : Bool) → ((x && false) && z) ≡ false
+    none_at true z = refl
+    none_at false z = refl
+
+kept_there : (p q : Place) → is_same_bank (activate_at p) (activate_at q) ≡ false → (a : Command) (rest : Bool) →
+    (((is_activate a && rest) && not (is_same_bank (precharge_at p) a)) && is_same_bank a (activate_at q)) ≡ ((is_activate a && rest) && is_same_bank a (activate_at q))
+kept_there p q other (Act rank g b row) rest =
+    still_there rest (is_same_bank (precharge_at p) (Act rank g b row)) (is_same_bank (Act rank g b row) (activate_at q)) (apart p q other rank g b row)
+kept_there p q other a rest = refl
+
+-- a PRE leaves the open rows of other banks as they are
+pub active_after_other_precharge : (xs : List Entry) (cycle : ℕ) (p q : Place) → is_same_bank (activate_at p) (activate_at q) ≡ false →
+    is_bank_active (xs ++ entry cycle (precharge_at p) ∷ []) (activate_at q) ≡ is_bank_active xs (activate_at q)
+unfolding closes
+active_after_other_precharge xs cycle p q other =
+    open_append (λ stands a. stands && is_same_bank a.command (activate_at q)) xs (entry cycle (precharge_at p))
+    ∙ or_false _
+    ∙ some_earlier-same _ _ xs (λ a between. kept_there p q other a.command (not (list_any (λ m. is_precharge m.command && is_same_bank m.command a.command) between)))
+
+pub row_after_other_precharge : (xs : List Entry) (cycle : ℕ) (p q : Place) → is_same_bank (activate_at p) (activate_at q) ≡ false →
+    is_row_open (xs ++ entry cycle (precharge_at p) ∷ []) (activate_at q) ≡ is_row_open xs (activate_at q)
+unfolding closes
+row_after_other_precharge xs cycle p q other =
+    open_append (λ stands a. (stands && is_same_bank a.command (activate_at q)) && eqb (row_of a.command) q.row) xs (entry cycle (precharge_at p))
+    ∙ or_false _
+    ∙ some_earlier-same _ _ xs (λ a between. ap (λ t. t && eqb (row_of a.command) q.row)
+    (kept_there p q other a.command (not (list_any (λ m. is_precharge m.command && is_same_bank m.command a.command) between))))

@@ -16,12 +16,14 @@ use Rattle.ddr_channel.specs.declared.choice.Choice.{Choice}
 use Rattle.ddr_channel.specs.declared.choice.Choice.TheVariants as choice
 use Rattle.ddr_channel.specs.declared.waiting.Waiting.{Waiting}
 use Rattle.ddr_channel.specs.Choice.{bus_of, has_room, choice_for, choice_among}
-use Rattle.ddr_channel.specs.Commands.{Bus, activate_at, precharge_at, column_at, column_of, may, is_on_other_row, entry}
+use Rattle.ddr_trace.specs.Commands.{entry}
+use Rattle.ddr_legality.specs.Bus.{Bus, is_legal_now}
+use Rattle.ddr_channel.specs.Commands.{activate_at, precharge_at, column_at, column_of, is_on_other_row}
 use Rattle.ddr_channel.specs.Cycle.{completed, recorded, service_time, completion_of, served, for_request, issued, ticked, after_cycle}
 use Rattle.ddr_channel.specs.Sound.{IsServed, IsTraced, AreDue, IsSound}
 use Rattle.ddr_channel.specs.State.{State, opened, after_admit, after_pop}
-use Rattle.ddr_channel.proofs.LegalLemmas.{IsLegal-later, IsLegal-append, not_at_end}
-use Rattle.ddr_channel.proofs.MayLemmas.{may_keeps, later_due}
+use Rattle.ddr_legality.proofs.LegalLemmas.{IsLegal-later, IsLegal-append, not_at_end}
+use Rattle.ddr_channel.proofs.LegalNowLemmas.{legal_keeps, later_due}
 
 -- what is due from a cycle on is due from an earlier one on
 pub due_from : (later first : ℕ) (ds : List Completion) → first ≤ later → AreDue later ds → AreDue first ds
@@ -94,13 +96,13 @@ length-filter test (x ∷ xs) = counted (test x) x (filter test xs) (filter (λ 
 -- what allows a choice for the request at a place
 abbrev pub Allows : Bus → Bool → Request → Choice → Type 0
 Allows b room r choice.Nothing = Unit {0}
-Allows b room r (choice.Act place) = (place ≡ 0) × (may b (activate_at r.place) ≡ true)
-Allows b room r (choice.Pre place) = (place ≡ 0) × (is_on_other_row b r.place ≡ true) × (may b (precharge_at r.place) ≡ true)
-Allows b room r (choice.Column place) = (place ≡ 0) × (room ≡ true) × (may b (column_of r) ≡ true)
+Allows b room r (choice.Act place) = (place ≡ 0) × (is_legal_now b (activate_at r.place) ≡ true)
+Allows b room r (choice.Pre place) = (place ≡ 0) × (is_on_other_row b r.place ≡ true) × (is_legal_now b (precharge_at r.place) ≡ true)
+Allows b room r (choice.Column place) = (place ≡ 0) × (room ≡ true) × (is_legal_now b (column_of r) ≡ true)
 
 chosen : (b : Bus) (room : Bool) (r : Request) (column act pre : Bool) →
-    (column ≡ true → (room ≡ true) × (may b (column_of r) ≡ true)) → (act ≡ true → may b (activate_at r.place) ≡ true) →
-    (pre ≡ true → (is_on_other_row b r.place ≡ true) × (may b (precharge_at r.place) ≡ true)) →
+    (column ≡ true → (room ≡ true) × (is_legal_now b (column_of r) ≡ true)) → (act ≡ true → is_legal_now b (activate_at r.place) ≡ true) →
+    (pre ≡ true → (is_on_other_row b r.place ≡ true) × (is_legal_now b (precharge_at r.place) ≡ true)) →
     Allows b room r (cond column (choice.Column 0) (cond act (choice.Act 0) (cond pre (choice.Pre 0) choice.Nothing)))
 chosen b room r true act pre c a p = let w = c refl in (refl, w.0, w.1)
 chosen b room r false true pre c a p = (refl, a refl)
@@ -110,8 +112,8 @@ chosen b room r false false false c a p = tt
 -- the choice for the oldest request is allowed
 pub choice_allowed : (b : Bus) (room : Bool) (r : Request) → Allows b room r (choice_for b room 0 r)
 choice_allowed b room r =
-    chosen b room r (room && may b (column_of r)) (may b (activate_at r.place)) (is_on_other_row b r.place && may b (precharge_at r.place))
-    (and_parts room (may b (column_of r))) (λ e. e) (and_parts (is_on_other_row b r.place) (may b (precharge_at r.place)))
+    chosen b room r (room && is_legal_now b (column_of r)) (is_legal_now b (activate_at r.place)) (is_on_other_row b r.place && is_legal_now b (precharge_at r.place))
+    (and_parts room (is_legal_now b (column_of r))) (λ e. e) (and_parts (is_on_other_row b r.place) (is_legal_now b (precharge_at r.place)))
 
 room_kept : (s : State) → length s.flight + length s.done ≤ s.config.limits.done → length (completed s).flight + length (completed s).done ≤ s.config.limits.done
 room_kept s room =
@@ -130,9 +132,9 @@ IsSound-completed s sound = record {
 }
 
 -- a command that may be issued
-sound_recorded : (s : State) (c : Command) → IsSound s → AreDue (s.now + 1) s.flight → may (bus_of s) c ≡ true → IsSound (ticked (recorded c s))
+sound_recorded : (s : State) (c : Command) → IsSound s → AreDue (s.now + 1) s.flight → is_legal_now (bus_of s) c ≡ true → IsSound (ticked (recorded c s))
 sound_recorded s c sound due legal = record {
-  legal = IsLegal-append s.config s.start (s.now + 1) s.trace (entry s.now c) (IsLegal-later s.config s.start s.now s.trace sound.legal) (may_keeps (bus_of s) c legal);
+  legal = IsLegal-append s.config s.start (s.now + 1) s.trace (entry s.now c) (IsLegal-later s.config s.start s.now s.trace sound.legal) (legal_keeps (bus_of s) c legal);
   due = due;
   traced = All-implies _ _ s.flight (IsTraced-append s.config s.trace (entry s.now c)) sound.traced;
   room = sound.room;
@@ -149,7 +151,7 @@ sound_ticked s sound due = record {
   served = sound.served;
 }
 
-due_before : (s : State) (d : Completion) (kind : Kind) (p : Place) → IsTraced s.config s.trace d → may (bus_of s) (column_at kind p) ≡ true → d.due < s.now + service_time s.config kind
+due_before : (s : State) (d : Completion) (kind : Kind) (p : Place) → IsTraced s.config s.trace d → is_legal_now (bus_of s) (column_at kind p) ≡ true → d.due < s.now + service_time s.config kind
 due_before s d kind p t legal =
     let later = later_due (bus_of s) kind d.echo.kind p t.place t.at d.issued legal t.there in
     let due = t.due in
@@ -168,13 +170,13 @@ served_rest s w ws pending all =
     (subst (λ (p : List Waiting). AllByRecursion (λ v. IsServed s.config v.request.place) p) pending all).1
 
 -- the column command of the oldest request
-sound_served : (s : State) (w : Waiting) (ws : List Waiting) → s.pending ≡ w ∷ ws → IsSound s → AreDue (s.now + 1) s.flight → has_room s ≡ true → may (bus_of s) (column_of w.request) ≡ true →
+sound_served : (s : State) (w : Waiting) (ws : List Waiting) → s.pending ≡ w ∷ ws → IsSound s → AreDue (s.now + 1) s.flight → has_room s ≡ true → is_legal_now (bus_of s) (column_of w.request) ≡ true →
     IsSound (ticked (served 0 w.request s))
 sound_served s w ws pending sound due room legal =
     let r = w.request in
     let command = column_of r in
     record {
-      legal = IsLegal-append s.config s.start (s.now + 1) s.trace (entry s.now command) (IsLegal-later s.config s.start s.now s.trace sound.legal) (may_keeps (bus_of s) command legal);
+      legal = IsLegal-append s.config s.start (s.now + 1) s.trace (entry s.now command) (IsLegal-later s.config s.start s.now s.trace sound.legal) (legal_keeps (bus_of s) command legal);
       due = AreDue-append (s.now + 1) s.flight (completion_of s r) due
           (All-implies (IsTraced s.config s.trace) (λ d. d.due < s.now + service_time s.config r.echo.kind) s.flight (λ d t. due_before s d r.echo.kind r.place t legal) sound.traced)
           (after_now s.config r.echo.kind s.now);

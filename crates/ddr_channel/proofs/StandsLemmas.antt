@@ -7,7 +7,8 @@ use Rattle.std.proofs.lemmas.List.Sums.{fold-append}
 use Rattle.ddr_timing.specs.declared.config.Config.{Config}
 use Rattle.ddr_address_map.specs.Requests.{Request, Completion}
 use Rattle.ddr_channel.specs.Choice.{choice_of}
-use Rattle.ddr_channel.specs.Cycle.{completed, recorded, served, for_request, issued, after_cycle, last_cycle}
+use Rattle.ddr_timing.specs.declared.units.TheConstants.{CLOCK_STOP}
+use Rattle.ddr_channel.specs.Cycle.{completed, recorded, served, for_request, issued, after_cycle}
 use Rattle.ddr_channel.specs.Commands.{activate_at, precharge_at}
 use Rattle.ddr_channel.specs.declared.choice.Choice.{Choice}
 use Rattle.ddr_channel.specs.declared.choice.Choice.TheVariants as choice
@@ -60,13 +61,13 @@ stands_refused old new r calls stands served full is =
     stands_after old new calls (Admit r) stands served (ap (λ (k : Kept). k.config) is) (ap (λ (k : Kept). k.start) is)
     (ap state_of is ∙ stands.state ∙ sym (kept_state (is_queue_full h.state r.echo.kind) h _ full'))
 
-pub stands_cycled : (old new : Kept) (calls : List Call) → StandsFor old calls → (old.now ≡ last_cycle → ⊥) → state_of new ≡ after_cycle (state_of old) → (after_cycle (state_of old)).config ≡ old.config →
+pub stands_cycled : (old new : Kept) (calls : List Call) → StandsFor old calls → (old.now ≡ CLOCK_STOP → ⊥) → state_of new ≡ after_cycle (state_of old) → (after_cycle (state_of old)).config ≡ old.config →
     (after_cycle (state_of old)).start ≡ old.start → StandsFor new (calls ++ Cycle ∷ [])
 stands_cycled old new calls stands clock is config start =
     let h = run old.config old.start calls in
-    let clock' : eqb h.state.now last_cycle ≡ false = ne_eqb h.state.now last_cycle (λ e. clock (ap (λ (s : State). s.now) stands.state ∙ e)) in
+    let clock' : eqb h.state.now CLOCK_STOP ≡ false = ne_eqb h.state.now CLOCK_STOP (λ e. clock (ap (λ (s : State). s.now) stands.state ∙ e)) in
     stands_after old new calls Cycle stands tt (ap (λ (s : State). s.config) is ∙ config) (ap (λ (s : State). s.start) is ∙ start)
-    (is ∙ ap after_cycle stands.state ∙ sym (chosen_state (eqb h.state.now last_cycle) h (record (with_owner (choice_of (completed h.state)) h) { state = after_cycle h.state }) clock'))
+    (is ∙ ap after_cycle stands.state ∙ sym (chosen_state (eqb h.state.now CLOCK_STOP) h (record (with_owner (choice_of (completed h.state)) h) { state = after_cycle h.state }) clock'))
 
 pub stands_popped : (old new : Kept) (calls : List Call) → StandsFor old calls → state_of new ≡ after_pop (state_of old) → StandsFor new (calls ++ Pop ∷ [])
 stands_popped old new calls stands is =
@@ -121,6 +122,6 @@ issued_start (choice.Act place) s = by_request (λ t. t.start) (λ r. recorded (
 issued_start (choice.Pre place) s = by_request (λ t. t.start) (λ r. recorded (precharge_at r.place)) s (slice_get s.pending place) (λ r. refl)
 issued_start (choice.Column place) s = by_request (λ t. t.start) (served place) s (slice_get s.pending place) (λ r. refl)
 
-pub stands_after_cycle : (old new : Kept) (calls : List Call) → StandsFor old calls → (old.now ≡ last_cycle → ⊥) → state_of new ≡ after_cycle (state_of old) → StandsFor new (calls ++ Cycle ∷ [])
+pub stands_after_cycle : (old new : Kept) (calls : List Call) → StandsFor old calls → (old.now ≡ CLOCK_STOP → ⊥) → state_of new ≡ after_cycle (state_of old) → StandsFor new (calls ++ Cycle ∷ [])
 stands_after_cycle old new calls stands clock is =
     stands_cycled old new calls stands clock is (issued_config (choice_of (completed (state_of old))) (completed (state_of old))) (issued_start (choice_of (completed (state_of old))) (completed (state_of old)))

@@ -4,7 +4,8 @@ use Rattle.ddr_address_map.specs.Requests.{Request}
 use Rattle.ddr_channel.specs.declared.choice.Choice.{Choice}
 use Rattle.ddr_channel.specs.declared.choice.Choice.TheVariants as choice
 use Rattle.ddr_channel.specs.declared.waiting.Waiting.{Waiting}
-use Rattle.ddr_channel.specs.Commands.{Bus, activate_at, precharge_at, column_of, may, is_on_other_row}
+use Rattle.ddr_legality.specs.Bus.{Bus, is_legal_now}
+use Rattle.ddr_channel.specs.Commands.{activate_at, precharge_at, column_of, is_on_other_row}
 use Rattle.ddr_channel.specs.State.{State}
 
 abbrev pub bus_of : State → Bus
@@ -19,9 +20,9 @@ has_room s = nat_lt (length s.flight + length s.done) s.config.limits.done
 -- active with another row and the PRE is legal.
 abbrev pub choice_for : Bus → Bool → ℕ → Request → Choice
 choice_for b room place r =
-    if room && may b (column_of r) then choice.Column place
-    else (if may b (activate_at r.place) then choice.Act place
-    else (if is_on_other_row b r.place && may b (precharge_at r.place) then choice.Pre place
+    if room && is_legal_now b (column_of r) then choice.Column place
+    else (if is_legal_now b (activate_at r.place) then choice.Act place
+    else (if is_on_other_row b r.place && is_legal_now b (precharge_at r.place) then choice.Pre place
     else choice.Nothing))
 
 -- the oldest pending request is the only candidate

@@ -1,6 +1,7 @@
 -- One cycle of a channel.
 use Rattle.std.specs.Prelude.{ℕ, ◌+◌, ◌^◌, not, ◌==◌, if◌then◌else◌, List, [], ◌∷◌, ◌++◌, filter, remove, Option, Some, None, slice_get}
 use Rattle.ddr_timing.specs.declared.config.Config.{Config}
+use Rattle.ddr_timing.specs.declared.units.TheConstants.{BURST_CLOCKS}
 use Rattle.ddr_trace.specs.declared.command.Command.{Command}
 use Rattle.ddr_address_map.specs.declared.request.Kind.{Kind}
 use Rattle.ddr_address_map.specs.declared.request.Kind.TheVariants.{Read, Write}
@@ -10,7 +11,8 @@ use Rattle.ddr_channel.specs.declared.choice.Choice.{Choice}
 use Rattle.ddr_channel.specs.declared.choice.Choice.TheVariants as choice
 use Rattle.ddr_channel.specs.declared.waiting.Waiting.{Waiting}
 use Rattle.ddr_channel.specs.Choice.{choice_of}
-use Rattle.ddr_channel.specs.Commands.{activate_at, precharge_at, column_of, entry}
+use Rattle.ddr_trace.specs.Commands.{entry}
+use Rattle.ddr_channel.specs.Commands.{activate_at, precharge_at, column_of}
 use Rattle.ddr_channel.specs.Memory.{LineAddress, line_of, is_same_line}
 use Rattle.ddr_channel.specs.State.{State}
 
@@ -25,10 +27,10 @@ completed s = record s {
 abbrev pub recorded : Command → State → State
 recorded c s = record s { trace = s.trace ++ entry s.now c ∷ [] }
 
--- from the column command to completion: the latency, and the 4 clocks of a burst
+-- from the column command to completion: the latency, and the clocks of a burst
 abbrev pub service_time : Config → Kind → ℕ
-service_time config Read = config.timing.cl + 4
-service_time config Write = config.timing.cwl + 4
+service_time config Read = config.timing.cl + BURST_CLOCKS
+service_time config Write = config.timing.cwl + BURST_CLOCKS
 
 -- a read has the burst that the open row lends, a write keeps the line that it writes
 abbrev pub line_served : Kind → List ℕ → List ℕ → List ℕ
@@ -78,10 +80,6 @@ issued (choice.Column place) s = for_request (served place) (slice_get s.pending
 
 abbrev pub ticked : State → State
 ticked s = record s { now = s.now + 1 }
-
--- the clock stands still from here on
-abbrev pub last_cycle : ℕ
-last_cycle = 2 ^ 62
 
 -- completion, the choice, its command, and the clock
 abbrev pub after_cycle : State → State

@@ -1,6 +1,7 @@
 -- What contracts see of a channel: its state, with the rows in place of the bytes of each line.
 use Rattle.std.specs.Prelude.{◌≡◌, ℕ, ◌*◌, ◌/◌, true, false, ◌==◌, List, Option, Some, None}
 use Rattle.ddr_timing.specs.declared.config.Config.{Config}
+use Rattle.ddr_timing.specs.declared.units.TheConstants.{GROUP_BANKS, LINE_COLUMNS}
 use Rattle.ddr_trace.specs.declared.command.Entry.{Entry}
 use Rattle.ddr_trace.specs.Rules.{is_bank_active, is_row_open}
 use Rattle.ddr_address_map.specs.declared.place.Place.{Place}
@@ -42,7 +43,7 @@ IsOpen trace p (Some row) = (is_bank_active trace (activate_at p) ≡ true) × (
 
 -- the rows have the geometry's shape, and the open rows that the trace leaves
 pub record AgreesWith (config : Config) (trace : List Entry) (rows : Rows) : Type 0 where
-  pub banks : bank_count rows ≡ config.geometry.groups * 4
+  pub banks : bank_count rows ≡ config.geometry.groups * GROUP_BANKS
   pub rows_are : row_count rows ≡ config.geometry.rows
-  pub lines : line_count rows ≡ config.geometry.columns / 8
+  pub lines : line_count rows ≡ config.geometry.columns / LINE_COLUMNS
   pub opened : (p : Place) → IsServed config p → IsOpen trace p (open_row rows (bank_number p))

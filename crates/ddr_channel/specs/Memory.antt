@@ -2,6 +2,7 @@
 use Rattle.std.specs.Prelude.{ℕ, ◌+◌, ◌*◌, Bool, true, false, ◌&&◌, ◌==◌, List, map, fold, if◌then◌else◌, slice_index}
 use Rattle.std.specs.List.{range_with_len}
 use Rattle.std.specs.Int.{bit_at}
+use Rattle.ddr_timing.specs.declared.units.TheConstants.{GROUP_BANKS, LINE_BYTES}
 use Rattle.ddr_address_map.specs.declared.place.Place.{Place}
 use Rattle.ddr_address_map.specs.declared.request.Kind.{Kind}
 use Rattle.ddr_address_map.specs.declared.request.Kind.TheVariants.{Read, Write}
@@ -13,9 +14,9 @@ pub record LineAddress : Type 0 where
   pub row : ℕ
   pub line : ℕ
 
--- a bank group has 4 banks
+-- the number of the bank in its rank
 abbrev pub bank_number : Place → ℕ
-bank_number place = place.group * 4 + place.bank
+bank_number place = place.group * GROUP_BANKS + place.bank
 
 abbrev pub line_of : Place → LineAddress
 line_of place = record { bank = bank_number place; row = place.row; line = place.line }
@@ -36,10 +37,10 @@ abbrev pub byte_over : ℕ → List Request → LineAddress → ℕ → ℕ
 byte_over before requests address i =
     fold (λ byte r. if writes_byte address i r then slice_index r.line i else byte) before requests
 
--- the 64 bytes of the line, each after the requests
+-- the bytes of the line, each after the requests
 abbrev pub line_over : List ℕ → List Request → LineAddress → List ℕ
-line_over before requests address = map (λ i. byte_over (slice_index before i) requests address i) (range_with_len 0 64)
+line_over before requests address = map (λ i. byte_over (slice_index before i) requests address i) (range_with_len 0 LINE_BYTES)
 
 -- the line after the requests, from a memory of zeros
 abbrev pub line_after : List Request → LineAddress → List ℕ
-line_after requests address = map (λ i. byte_over 0 requests address i) (range_with_len 0 64)
+line_after requests address = map (λ i. byte_over 0 requests address i) (range_with_len 0 LINE_BYTES)

@@ -4,11 +4,11 @@ use Rattle.std.specs.List.Sorted.{IsStrictlyIncreasing}
 use Rattle.std.specs.List.{range_with_len, AllByRecursion}
 use Rattle.ddr_timing.specs.declared.config.Config.{Config}
 use Rattle.ddr_trace.specs.declared.command.Entry.{Entry}
-use Rattle.ddr_trace.specs.Commands.{is_column}
 use Rattle.ddr_trace.specs.Legality.{IsLegal}
 use Rattle.ddr_address_map.specs.Requests.{Request, Completion}
 use Rattle.ddr_channel.specs.declared.waiting.Waiting.{Waiting}
-use Rattle.ddr_channel.specs.Commands.{column_of, entry}
+use Rattle.ddr_trace.specs.Commands.{entry, is_column}
+use Rattle.ddr_channel.specs.Commands.{column_of}
 use Rattle.ddr_channel.specs.Cycle.{completion_at}
 use Rattle.ddr_channel.specs.History.{Call, Admit, Cycle, Pop, Owner, History, run}
 use Rattle.ddr_channel.specs.Kept.{Kept, state_of}

@@ -1,21 +1,20 @@
 -- What every state of a channel keeps.
-use Rattle.std.specs.Prelude.{◌≡◌, ℕ, ◌+◌, ◌<◌, ◌≤◌, ◌/◌, List, [], ◌∷◌, length, Some, slice_get}
+use Rattle.std.specs.Prelude.{◌≡◌, ℕ, true, ◌+◌, ◌≤◌, List, [], ◌∷◌, length, Some, slice_get}
 use Rattle.std.specs.List.{AllByRecursion}
 use Rattle.ddr_timing.specs.declared.config.Config.{Config}
 use Rattle.ddr_trace.specs.declared.command.Entry.{Entry}
 use Rattle.ddr_trace.specs.Legality.{IsLegal}
 use Rattle.ddr_address_map.specs.declared.place.Place.{Place}
+use Rattle.ddr_address_map.specs.Map.{in_range}
 use Rattle.ddr_address_map.specs.Requests.{Completion}
-use Rattle.ddr_channel.specs.Commands.{column_at, entry}
+use Rattle.ddr_trace.specs.Commands.{entry}
+use Rattle.ddr_channel.specs.Commands.{column_at}
 use Rattle.ddr_channel.specs.Cycle.{service_time}
 use Rattle.ddr_channel.specs.State.{State}
 
--- the place's digits lie in the geometry, and for now in group 0 and bank 0
-pub record IsServed (config : Config) (p : Place) : Type 0 where
-  pub group : p.group ≡ 0
-  pub bank : p.bank ≡ 0
-  pub row : p.row < config.geometry.rows
-  pub line : p.line < config.geometry.columns / 8
+-- the place lies in the geometry
+abbrev pub IsServed : Config → Place → Type 0
+IsServed config p = in_range config.geometry p ≡ true
 
 -- the column command of the completion stands in the trace, and the completion is due when its data have passed
 pub record IsTraced (config : Config) (trace : List Entry) (d : Completion) : Type 0 where

@@ -1,6 +1,7 @@
 -- The state of a channel, and what admission and the taking of completions make of it.
 use Rattle.std.specs.Prelude.{ℕ, Bool, true, false, nat_le, List, [], ◌∷◌, ◌++◌, drop, count_by, replicate}
 use Rattle.ddr_timing.specs.declared.config.Config.{Config}
+use Rattle.ddr_timing.specs.declared.units.TheConstants.{LINE_BYTES}
 use Rattle.ddr_trace.specs.declared.command.Entry.{Entry}
 use Rattle.ddr_address_map.specs.declared.request.Kind.{Kind}
 use Rattle.ddr_address_map.specs.declared.request.Kind.TheVariants.{Read, Write}
@@ -20,7 +21,7 @@ pub record State : Type 0 where
   -- complete and not taken, the oldest first
   pub done : List Completion
   pub trace : List Entry
-  -- the 64 bytes of each line in the rows
+  -- the bytes of each line in the rows
   pub cells : LineAddress → List ℕ
 
 -- before the first cycle
@@ -33,7 +34,7 @@ opened config start = record {
   flight = [];
   done = [];
   trace = [];
-  cells = λ _. replicate 64 0;
+  cells = λ _. replicate LINE_BYTES 0;
 }
 
 abbrev pub is_same_kind : Kind → Kind → Bool

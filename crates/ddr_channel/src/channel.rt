@@ -1,34 +1,33 @@
 //! One channel: its pending requests, its rows, its trace, and the cycles that it makes.
-ghost use Rattle.std.specs.Prelude.{◌≡◌, ◌≢◌, false, ◌+◌, ◌^◌, ◌<◌, ◌≤◌, ◌↔◌, List, [], ◌∷◌, ◌++◌, IfSome, Some, Err, IsTrue, IsErr, IfOk, IfErr, OnOk, OnErr, IsErrOf, option_copied, slice_get, IsSomeAnd};
+ghost use Rattle.std.specs.Prelude.{◌≡◌, ◌≢◌, false, ◌+◌, ◌^◌, ◌<◌, ◌≤◌, ◌↔◌, List, [], ◌∷◌, ◌++◌, IfSome, Some, Err, IsTrue, IsErr, IsOk, IfOk, IfErr, OnOk, OnErr, IsErrOf, option_copied, slice_get, IsSomeAnd};
 ghost use Rattle.ddr_channel.specs.declared.choice.Choice.TheVariants as choice;
-ghost use Rattle.ddr_channel.specs.declared.channel.CycleError.TheVariants.{ClockSpent};
+ghost use Rattle.ddr_channel.specs.declared.channel.CycleError.TheVariants.{ClockSpent, OutOfMemory};
 ghost use Rattle.ddr_address_map.specs.declared.request.Kind.TheVariants.{Read, Write};
+ghost use Rattle.ddr_timing.specs.declared.units.TheConstants.{CLOCK_STOP};
 ghost use Rattle.ddr_trace.specs.Legality.{IsLegal};
 ghost use Rattle.ddr_channel.specs.Choice.{choice_of, has_room};
-ghost use Rattle.ddr_channel.specs.Cycle.{completed, after_cycle, last_cycle};
+ghost use Rattle.ddr_channel.specs.Cycle.{completed, after_cycle};
 ghost use Rattle.ddr_channel.specs.History.{Call, Admit, Cycle, Pop, run};
 ghost use Rattle.ddr_channel.specs.Kept.{state_of};
 ghost use Rattle.ddr_channel.specs.Promise.{StandsFor, IsNextAnswer};
 ghost use Rattle.ddr_channel.specs.Sound.{IsServed};
 ghost use Rattle.ddr_channel.specs.State.{opened, after_admit, after_pop, is_queue_full};
 
-use crate::bus::CommandBus;
 use crate::choice::{Choice, activate_at, choice_for, column_at, precharge_at};
-use crate::queue::{complete, push, record, take_oldest};
+use crate::queue::{complete, push, take_oldest};
 use crate::transfer::{bank_number, transfer};
 use crate::waiting::Waiting;
 use circular_buffer::HeapCircularBuffer;
 use ddr_address_map::place::Place;
 use ddr_address_map::request::{Done, Kind, Req};
+use ddr_legality::legality::Legality;
 use ddr_row_array::row_array::RowArray;
 use ddr_timing::config::Config;
+use ddr_timing::units::CLOCK_STOP;
 use ddr_trace::command::Entry;
 use ddr_trace::trace::Trace;
 use std::alloc::{AllocError, Global};
 use std::marker::Model;
-
-/// The cycle at which the clock stands still.
-const LAST_CYCLE: u64 = 1 << 62;
 
 /// Why a cycle was not made.
 #[derive(Clone, Copy, Debug, PartialEq, Eq)]
@@ -43,14 +42,12 @@ pub enum CycleError {
 #[derive(Drop)]
 pub struct Channel {
     config: Config,
-    start: u64,
-    now: u64,
     pending: HeapCircularBuffer<Waiting>,
     reads: u32,
     writes: u32,
     flight: HeapCircularBuffer<Done>,
     done: HeapCircularBuffer<Done>,
-    trace: Vec<Entry>,
+    legality: Legality,
     rows: RowArray,
 }
 
@@ -70,7 +67,7 @@ impl Channel {
     /// A channel that has made no cycle, and whose first one is `first_cycle`. All that its queues hold has
     /// room from here on.
     pub fn open(alloc: Global, config: &Config, first_cycle: u64) -> Result<Channel, AllocError>
-        requires { first_cycle ≤ 2 ^ 62 }
+        requires { first_cycle ≤ CLOCK_STOP }
         ensures state { IfOk result (λ c. state_of c ≡ opened config.now first_cycle) }
         ensures config { IfOk result (λ c. c.config ≡ config.now) }
         ensures stands { IfOk result (λ c. StandsFor c []) }
@@ -78,8 +75,6 @@ impl Channel {
         let limits = config.limits;
         Ok(Channel {
             config: *config,
-            start: first_cycle,
-            now: first_cycle,
             pending: HeapCircularBuffer::with_capacity(
                 alloc,
                 (limits.reads + limits.writes) as usize,
@@ -88,7 +83,7 @@ impl Channel {
             writes: 0,
             flight: HeapCircularBuffer::with_capacity(alloc, limits.done as usize)?,
             done: HeapCircularBuffer::with_capacity(alloc, limits.done as usize)?,
-            trace: Vec::new(alloc),
+            legality: Legality::open(alloc, config, first_cycle)?,
             rows: RowArray::open(alloc, config)?,
         })
     }
@@ -127,7 +122,7 @@ impl Channel {
         ensures config { self.new.config ≡ self.old.config }
     {
         let kind = request.echo.kind;
-        let admitted = self.now;
+        let admitted = self.legality.now();
         push(&mut self.pending, Waiting { request, admitted });
         match kind {
             Kind::Read => self.reads += 1,
@@ -144,20 +139,14 @@ impl Channel {
 
     /// What the next cycle does.
     fn choice(&self) -> Choice
-        requires { self.now.now < 2 ^ 62 }
+        requires { self.now.now < CLOCK_STOP }
         ensures { result ≡ choice_of (completed (state_of self.entry.now)) }
     {
         let Some(oldest) = self.pending.front() else {
             return Choice::Nothing;
         };
         let room = self.flight.len() + self.done.len() < self.config.limits.done as usize;
-        let bus = CommandBus {
-            config: &self.config,
-            start: self.start,
-            now: self.now,
-            trace: self.trace.as_slice(),
-        };
-        choice_for(&bus, room, &oldest.request)
+        choice_for(&self.legality, room, &oldest.request)
     }
 
     /// The kind and the place of the oldest request, which is there.
@@ -176,68 +165,75 @@ impl Channel {
 
     /// A cycle with no command.
     fn rest(&mut self)
-        requires clock { self.old.now < 2 ^ 62 }
+        requires clock { self.old.now < CLOCK_STOP }
         requires chosen { choice_of (completed (state_of self.old)) ≡ choice.Nothing }
         ensures state { state_of self.new ≡ after_cycle (state_of self.old) }
         ensures config { self.new.config ≡ self.old.config }
         ensures clock { self.new.now ≡ self.old.now + 1 }
     {
-        complete(&mut self.flight, &mut self.done, self.now);
-        self.now += 1;
+        let now = self.legality.now();
+        complete(&mut self.flight, &mut self.done, now);
+        self.legality.tick();
     }
 
     /// A cycle with an ACT for the oldest request.
     fn activate(&mut self) -> Result<(), AllocError>
-        requires clock { self.old.now < 2 ^ 62 }
+        requires clock { self.old.now < CLOCK_STOP }
         requires chosen { choice_of (completed (state_of self.old)) ≡ choice.Act 0 }
         ensures ok { OnOk result (state_of self.new ≡ after_cycle (state_of self.old)) }
         ensures err { OnErr result (state_of self.new ≡ state_of self.old) }
         ensures config { self.new.config ≡ self.old.config }
         ensures clock { OnOk result (self.new.now ≡ self.old.now + 1) }
     {
+        let now = self.legality.now();
         let (_, place) = self.oldest();
         let bank = bank_number(place);
         self.rows.ensure(bank, place.row)?;
-        record(&mut self.trace, self.now, activate_at(place))?;
-        complete(&mut self.flight, &mut self.done, self.now);
+        self.legality.reserve_entry()?;
+        complete(&mut self.flight, &mut self.done, now);
+        self.legality.record(activate_at(place));
         self.rows.activate(bank, place.row);
-        self.now += 1;
+        self.legality.tick();
         Ok(())
     }
 
     /// A cycle with a PRE for the oldest request.
     fn precharge(&mut self) -> Result<(), AllocError>
-        requires clock { self.old.now < 2 ^ 62 }
+        requires clock { self.old.now < CLOCK_STOP }
         requires chosen { choice_of (completed (state_of self.old)) ≡ choice.Pre 0 }
         ensures ok { OnOk result (state_of self.new ≡ after_cycle (state_of self.old)) }
         ensures err { OnErr result (state_of self.new ≡ state_of self.old) }
         ensures config { self.new.config ≡ self.old.config }
         ensures clock { OnOk result (self.new.now ≡ self.old.now + 1) }
     {
+        let now = self.legality.now();
         let (_, place) = self.oldest();
-        record(&mut self.trace, self.now, precharge_at(place))?;
-        complete(&mut self.flight, &mut self.done, self.now);
+        self.legality.reserve_entry()?;
+        complete(&mut self.flight, &mut self.done, now);
+        self.legality.record(precharge_at(place));
         self.rows.precharge(bank_number(place));
-        self.now += 1;
+        self.legality.tick();
         Ok(())
     }
 
     /// A cycle with the column command of the oldest request.
     fn serve(&mut self) -> Result<(), AllocError>
-        requires clock { self.old.now < 2 ^ 62 }
+        requires clock { self.old.now < CLOCK_STOP }
         requires chosen { choice_of (completed (state_of self.old)) ≡ choice.Column 0 }
         ensures ok { OnOk result (state_of self.new ≡ after_cycle (state_of self.old)) }
         ensures err { OnErr result (state_of self.new ≡ state_of self.old) }
         ensures config { self.new.config ≡ self.old.config }
         ensures clock { OnOk result (self.new.now ≡ self.old.now + 1) }
     {
+        let now = self.legality.now();
         let (kind, place) = self.oldest();
-        record(&mut self.trace, self.now, column_at(kind, place))?;
-        complete(&mut self.flight, &mut self.done, self.now);
+        self.legality.reserve_entry()?;
+        complete(&mut self.flight, &mut self.done, now);
+        self.legality.record(column_at(kind, place));
         let request = take_oldest(&mut self.pending);
-        let done = transfer(&mut self.rows, &self.config, self.now, request);
+        let done = transfer(&mut self.rows, &self.config, now, request);
         push(&mut self.flight, done);
-        self.now += 1;
+        self.legality.tick();
         match kind {
             Kind::Read => self.reads -= 1,
             Kind::Write => self.writes -= 1,
@@ -246,16 +242,17 @@ impl Channel {
     }
 
     /// Makes the cycle `now`: what is due completes, and the command that is chosen is issued. A refusal
-    /// leaves the channel as it was.
+    /// leaves the channel as it was. Memory is asked for only where a command is issued.
     pub fn cycle(&mut self) -> Result<(), CycleError>
         ensures ok { OnOk result (state_of self.new ≡ after_cycle (state_of self.old)) }
-        ensures spent { IsErrOf result ClockSpent ↔ (self.old.now ≡ last_cycle) }
+        ensures spent { IsErrOf result ClockSpent ↔ (self.old.now ≡ CLOCK_STOP) }
         ensures err { OnErr result (state_of self.new ≡ state_of self.old) }
         ensures config { self.new.config ≡ self.old.config }
         ensures clock { OnOk result (self.new.now ≡ self.old.now + 1) }
+        ensures idle { choice_of (completed (state_of self.old)) ≡ choice.Nothing → IsErrOf result OutOfMemory → ⊥ }
         ensures stands { OnOk result ((calls : List Call) → StandsFor self.old calls → StandsFor self.new (calls ++ Cycle ∷ [])) }
     {
-        if self.now == LAST_CYCLE {
+        if self.legality.now() == CLOCK_STOP {
             return Err(CycleError::ClockSpent);
         }
         match self.make_cycle() {
@@ -266,11 +263,12 @@ impl Channel {
 
     /// Makes a cycle, before the clock is spent.
     fn make_cycle(&mut self) -> Result<(), AllocError>
-        requires { self.old.now < 2 ^ 62 }
+        requires { self.old.now < CLOCK_STOP }
         ensures ok { OnOk result (state_of self.new ≡ after_cycle (state_of self.old)) }
         ensures err { OnErr result (state_of self.new ≡ state_of self.old) }
         ensures config { self.new.config ≡ self.old.config }
         ensures clock { OnOk result (self.new.now ≡ self.old.now + 1) }
+        ensures idle { choice_of (completed (state_of self.old)) ≡ choice.Nothing → IsOk result }
     {
         match self.choice() {
             Choice::Nothing => {
@@ -314,9 +312,9 @@ impl Channel {
     /// The next cycle to be made.
     pub fn now(&self) -> u64
         ensures value { result ≡ self.entry.now.now }
-        ensures bound { result ≤ last_cycle }
+        ensures bound { result ≤ CLOCK_STOP }
     {
-        self.now
+        self.legality.now()
     }
 
     /// The commands so far.
@@ -324,7 +322,7 @@ impl Channel {
         ensures value { result.now ≡ self.entry.now.trace }
         ensures legal { IsLegal self.entry.now.config self.entry.now.start self.entry.now.now result.now }
     {
-        self.trace.as_slice()
+        self.legality.entries()
     }
 
     /// The commands so far, from the first cycle to the next one. The channel is given up.
@@ -334,20 +332,20 @@ impl Channel {
     {
         let Channel {
             config: _,
-            start,
-            now,
             pending: _,
             reads: _,
             writes: _,
             flight: _,
             done: _,
-            trace,
+            legality,
             rows: _,
         } = self;
+        let start = legality.start();
+        let end = legality.now();
         Trace {
             start,
-            end: now,
-            entries: trace,
+            end,
+            entries: legality.into_entries(),
         }
     }
 }

@@ -1,15 +1,13 @@
 //! What a channel does in a cycle.
-ghost use Rattle.std.specs.Prelude.{◌≡◌, ◌^◌, ◌<◌};
-ghost use Rattle.ddr_channel.specs.Bus.{bus_at};
+ghost use Rattle.std.specs.Prelude.{◌≡◌};
+ghost use Rattle.ddr_legality.specs.Bus.{is_legal_now};
 ghost use Rattle.ddr_channel.specs.Choice.{choice_for};
-ghost use Rattle.ddr_channel.specs.Commands.{activate_at, precharge_at, column_at};
-ghost use Rattle.ddr_channel.specs.Sound.{IsServed};
+ghost use Rattle.ddr_channel.specs.Commands.{activate_at, precharge_at, column_at, is_on_other_row};
 
-use crate::bus::CommandBus;
 use ddr_address_map::place::Place;
 use ddr_address_map::request::{Kind, Req};
+use ddr_legality::legality::Legality;
 use ddr_trace::command::Command;
-use ddr_trace::rule::Rule;
 
 /// The command of a cycle. `place` is that of a request among the pending ones, the oldest being 0.
 #[derive(Clone, Copy, Debug, PartialEq, Eq)]
@@ -77,37 +75,35 @@ pub(crate) fn column_at(kind: Kind, place: Place) -> Command
 
 /// The choice for the oldest request, which is the only candidate: its column command where there is room
 /// and it is legal, else its ACT, else a PRE of another row.
-///
-/// Which rule the column command breaks first says how its bank stands: STATE in an idle bank, ROW in
-/// one that is active with another row, and any later rule in one whose open row is the request's.
-pub(crate) fn choice_for(bus: &CommandBus, room: bool, request: &Req) -> Choice
-    requires clock { bus.now.now < 2 ^ 62 }
-    requires served { IsServed bus.now.config.now request.now.place }
-    ensures { result ≡ choice_for (bus_at bus.entry.now) room 0 request.now }
+pub(crate) fn choice_for(legality: &Legality, room: bool, request: &Req) -> Choice
+    ensures { result ≡ choice_for legality.entry.now.bus room 0 request.now }
 {
     let place = request.place;
-    let Some(rule) = bus.broken(column_at(request.echo.kind, place)) else {
-        return if room {
-            Choice::Column { place: 0 }
-        } else {
-            Choice::Nothing
-        };
-    };
-    match rule {
-        Rule::State => {
-            if bus.may(activate_at(place)) {
-                Choice::Act { place: 0 }
-            } else {
-                Choice::Nothing
-            }
-        }
-        Rule::Row => {
-            if bus.may(precharge_at(place)) {
-                Choice::Pre { place: 0 }
-            } else {
-                Choice::Nothing
-            }
-        }
-        _ => Choice::Nothing,
+    if room && may(legality, column_at(request.echo.kind, place)) {
+        return Choice::Column { place: 0 };
+    }
+    if may(legality, activate_at(place)) {
+        return Choice::Act { place: 0 };
+    }
+    if is_on_other_row(legality, place) && may(legality, precharge_at(place)) {
+        return Choice::Pre { place: 0 };
+    }
+    Choice::Nothing
+}
+
+/// Whether the command is legal now.
+fn may(legality: &Legality, command: Command) -> bool
+    ensures { result ≡ is_legal_now legality.entry.now.bus command }
+{
+    legality.may(command).is_ok()
+}
+
+/// Whether the bank of the place is active with another row.
+fn is_on_other_row(legality: &Legality, place: Place) -> bool
+    ensures { result ≡ is_on_other_row legality.entry.now.bus place }
+{
+    match legality.open_row(place.group, place.bank) {
+        Some(row) => row != place.row,
+        None => false,
     }
 }

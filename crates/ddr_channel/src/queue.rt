@@ -1,14 +1,11 @@
-//! Steps on the bounded queues and the trace of a channel.
-ghost use Rattle.std.specs.Prelude.{◌≡◌, ◌+◌, ◌<◌, ◌≤◌, ◌==◌, not, List, [], ◌∷◌, ◌++◌, length, drop, filter, slice_get, option_map, ◌≢◌, Some, OnOk, OnErr};
+//! Steps on the bounded queues of a channel.
+ghost use Rattle.std.specs.Prelude.{◌≡◌, ◌+◌, ◌<◌, ◌≤◌, ◌==◌, not, List, [], ◌∷◌, ◌++◌, length, drop, filter, slice_get, option_map, ◌≢◌, Some};
 ghost use Rattle.circular_buffer.specs.Buffer.{buffer};
-ghost use Rattle.ddr_channel.specs.Commands.{entry};
 ghost use Rattle.ddr_channel.specs.Sound.{AreDue};
 
 use crate::waiting::Waiting;
 use circular_buffer::HeapCircularBuffer;
 use ddr_address_map::request::{Done, Req};
-use ddr_trace::command::{Command, Entry};
-use std::alloc::AllocError;
 
 /// Adds an item to a queue that has room.
 pub(crate) fn push<T: Drop>(queue: &mut HeapCircularBuffer<T>, item: T)
@@ -38,18 +35,6 @@ pub(crate) fn complete(
     if let Some(first) = flight.pop_front() {
         push(done, first);
     }
-}
-
-/// Adds a command to the trace. Where memory is refused nothing changes.
-pub(crate) fn record(trace: &mut Vec<Entry>, now: u64, command: Command) -> Result<(), AllocError>
-    ensures ok { OnOk result (trace.new.items ≡ trace.old.items ++ entry now command ∷ []) }
-    ensures err { OnErr result (trace.new.items ≡ trace.old.items) }
-{
-    trace.push(Entry {
-        cycle: now,
-        command,
-    })?;
-    Ok(())
 }
 
 /// Takes the oldest request, which is there.

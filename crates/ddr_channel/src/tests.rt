@@ -1,39 +1,38 @@
 //! Worked runs of a channel, with the cycles and the bytes worked out by hand.
-ghost use Rattle.std.specs.Prelude.{◌≡◌, ◌+◌, ◌<◌, IfOk};
+ghost use Rattle.std.specs.Prelude.{IfOk};
+ghost use Rattle.ddr_channel.specs.Sound.{IsServed};
 
 use crate::channel::{Channel, CycleError};
-use ddr_address_map::place::Place;
+use ddr_address_map::map::Map;
 use ddr_address_map::request::{Done, Echo, Kind, Req};
 use ddr_timing::config::Config;
 use ddr_timing::profile::PROFILE_S;
 use ddr_trace::command::{Command, Entry};
-use std::alloc::{AllocError, Global};
+use std::alloc::Global;
 use std::test::Fail;
 
-/// A request to line 0 of a row of group 0 and bank 0, with `fill` in each byte of its line.
-fn request(alloc: Global, kind: Kind, row: u32, mask: u64, fill: u8) -> Result<Req, AllocError>
-    ensures group { IfOk result (λ r. r.place.group ≡ 0) }
-    ensures bank { IfOk result (λ r. r.place.bank ≡ 0) }
-    ensures row { IfOk result (λ r. r.place.row ≡ row) }
-    ensures line { IfOk result (λ r. r.place.line ≡ 0) }
+/// A request to the line of an address, with `fill` in each byte of its line.
+fn request(
+    alloc: Global,
+    config: &Config,
+    kind: Kind,
+    addr: u64,
+    mask: u64,
+    fill: u8,
+) -> Result<Req, Fail>
+    ensures { IfOk result (λ r. IsServed config.now r.place) }
 {
+    let place = Map::new(config).place(addr).ok_or("outside the memory")?;
     let line = Box::new(alloc, [fill; 64])?;
     Ok(Req {
         port: 0,
         number: 0,
         echo: Echo {
             kind,
-            addr: 8192 * u64::from(row),
+            addr,
             len: 64,
         },
-        place: Place {
-            channel: 0,
-            group: 0,
-            bank: 0,
-            row,
-            line: 0,
-            offset: 0,
-        },
+        place,
         mask,
         line,
     })
@@ -54,6 +53,16 @@ fn finish(alloc: Global, channel: &mut Channel) -> Result<Vec<Done>, CycleError>
         }
     }
     Ok(taken)
+}
+
+fn activate(cycle: u64, group: u32) -> Entry {
+    let command = Command::Act {
+        rank: 0,
+        group,
+        bank: 0,
+        row: 0,
+    };
+    Entry { cycle, command }
 }
 
 fn act(cycle: u64, row: u32) -> Entry {
@@ -101,7 +110,7 @@ fn precharge(cycle: u64) -> Entry {
 fn a_read_of_what_was_never_written(rt: HostRuntime) -> Result<(), Fail> {
     let config = Config::read(rt.alloc(), PROFILE_S)?;
     let mut channel = Channel::open(rt.alloc(), &config, 0)?;
-    let zeros = request(rt.alloc(), Kind::Read, 0, 0, 255)?;
+    let zeros = request(rt.alloc(), &config, Kind::Read, 0, 0, 255)?;
     assert!(rt; channel.admit(zeros).is_ok());
     let taken = finish(rt.alloc(), &mut channel)?;
     assert_eq!(rt; channel.trace(), [act(0, 0), read(4, 0)].as_slice());
@@ -117,9 +126,9 @@ fn a_read_of_what_was_never_written(rt: HostRuntime) -> Result<(), Fail> {
 fn a_read_of_what_was_written(rt: HostRuntime) -> Result<(), Fail> {
     let config = Config::read(rt.alloc(), PROFILE_S)?;
     let mut channel = Channel::open(rt.alloc(), &config, 0)?;
-    let first = request(rt.alloc(), Kind::Write, 0, 0b1111, 0x11)?;
-    let second = request(rt.alloc(), Kind::Write, 0, 0b111100, 0x22)?;
-    let third = request(rt.alloc(), Kind::Read, 0, 0, 255)?;
+    let first = request(rt.alloc(), &config, Kind::Write, 0, 0b1111, 0x11)?;
+    let second = request(rt.alloc(), &config, Kind::Write, 0, 0b111100, 0x22)?;
+    let third = request(rt.alloc(), &config, Kind::Read, 0, 0, 255)?;
     assert!(rt; channel.admit(first).is_ok());
     assert!(rt; channel.admit(second).is_ok());
     assert!(rt; channel.admit(third).is_ok());
@@ -141,8 +150,8 @@ fn a_read_of_what_was_written(rt: HostRuntime) -> Result<(), Fail> {
 fn another_row_is_opened(rt: HostRuntime) -> Result<(), Fail> {
     let config = Config::read(rt.alloc(), PROFILE_S)?;
     let mut channel = Channel::open(rt.alloc(), &config, 0)?;
-    let first = request(rt.alloc(), Kind::Read, 0, 0, 0)?;
-    let second = request(rt.alloc(), Kind::Read, 1, 0, 0)?;
+    let first = request(rt.alloc(), &config, Kind::Read, 0, 0, 0)?;
+    let second = request(rt.alloc(), &config, Kind::Read, 8192, 0, 0)?;
     assert!(rt; channel.admit(first).is_ok());
     assert!(rt; channel.admit(second).is_ok());
     let taken = finish(rt.alloc(), &mut channel)?;
@@ -164,19 +173,41 @@ fn another_row_is_opened(rt: HostRuntime) -> Result<(), Fail> {
     Ok(())
 }
 
+/// The oldest request alone is served: the second bank's ACT comes once the first request is served, and its
+/// read CCD_S behind the first read at the soonest.
+#[test]
+fn a_request_to_another_bank(rt: HostRuntime) -> Result<(), Fail> {
+    let config = Config::read(rt.alloc(), PROFILE_S)?;
+    let mut channel = Channel::open(rt.alloc(), &config, 0)?;
+    let first = request(rt.alloc(), &config, Kind::Read, 0, 0, 0)?;
+    let second = request(rt.alloc(), &config, Kind::Read, 512, 0, 0)?;
+    assert!(rt; channel.admit(first).is_ok());
+    assert!(rt; channel.admit(second).is_ok());
+    let taken = finish(rt.alloc(), &mut channel)?;
+    assert_eq!(rt; taken.len(), 2);
+    assert_eq!(rt; channel.now(), 18);
+    let trace = channel.trace();
+    assert_eq!(rt; trace.len(), 4);
+    assert_eq!(rt; trace[0], activate(0, 0));
+    assert_eq!(rt; trace[1], read(4, 0));
+    assert_eq!(rt; trace[2], activate(5, 1));
+    assert_eq!(rt; trace[3].cycle, 9);
+    Ok(())
+}
+
 #[test]
 fn a_full_queue_hands_the_request_back(rt: HostRuntime) -> Result<(), Fail> {
     let config = Config::read(rt.alloc(), PROFILE_S)?;
     let mut channel = Channel::open(rt.alloc(), &config, 0)?;
     for _ in 0..8 {
-        let next = request(rt.alloc(), Kind::Read, 0, 0, 0)?;
+        let next = request(rt.alloc(), &config, Kind::Read, 0, 0, 0)?;
         assert!(rt; channel.room());
         assert!(rt; channel.admit(next).is_ok());
     }
     assert!(rt; !channel.room());
-    let ninth = request(rt.alloc(), Kind::Read, 0, 0, 0)?;
+    let ninth = request(rt.alloc(), &config, Kind::Read, 0, 0, 0)?;
     assert!(rt; channel.admit(ninth).is_err());
-    let writes = request(rt.alloc(), Kind::Write, 0, 1, 0)?;
+    let writes = request(rt.alloc(), &config, Kind::Write, 0, 1, 0)?;
     assert!(rt; channel.admit(writes).is_ok());
     Ok(())
 }

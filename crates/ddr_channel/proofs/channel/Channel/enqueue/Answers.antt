@@ -1,8 +1,9 @@
 -- There is room for one more request of its kind.
-use Rattle.std.proofs.Common.{sym, ap, subst, ◌∙◌, arith}
+use Rattle.std.proofs.Common.{[], ◌∷◌, ◌++◌, sym, ap, subst, ◌∙◌, arith}
 use Rattle.std.proofs.lemmas.Bool.{leb-false}
 use Rattle.ddr_address_map.specs.declared.request.Kind.TheVariants.{Read, Write}
 use Rattle.ddr_address_map.specs.Requests.{Request}
+use Rattle.circular_buffer.specs.Buffer.{buffer}
 use Rattle.ddr_channel.specs.Kept.{Kept, state_of}
 use Rattle.ddr_channel.specs.Sound.{IsServed}
 use Rattle.ddr_channel.specs.State.{is_queue_full}
@@ -25,11 +26,13 @@ invariant_of-self c =
     let kind = ap (λ (r : Request). r.echo.kind) (sym c.request.view_is) ∙ c.in-Read.is in
     let room = ap (λ (j : Kept). is_queue_full (state_of j) Read) c.self.view_is ∙ ap (is_queue_full (state_of c.args.self.now)) (sym kind) ∙ c.requires.room in
     let served = subst (λ (j : Kept). IsServed j.config c.args.request.place) (sym c.self.view_is) c.requires.served in
-    whole_read c.self.inside c.push.new.queue c.args.request c.self.invariant served kind (leb-false _ _ room) c.push.ensures
+    whole_read c.self.inside c.push.new.queue c.args.request c.self.invariant served kind (leb-false _ _ room)
+    (c.push.ensures ∙ ap (λ n. buffer (c.self.inside.pending.items ++ record { request = c.args.request; admitted = n } ∷ []) c.self.inside.pending.capacity) c.now-admitted.ensures.value)
 
 pub invariant_of-self-in-Write : goal.invariant_of-self-in-Write
 invariant_of-self-in-Write c =
     let kind = ap (λ (r : Request). r.echo.kind) (sym c.request.view_is) ∙ c.in-Write.is in
     let room = ap (λ (j : Kept). is_queue_full (state_of j) Write) c.self.view_is ∙ ap (is_queue_full (state_of c.args.self.now)) (sym kind) ∙ c.requires.room in
     let served = subst (λ (j : Kept). IsServed j.config c.args.request.place) (sym c.self.view_is) c.requires.served in
-    whole_write c.self.inside c.push.new.queue c.args.request c.self.invariant served kind (leb-false _ _ room) c.push.ensures
+    whole_write c.self.inside c.push.new.queue c.args.request c.self.invariant served kind (leb-false _ _ room)
+    (c.push.ensures ∙ ap (λ n. buffer (c.self.inside.pending.items ++ record { request = c.args.request; admitted = n } ∷ []) c.self.inside.pending.capacity) c.now-admitted.ensures.value)
