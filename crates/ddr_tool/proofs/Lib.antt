@@ -7,7 +7,6 @@ pub mod Lines
 pub mod MapLemmas
 pub mod Masks
 pub mod Numbering
-pub mod Numbers
 pub mod Output
 pub mod PassLemmas
 pub mod RunLemmas

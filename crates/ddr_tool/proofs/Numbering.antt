@@ -7,7 +7,7 @@ use Rattle.ddr_address_map.specs.declared.place.Place.{Place}
 use Rattle.ddr_address_map.specs.Requests.{Request}
 use Rattle.ddr_tool.specs.Replies.{AreNumbered}
 use Rattle.ddr_tool.specs.Requests.{or_line, request_at, request_of, requests_from, requests_of, served_place, with_line, ◌>>>◌}
-use Rattle.ddr_tool.specs.Script.{Order, Read, Write, is_skipped, order_of}
+use Rattle.ddr_tool.specs.Script.{Instruction, Read, Write, is_skipped, instruction_of}
 
 -- the requests have the numbers from n on
 AreFrom : ℕ → List Request → Type 0
@@ -26,26 +26,26 @@ unfolding AreFrom
 push_numbered requests r numbered number place q there =
     push_from 0 requests r (λ i p h. numbered i p h ∙ omega arith) (number ∙ omega arith) place q there ∙ omega arith
 
-at_number : (number : ℕ) (order : Order) (place : Place) → (request_at number order place).number ≡ number
+at_number : (number : ℕ) (instruction : Instruction) (place : Place) → (request_at number instruction place).number ≡ number
 at_number number (Read port addr len) place = refl
 at_number number (Write port addr bytes) place = refl
 
 -- a request has the number that it was asked for with
 request_number : (config : Config) (number : ℕ) (text : List ℕ) (r : Request) → request_of config number text ≡ Some r → r.number ≡ number
 unfolding request_of
-request_number config number text r e = by_order (order_of text) e
+request_number config number text r e = by_instruction (instruction_of text) e
   where
-    by_limit : (many : Bool) (order : Order) (place : Place) → cond many None (Some (request_at number order place)) ≡ Some r → r.number ≡ number
-    by_limit true order place h = cc h
-    by_limit false order place h = let same : request_at number order place ≡ r = cc h in subst (λ (x : Request). x.number ≡ number) same (at_number number order place)
+    by_limit : (many : Bool) (instruction : Instruction) (place : Place) → cond many None (Some (request_at number instruction place)) ≡ Some r → r.number ≡ number
+    by_limit true instruction place h = cc h
+    by_limit false instruction place h = let same : request_at number instruction place ≡ r = cc h in subst (λ (x : Request). x.number ≡ number) same (at_number number instruction place)
 
-    by_place : (o : Option Place) (order : Order) → option_and_then (λ place. cond (nat_le 4 number) None (Some (request_at number order place))) o ≡ Some r → r.number ≡ number
-    by_place None order h = cc h
-    by_place (Some place) order h = by_limit (nat_le 4 number) order place h
+    by_place : (o : Option Place) (instruction : Instruction) → option_and_then (λ place. cond (nat_le 4 number) None (Some (request_at number instruction place))) o ≡ Some r → r.number ≡ number
+    by_place None instruction h = cc h
+    by_place (Some place) instruction h = by_limit (nat_le 4 number) instruction place h
 
-    by_order : (o : Option Order) → option_and_then (λ order. option_and_then (λ place. cond (nat_le 4 number) None (Some (request_at number order place))) (served_place config order)) o ≡ Some r → r.number ≡ number
-    by_order None h = cc h
-    by_order (Some order) h = by_place (served_place config order) order h
+    by_instruction : (o : Option Instruction) → option_and_then (λ instruction. option_and_then (λ place. cond (nat_le 4 number) None (Some (request_at number instruction place))) (served_place config instruction)) o ≡ Some r → r.number ≡ number
+    by_instruction None h = cc h
+    by_instruction (Some instruction) h = by_place (served_place config instruction) instruction h
 
 -- a line adds a request with the next number, or none
 line_numbered : (config : Config) (requests next : List Request) (text : List ℕ) → AreNumbered requests → with_line config requests text ≡ Some next → AreNumbered next

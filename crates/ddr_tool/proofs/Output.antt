@@ -1,5 +1,7 @@
 -- What replies, and a trace, append to known bytes.
 use Rattle.std.proofs.Common.{◌≡◌, ◌≢◌, ℕ, Bool, length, true, false, ◌&&◌, suc, zero, ◌+◌, ◌-◌, ◌≤◌, List, [], ◌∷◌, ◌++◌, Option, None, Some, Result, Ok, Err, OnOk, refl, sym, subst, ap, ap₂, ◌∙◌, append-nil, arith}
+use Rattle.std.proofs.lemmas.Bool.{false≢true}
+use Rattle.std.proofs.lemmas.Bool.Decides.{nat_tests}
 use Rattle.std.proofs.lemmas.List.{map-append}
 use Rattle.std.proofs.lemmas.Grind.{flat_map-append}
 use Rattle.std.proofs.KnownBytes.{Appends-nil, Appends-trans}
@@ -90,29 +92,26 @@ trace_ran p requests config serves done same zero_start =
       ends = rw (same, zero_start) at (ap (λ s. s.now) serves.covers.stands.state);
     }
 
--- a legal trace that was written, of the first channel
-pub trace_appended : (config other : Config) (requests : List Request) (channel start end : ℕ) (entries : List Entry) (a b : Option (List ℕ)) → channel ≡ 0 → IsTraceOf config requests entries end → IsLegal other start end entries → other ≡ config → start ≡ 0 → Appends a b (trace_text entries end) → AppendsTrace config requests channel a b
-trace_appended config other requests channel start end entries a b first ran legal same zero_start text = record {
-  entries = entries;
-  end = end;
-  legal = subst (λ c. IsLegal c 0 end entries) same (subst (λ s. IsLegal other s end entries) zero_start legal);
-  first = λ _. ran;
-  idle = λ another. absurd (another first);
-  text = text;
-}
-
 -- a trace of no commands is legal
 none_legal : (config : Config) (end : ℕ) → IsLegal config 0 end []
-none_legal config end place rule.RefLate low = absurd (omega arith)
-none_legal config end place _ low = neither (place == 0)
+none_legal config end place rule.RefLate on_commands = absurd (false≢true on_commands)
+none_legal config end place _ on_commands = neither (place == 0)
   where
     neither : (b : Bool) → (b && false) ≡ false
     neither true = refl
     neither false = refl
 
--- the trace of a channel with no commands
-pub idle_trace_appended : (config : Config) (requests : List Request) (channel end : ℕ) (a b : Option (List ℕ)) → channel ≢ 0 → Appends a b (trace_text [] end) → AppendsTrace config requests channel a b
-idle_trace_appended config requests channel end a b another text = record { entries = []; end = end; legal = none_legal config end; first = λ e. absurd (another e); idle = λ _. refl; text = text }
+-- a trace that was written, of the first channel
+pub trace_appended : (config other : Config) (requests : List Request) (channel start end : ℕ) (entries : List Entry) (a b : Option (List ℕ)) → channel ≡ 0 → IsTraceOf config requests entries end → IsLegal other start end entries → other ≡ config → start ≡ 0 → Appends a b (trace_text entries end) → AppendsTrace config requests channel a b
+trace_appended config other requests channel start end entries a b first ran legal same zero_start text =
+    let of_first = subst (λ c. IsLegal c 0 end entries) same (subst (λ s. IsLegal other s end entries) zero_start legal) in
+    record { entries = entries; end = end; ran = ran; legal = rw first of_first; text = rw first text }
+
+-- and of another one
+pub idle_trace_appended : (config : Config) (requests : List Request) (channel end : ℕ) (entries : List Entry) (a b : Option (List ℕ)) → channel ≢ 0 → IsTraceOf config requests entries end → Appends a b (trace_text [] end) → AppendsTrace config requests channel a b
+idle_trace_appended config requests channel end entries a b another ran text =
+    let other : (channel == 0) ≡ false = grind (arith, nat_tests) in
+    record { entries = entries; end = end; ran = ran; legal = rw other (none_legal config end); text = rw other text }
 
 -- what an answer says where it is a good one
 pub on_written : {P : Type 0} (r all : Result (Unit {0}) TraceError) (v : Unit {0}) → all ≡ r → all ≡ Ok v → OnOk r P → P

@@ -12,7 +12,8 @@ use Rattle.ddr_channel.specs.declared.choice.Choice.TheVariants as choice
 use Rattle.ddr_channel.specs.Choice.{choice_of}
 use Rattle.ddr_channel.specs.declared.waiting.Waiting.{Waiting}
 use Rattle.ddr_channel.specs.Commands.{activate_at, precharge_at}
-use Rattle.ddr_channel.specs.Cycle.{after_cycle, completed, for_request, issued, last_cycle, recorded, served}
+use Rattle.ddr_timing.specs.declared.units.TheConstants.{CLOCK_STOP}
+use Rattle.ddr_channel.specs.Cycle.{after_cycle, completed, for_request, issued, recorded, served}
 use Rattle.ddr_channel.specs.History.{Call, Admit, Cycle, Pop, History, after_call, begun, run, with_owner}
 use Rattle.ddr_channel.specs.Kept.{Kept, state_of}
 use Rattle.ddr_channel.specs.Promise.{IsNextAnswer, StandsFor, answer_to}
@@ -54,7 +55,7 @@ kept_by false h after e = e
 pub cycle_keeps : (old new : Kept) (calls : List Call) → IsOneOn old new → admitted_by new (calls ++ Cycle ∷ []) ≡ admitted_by old calls
 cycle_keeps old new calls same =
     let h = run old.config old.start calls in
-    one_on old new calls Cycle same ∙ kept_by (h.state.now == last_cycle) h _ (owner_kept (choice_of (completed h.state)) h)
+    one_on old new calls Cycle same ∙ kept_by (h.state.now == CLOCK_STOP) h _ (owner_kept (choice_of (completed h.state)) h)
 
 -- nor does a completion that is taken
 pub pop_keeps : (old new : Kept) (calls : List Call) → IsOneOn old new → admitted_by new (calls ++ Pop ∷ []) ≡ admitted_by old calls
@@ -94,12 +95,7 @@ right_reply k calls rest requests d numbered order answer =
       omega arith,
     )
 
--- right replies that are taken out of a list, and those that stay
-pub all_at : {X : Type 0} (P : X → Type 0) (xs : List X) (i : ℕ) (x : X) → AllByRecursion P xs → slice_get xs i ≡ Some x → P x
-all_at P [] i x all e = cc e
-all_at P (y ∷ xs) zero x all e = subst P (cc e) all.0
-all_at P (y ∷ xs) (suc i) x all e = all_at P xs i x all.1 e
-
+-- right replies of two lists, and those of one that stay where one is taken out
 pub all_joined : {X : Type 0} (P : X → Type 0) (xs ys : List X) → AllByRecursion P xs → AllByRecursion P ys → AllByRecursion P (xs ++ ys)
 all_joined P [] ys first second = second
 all_joined P (x ∷ xs) ys first second = (first.0, all_joined P xs ys first.1 second)

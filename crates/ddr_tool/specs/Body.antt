@@ -7,8 +7,9 @@ use Rattle.toml.specs.Parse.{parse_document}
 use Rattle.ddr_timing.specs.Refusals.{refusal_of}
 use Rattle.ddr_timing.specs.declared.config.Config.{Config}
 use Rattle.ddr_tool.specs.declared.fault.Fault.{Fault}
-use Rattle.ddr_tool.specs.declared.fault.Fault.TheVariants.{InputHasNoMark, OutOfMemory}
+use Rattle.ddr_tool.specs.declared.fault.Fault.TheVariants.{InputHasNoMark, InputNotUtf8, InputTooLong, OutOfMemory}
 use Rattle.ddr_tool.specs.Fault.{fault_of}
+use Rattle.ddr_tool.specs.Input.{IsNoText, IsText, IsTooLong}
 use Rattle.ddr_timing.specs.Values.{IsReadAs}
 
 -- a line that a line feed ends is the mark, also with a carriage return
@@ -48,3 +49,9 @@ IsRefused (Some p) fault = fault ≢ OutOfMemory → option_map fault_of (refusa
 -- some line of the text is `---`
 abbrev pub has_mark : List ℕ → Bool
 has_mark text = list_any (λ line. bytes_eq line (codes "---")) (lines text)
+
+-- the input has this fault whatever its body is for: its length is looked at first, then its bytes, then its two parts
+abbrev pub HasInputFault : Bool → List ℕ → List ℕ → Fault → Type 0
+HasInputFault sample profile input InputTooLong = IsTooLong input
+HasInputFault sample profile input InputNotUtf8 = IsNoText input
+HasInputFault sample profile input fault = IsText input × IsRefused (parts_of sample profile input) fault

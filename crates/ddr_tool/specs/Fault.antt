@@ -1,5 +1,5 @@
 -- The faults of a run.
-use Rattle.std.specs.Prelude.{ℕ}
+use Rattle.std.specs.Prelude.{ℕ, Bool, true, false}
 use Rattle.ddr_timing.specs.declared.error.ConfigError.{ConfigError}
 use Rattle.ddr_timing.specs.declared.error.ConfigError.TheVariants as refusals
 use Rattle.ddr_trace.specs.declared.text.TraceError.{TraceError}
@@ -14,6 +14,29 @@ status_of faults.Write = 3
 status_of faults.OutOfMemory = 3
 status_of faults.ClockSpent = 3
 status_of _ = 2
+
+-- a fault that comes before anything is written. That is another thing than a fault of the input: a reader that fails comes
+-- before too, and a script that needs too many rounds may be told behind replies.
+abbrev pub is_before_output : Fault → Bool
+is_before_output faults.ConfigSyntax = true
+is_before_output (faults.ConfigMissing key) = true
+is_before_output faults.ConfigUnknownKey = true
+is_before_output (faults.ConfigRange key) = true
+is_before_output (faults.ConfigNotPowerOfTwo key) = true
+is_before_output (faults.ConfigRelation n) = true
+is_before_output faults.InputTooLong = true
+is_before_output faults.InputNotUtf8 = true
+is_before_output faults.InputHasNoMark = true
+is_before_output (faults.MapLine line) = true
+is_before_output (faults.ScriptLine line) = true
+is_before_output faults.TraceHeader = true
+is_before_output (faults.TraceRow line) = true
+is_before_output (faults.TraceOrder line) = true
+is_before_output faults.TraceTruncated = true
+is_before_output faults.TraceTooLong = true
+is_before_output faults.TraceNoSuch = true
+is_before_output faults.Read = true
+is_before_output _ = false
 
 -- the fault that refuses a configuration's text
 abbrev pub fault_of : ConfigError → Fault

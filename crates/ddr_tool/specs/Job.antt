@@ -48,8 +48,8 @@ abbrev pub is_sample : List Row → Bool
 is_sample options = option_map_or (λ text. bytes_eq text (codes "true")) (one_of (codes "sample") options) false
 
 -- the channel of the option, if that was used
-abbrev pub trace_of : List Row → Option ℕ
-trace_of options = option_map (λ text. digits_value 10 (without_leading_plus text)) (one_of (codes "trace") options)
+abbrev pub channel_of : List Row → Option ℕ
+channel_of options = option_map (λ text. digits_value 10 (without_leading_plus text)) (one_of (codes "trace") options)
 
 -- the text is that of a value that the rule's parser takes
 abbrev pub IsTaken : Rule → Text → Type 0
@@ -67,7 +67,7 @@ is_subcommand name = bytes_eq name (codes "sim") || bytes_eq name (codes "check"
 -- the job of a subcommand with these options
 abbrev pub job_with : Text → List Row → Job
 job_with name options =
-    if bytes_eq name (codes "sim") then Sim (is_sample options) (trace_of options)
+    if bytes_eq name (codes "sim") then Sim (is_sample options) (channel_of options)
     else (if bytes_eq name (codes "check") then Check (is_sample options) else Map (is_sample options))
 
 -- the kinds of error that the command line gives at the words, and where it gives none the job; a subcommand is required

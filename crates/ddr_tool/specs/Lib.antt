@@ -1,11 +1,12 @@
 pub mod Body
 pub mod Check
+pub mod Ending
 pub mod Fault
+pub mod Input
 pub mod Job
 pub mod KeeperView
 pub mod MapText
 pub mod Progress
-pub mod Refusal
 pub mod Replies
 pub mod Requests
 pub mod Runs

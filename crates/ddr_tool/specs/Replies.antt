@@ -3,6 +3,7 @@ use Rattle.std.specs.Prelude.{◌≡◌, ℕ, ◌%◌, List, [], ◌∷◌, ◌+
 use Rattle.std.specs.List.{flat_map}
 use Rattle.std.specs.Fmt.{decimal}
 use Rattle.hex.specs.Hex.{encode_lower}
+use Rattle.ddr_timing.specs.declared.units.TheConstants.{LINE_BYTES}
 use Rattle.ddr_address_map.specs.declared.request.Kind.{Kind}
 use Rattle.ddr_address_map.specs.declared.request.Kind.TheVariants.{Read, Write}
 use Rattle.ddr_address_map.specs.Requests.{Request, Completion}
@@ -24,7 +25,7 @@ pub record IsReplyTo (requests : List Request) (d : Completion) : Type 0 where
 
 -- the bytes of the line that were asked for
 abbrev pub bytes_asked : Completion → List ℕ
-bytes_asked d = take d.echo.len (drop (d.echo.addr % 64) d.line)
+bytes_asked d = take d.echo.len (drop (d.echo.addr % LINE_BYTES) d.line)
 
 -- what was done, and its address; for a read the bytes in lower case
 abbrev pub done_text : Kind → Completion → List ℕ

@@ -1,8 +1,9 @@
--- The requests that a script asks for. For now those of port 0 to bank 0 of group 0 of channel 0 are served, and four of
+-- The requests that a script asks for. For now those of port 0 to channel 0 are served, and four of
 -- them at most.
 use Rattle.std.specs.Prelude.{◌≡◌, ℕ, ◌+◌, ◌-◌, ◌^◌, Bool, ◌&&◌, nat_lt, nat_le, ◌==◌, if◌then◌else◌, List, [], ◌∷◌, ◌++◌, length, replicate, Option, Some, None, Result, Ok, Err}
 use Rattle.std.specs.Str.Lines.{lines}
 use Rattle.ddr_timing.specs.declared.config.Config.{Config}
+use Rattle.ddr_timing.specs.declared.units.TheConstants.{LINE_BYTES}
 use Rattle.ddr_address_map.specs.declared.place.Place.{Place}
 use Rattle.ddr_address_map.specs.declared.request.Echo.{Echo}
 use Rattle.ddr_address_map.specs.declared.request.Kind.TheVariants as kind
@@ -10,14 +11,14 @@ use Rattle.ddr_address_map.specs.Map.{place_of}
 use Rattle.ddr_address_map.specs.Requests.{Request}
 use Rattle.ddr_tool.specs.declared.fault.Fault.{Fault}
 use Rattle.ddr_tool.specs.declared.fault.Fault.TheVariants.{ScriptLine, OutOfMemory}
-use Rattle.ddr_tool.specs.Script.{Order, Read, Write, length_of, is_skipped, order_of, ◌>>=◌}
+use Rattle.ddr_tool.specs.Script.{Instruction, Read, Write, length_of, is_skipped, instruction_of, ◌>>=◌}
 
-abbrev pub port_of : Order → ℕ
+abbrev pub port_of : Instruction → ℕ
 port_of (Read port addr len) = port
 port_of (Write port addr bytes) = port
 
 -- what the reply repeats
-abbrev pub echo_of : Order → Echo
+abbrev pub echo_of : Instruction → Echo
 echo_of (Read port addr len) = record { kind = kind.Read; addr = addr; len = len }
 echo_of (Write port addr bytes) = record { kind = kind.Write; addr = addr; len = length bytes }
 
@@ -27,17 +28,17 @@ mask_of offset len = 2 ^ (offset + len) - 2 ^ offset
 
 -- the line that has these bytes from the offset on, and else zeros
 abbrev pub line_with : ℕ → List ℕ → List ℕ
-line_with offset bytes = replicate offset 0 ++ (bytes ++ replicate (64 - (offset + length bytes)) 0)
+line_with offset bytes = replicate offset 0 ++ (bytes ++ replicate (LINE_BYTES - (offset + length bytes)) 0)
 
 -- the request with this number at port 0
-abbrev pub request_at : ℕ → Order → Place → Request
+abbrev pub request_at : ℕ → Instruction → Place → Request
 request_at number (Read port addr len) place = record {
   port = 0;
   number = number;
   echo = echo_of (Read port addr len);
   place = place;
   mask = 0;
-  line = replicate 64 0;
+  line = replicate LINE_BYTES 0;
 }
 request_at number (Write port addr bytes) place = record {
   port = 0;
@@ -50,26 +51,23 @@ request_at number (Write port addr bytes) place = record {
 
 -- at least one byte, within one line
 abbrev pub is_within_line : ℕ → ℕ → Bool
-is_within_line offset len = nat_lt 0 len && nat_le (offset + len) 64
+is_within_line offset len = nat_lt 0 len && nat_le (offset + len) LINE_BYTES
 
-abbrev pub is_first_bank : Place → Bool
-is_first_bank place = place.channel == 0 && place.group == 0 && place.bank == 0
-
-abbrev pub is_served : Order → Place → Bool
-is_served order place = port_of order == 0 && is_first_bank place && is_within_line place.offset (length_of order)
+abbrev pub is_served : Instruction → Place → Bool
+is_served instruction place = port_of instruction == 0 && place.channel == 0 && is_within_line place.offset (length_of instruction)
 
 -- the place of what is asked for, if it is served
-unfoldable pub served_place : Config → Order → Option Place
-served_place config order = do
-  place ← place_of config.geometry (echo_of order).addr
-  if is_served order place then Some place else None
+unfoldable pub served_place : Config → Instruction → Option Place
+served_place config instruction = do
+  place ← place_of config.geometry (echo_of instruction).addr
+  if is_served instruction place then Some place else None
 
 -- the request of a line that is not skipped, behind so many others
 unfoldable pub request_of : Config → ℕ → List ℕ → Option Request
 request_of config number text = do
-  order ← order_of text
-  place ← served_place config order
-  if nat_le 4 number then None else Some (request_at number order place)
+  instruction ← instruction_of text
+  place ← served_place config instruction
+  if nat_le 4 number then None else Some (request_at number instruction place)
 
 -- a line that is skipped, one that is at fault, and one that asks for a request behind these
 abbrev pub with_line : Config → List Request → List ℕ → Option (List Request)
@@ -100,11 +98,11 @@ unfoldable pub requests_of : Config → List ℕ → Result (List Request) ℕ
 requests_of config text = requests_from config 0 [] (lines text)
 
 -- what is answered is what the script says, unless memory ran out
-abbrev pub Fails : Fault → Result (List Request) ℕ → Type 0
-Fails OutOfMemory said = Unit {0}
-Fails (ScriptLine line) said = said ≡ Err line
-Fails _ said = ⊥
+abbrev pub IsScriptFault : Fault → Result (List Request) ℕ → Type 0
+IsScriptFault OutOfMemory said = Unit {0}
+IsScriptFault (ScriptLine line) said = said ≡ Err line
+IsScriptFault _ said = ⊥
 
 abbrev pub AreSaid : {X : Type 0} → (X → List Request) → Result X Fault → Result (List Request) ℕ → Type 0
 AreSaid view (Ok requests) said = said ≡ Ok (view requests)
-AreSaid view (Err fault) said = Fails fault said
+AreSaid view (Err fault) said = IsScriptFault fault said

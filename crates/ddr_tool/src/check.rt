@@ -1,20 +1,20 @@
 //! Whether a trace is legal: a configuration and a trace's text in, a verdict out.
 //!
-//! `input`, `body`, `writing` and `ddr_trace` stand below, and `main` above.
+//! `input`, `body`, `writing`, `ddr_legality` and `ddr_trace` stand below, and `main` above.
 ghost use Rattle.std.specs.Prelude.{◌≡◌, IfErr, IfOk, IfSome, IsErrOf, IsTrue, string_bytes};
 ghost use Rattle.ddr_trace.specs.Reader.{IsAnswer, records_in, trace_of};
 ghost use Rattle.ddr_trace.specs.declared.checker.Fault as checker;
-ghost use Rattle.ddr_tool.specs.Check.{HasFault, IsChecked, IsVerdict, verdict_text};
-ghost use Rattle.ddr_tool.specs.Runs.{is_of_input};
+ghost use Rattle.ddr_tool.specs.Check.{HasCheckFault, IsChecked, IsVerdict, verdict_text};
+ghost use Rattle.ddr_tool.specs.Fault.{is_before_output};
 
 use crate::body::open;
 use crate::fault::Fault;
 use crate::input::{read_input, text_of};
 use crate::writing::write_whole;
+use ddr_legality::checker::first_fault;
 use ddr_timing::config::Config;
 use ddr_timing::profile::PROFILE_S;
 use ddr_trace::checker;
-use ddr_trace::checker::first_fault;
 use ddr_trace::reader::read_trace;
 use ddr_trace::trace::Trace;
 use std::alloc::{AllocError, Global};
@@ -35,10 +35,10 @@ pub fn check<R: Read, W: Write>(
     reader: &mut R,
     writer: &mut W,
 ) -> Result<bool, Fault>
-    ensures untouched { IfErr result (λ fault. IsTrue (is_of_input fault) → writer.new ≡ writer.old) }
+    ensures untouched { IfErr result (λ fault. IsTrue (is_before_output fault) → writer.new ≡ writer.old) }
     ensures spared { IsErrOf result Fault.OutOfMemory → writer.new ≡ writer.old }
     ensures fault { IfErr result (λ fault. IfSome (R.remaining reader.old) (λ input.
-        HasFault sample PROFILE_S.now input fault)) }
+        HasCheckFault sample PROFILE_S.now input fault)) }
     ensures written { IfOk result (λ legal. IfSome (R.remaining reader.old) (λ input.
         IsChecked sample PROFILE_S.now input legal (W.contents writer.old) (W.contents writer.new))) }
 {
@@ -46,17 +46,21 @@ pub fn check<R: Read, W: Write>(
     let text = text_of(input.as_slice())?;
     let (config, body) = open(alloc, sample, text)?;
     let trace = read_trace(alloc, body.as_bytes())?;
-    let fault = verdict(&config, &trace);
+    let fault = verdict(alloc, &config, &trace)?;
     let line = verdict_text(alloc, fault)?;
     write_whole(writer, line.as_str())?;
     Ok(fault.is_none())
 }
 
 /// The first fault of the trace.
-fn verdict(config: &Config, trace: &Trace) -> Option<checker::Fault>
-    ensures { IsVerdict config.now trace.entry.now result }
+fn verdict(
+    alloc: Global,
+    config: &Config,
+    trace: &Trace,
+) -> Result<Option<checker::Fault>, AllocError>
+    ensures { IfOk result (λ fault. IsVerdict config.now trace.entry.now fault) }
 {
-    first_fault(trace.entries.as_slice(), config, trace.start, trace.end)
+    first_fault(alloc, trace.entries.as_slice(), config, trace.start, trace.end)
 }
 
 /// The line of a verdict, with its line feed.

@@ -1,8 +1,8 @@
 //! The whole input as a text.
 //!
-//! `fault` stands below; `sim` reads its input by this.
+//! `fault` stands below; every command reads its input by this.
 ghost use Rattle.std.specs.Prelude.{◌≡◌, ◌+◌, ◌<◌, ◌≤◌, ◌⊎◌, ◌++◌, IfOk, IfErr, IfSome, IsErrOf, OnOk, length, vec_len};
-ghost use Rattle.std.specs.Str.{IsUtf8};
+ghost use Rattle.ddr_tool.specs.Input.{IsNoText, IsText, IsTooLong};
 
 use crate::fault::Fault;
 use std::alloc::Global;
@@ -23,8 +23,8 @@ const CHUNK_BYTES: usize = 8192;
 #[tactic(auto, using(crate::proofs::Inputs::all_taken, crate::proofs::Inputs::more_taken))]
 pub fn read_input<R: Read>(alloc: Global, reader: &mut R) -> Result<Vec<u8>, Fault>
     ensures all { IfOk result (λ v. IfSome (R.remaining reader.old) (λ bytes. v.items ≡ bytes)) }
-    ensures short { IfOk result (λ v. vec_len v ≤ LONGEST_INPUT) }
-    ensures long { IsErrOf result Fault.InputTooLong → IfSome (R.remaining reader.old) (λ bytes. LONGEST_INPUT < length bytes) }
+    ensures short { IfOk result (λ v. length v.items ≤ LONGEST_INPUT) }
+    ensures long { IsErrOf result Fault.InputTooLong → IfSome (R.remaining reader.old) IsTooLong }
     ensures refused { IfErr result (λ fault. (fault ≡ Fault.InputTooLong) ⊎ (fault ≡ Fault.Read) ⊎ (fault ≡ Fault.OutOfMemory)) }
 {
     let mut input = Vec::new(alloc);
@@ -55,10 +55,11 @@ fn push_chunk(input: &mut Vec<u8>, bytes: &[u8]) -> Result<(), Fault>
     Ok(())
 }
 
-/// The text that the bytes encode. Fails as `InputNotUtf8` where they encode none.
+/// The text that the bytes of a whole input encode. Fails as `InputNotUtf8` where they encode none.
 pub fn text_of(bytes: &[u8]) -> Result<&str, Fault>
-    ensures text { IfOk result (λ text. (text.now ≡ bytes.now) × IsUtf8 bytes.now) }
-    ensures refused { IfErr result (λ fault. (fault ≡ Fault.InputNotUtf8) × (¬ IsUtf8 bytes.now)) }
+    requires { length bytes.now ≤ LONGEST_INPUT }
+    ensures text { IfOk result (λ text. (text.now ≡ bytes.now) × IsText bytes.now) }
+    ensures refused { IfErr result (λ fault. (fault ≡ Fault.InputNotUtf8) × IsNoText bytes.now) }
 {
     str::from_utf8(bytes).map_err(|_| Fault::InputNotUtf8)
 }

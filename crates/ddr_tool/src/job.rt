@@ -1,11 +1,12 @@
 //! What the command line asks for.
 //!
-//! `clap` stands below, and `main` above.
+//! `help` and `clap` stand below, and `main` above.
 ghost use Rattle.std.specs.Prelude.{◌≡◌, ◌≤◌, IfOk, IsTrue, None, Ok, false, length, map, true};
 ghost use Rattle.clap.specs.Words.{app_of, found_of, rows_of};
-ghost use Rattle.clap.specs.declared.Command.TheViews.{out-Command as fields_of};
-ghost use Rattle.ddr_tool.specs.Job.{Answers, AreTaken, ddr_app, is_sample, is_subcommand, job_of, job_with, trace_of, with_sample};
+ghost use Rattle.clap.specs.declared.Command.TheViews.{out-Command as settings_of};
+ghost use Rattle.ddr_tool.specs.Job.{Answers, AreTaken, channel_of, ddr_app, is_sample, is_subcommand, job_of, job_with, with_sample};
 
+use crate::help;
 use clap::{Arg, ArgAction, ArgMatches, Command, Error, value_parser};
 use std::alloc::{AllocError, Global};
 
@@ -54,7 +55,7 @@ fn job_with(name: &str, options: &ArgMatches<'_>) -> Job
     match name {
         "sim" => Job::Sim {
             sample,
-            trace: trace_of(options),
+            trace: channel_of(options),
         },
         "check" => Job::Check { sample },
         "map" => Job::Map { sample },
@@ -71,28 +72,31 @@ fn is_sample(options: &ArgMatches<'_>) -> bool
 }
 
 /// The channel of the option `--trace`, if that was used.
-fn trace_of(options: &ArgMatches<'_>) -> Option<u32>
+fn channel_of(options: &ArgMatches<'_>) -> Option<u32>
     requires { AreTaken (rows_of (found_of options.now)) }
-    ensures { result ≡ trace_of (rows_of (found_of options.now)) }
+    ensures { result ≡ channel_of (rows_of (found_of options.now)) }
 {
     options.get_one::<u32>("trace")
 }
 
-/// The command line as `clap` reads it. It has no subcommand `help`: help is asked for by `--help`.
+/// The command line as `clap` reads it. It has no subcommand `help`: help is asked for by `--help`. Its texts say
+/// `ddr`, whatever the first word is.
 fn command<'a>(alloc: Global) -> Result<Command<'a>, AllocError>
     ensures app { IfOk result (λ command. app_of command ≡ ddr_app) }
-    ensures local { IfOk result (λ command. (fields_of command).has_globals ≡ false) }
+    ensures local { IfOk result (λ command. (settings_of command).has_globals ≡ false) }
 {
     let trace = Arg::new(alloc, "trace")
         .long("trace")
         .value_name("CHANNEL")
         .value_parser(value_parser!(u32))
         .help("Writes the trace of this channel in place of the replies");
-    let sim = subcommand(alloc, "sim", "Runs a script of reads and writes")?.arg(trace)?;
-    let check = subcommand(alloc, "check", "Checks a trace of commands")?;
-    let map = subcommand(alloc, "map", "Says where addresses lie")?;
+    let sim = subcommand(alloc, "sim", "Runs a script of reads and writes", help::SIM)?.arg(trace)?;
+    let check = subcommand(alloc, "check", "Checks a trace of commands", help::CHECK)?;
+    let map = subcommand(alloc, "map", "Says where addresses lie", help::MAP)?;
     Command::new(alloc, "ddr")
+        .bin_name("ddr")?
         .about("A model of a DDR4 memory controller")
+        .after_help(help::PROGRAM)
         .subcommand_required(true)
         .disable_help_subcommand(true)
         .subcommand(sim)?
@@ -100,14 +104,22 @@ fn command<'a>(alloc: Global) -> Result<Command<'a>, AllocError>
         .subcommand(map)
 }
 
-/// A subcommand with the flag `--sample`.
-fn subcommand<'a>(alloc: Global, name: &'a str, about: &'a str) -> Result<Command<'a>, AllocError>
+/// A subcommand with the flag `--sample`, and with what its help says first and last.
+fn subcommand<'a>(
+    alloc: Global,
+    name: &'a str,
+    about: &'a str,
+    after_help: &'a str,
+) -> Result<Command<'a>, AllocError>
     ensures app { IfOk result (λ command. app_of command ≡ with_sample name.entry.now) }
-    ensures local { IfOk result (λ command. (fields_of command).has_globals ≡ false) }
+    ensures local { IfOk result (λ command. (settings_of command).has_globals ≡ false) }
 {
     let sample = Arg::new(alloc, "sample")
         .long("sample")
         .action(ArgAction::SetTrue)
         .help("Takes the sample configuration, and the whole input as the body");
-    Command::new(alloc, name).about(about).arg(sample)
+    Command::new(alloc, name)
+        .about(about)
+        .after_help(after_help)
+        .arg(sample)
 }

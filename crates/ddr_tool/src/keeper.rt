@@ -3,7 +3,7 @@
 //! `ddr_channel` stands below; `sim` makes rounds of a keeper until every reply came.
 ghost use Rattle.std.specs.Prelude.{◌≡◌, ◌≢◌, ◌+◌, ◌<◌, ◌≤◌, ◌↔◌, ◌⊎◌, ◌++◌, ◌==◌, [], false, IsTrue, IfErr, IfOk, IfNone, IfSome, IsErrOf, IsSomeAnd, None, OnOk, OnSome, length, List, position, remove, slice_get, vec_len};
 ghost use Rattle.ddr_address_map.specs.declared.request.Kind.TheVariants.{Read, Write};
-ghost use Rattle.ddr_channel.specs.Cycle.{last_cycle};
+ghost use Rattle.ddr_timing.specs.declared.units.TheConstants.{CLOCK_STOP};
 ghost use Rattle.ddr_channel.specs.Kept.{state_of};
 ghost use Rattle.ddr_channel.specs.State.{is_queue_full};
 ghost use Rattle.ddr_trace.specs.Legality.{IsLegal};
@@ -11,7 +11,7 @@ ghost use Rattle.std.specs.List.{AllByRecursion};
 ghost use Rattle.ddr_address_map.specs.Requests.{Request};
 ghost use Rattle.ddr_tool.specs.Progress.{AreServed, Covers, IsHeld, IsSameRun, Serves};
 ghost use Rattle.ddr_tool.specs.Replies.{AreNumbered, IsReplyTo};
-ghost use Rattle.ddr_tool.specs.Runs.{is_of_input};
+ghost use Rattle.ddr_tool.specs.Fault.{is_before_output};
 
 use crate::fault::Fault;
 use ddr_address_map::request::{Done, Req};
@@ -86,9 +86,9 @@ impl Keeper {
             → self.old.waiting ≢ [] → length self.new.waiting < length self.old.waiting }
         ensures taken { OnOk result (self.new.channel.done ≡ []) }
         ensures clock { OnOk result (self.new.channel.now ≡ self.old.channel.now + 1) }
-        ensures spent { IsErrOf result Fault.ClockSpent ↔ (self.old.channel.now ≡ last_cycle) }
+        ensures spent { IsErrOf result Fault.ClockSpent ↔ (self.old.channel.now ≡ CLOCK_STOP) }
         ensures refused { IfErr result (λ fault. (fault ≡ Fault.ClockSpent) ⊎ (fault ≡ Fault.OutOfMemory)) }
-        ensures late { IfErr result (λ fault. is_of_input fault ≡ false) }
+        ensures late { IfErr result (λ fault. is_before_output fault ≡ false) }
     {
         admit_waiting(&mut self.channel, &mut self.waiting);
         match self.channel.cycle() {

@@ -2,8 +2,8 @@
 //!
 //! `input`, `body`, `script`, `writing` and `ddr_address_map` stand below, and `main` above.
 ghost use Rattle.std.specs.Prelude.{◌≡◌, ◌≤◌, IfErr, IfOk, IfSome, IsErrOf, IsTrue, MatchResult, Ok, OnOk, length, string_bytes};
-ghost use Rattle.ddr_tool.specs.MapText.{Fails, HasFault, IsMapped, address_text, line_text, map_text};
-ghost use Rattle.ddr_tool.specs.Runs.{is_of_input};
+ghost use Rattle.ddr_tool.specs.MapText.{HasMapFault, IsMapFault, IsMapped, address_text, line_text, map_text};
+ghost use Rattle.ddr_tool.specs.Fault.{is_before_output};
 ghost use Rattle.ddr_tool.specs.Script.{Gives};
 
 use crate::body::open;
@@ -13,11 +13,9 @@ use crate::script::{LineError, number};
 use crate::writing::write_whole;
 use ddr_address_map::map::Map;
 use ddr_timing::profile::PROFILE_S;
+use ddr_timing::units::LINE_COLUMNS;
 use std::alloc::{AllocError, Global};
 use std::io::{Read, Write};
-
-/// The device columns of a line of the memory.
-const LINE_COLUMNS: u64 = 8;
 
 /// Reads addresses, one a line, and writes where each lies, in the order of the lines.
 ///
@@ -34,10 +32,10 @@ pub fn map<R: Read, W: Write>(
     reader: &mut R,
     writer: &mut W,
 ) -> Result<(), Fault>
-    ensures untouched { IfErr result (λ fault. IsTrue (is_of_input fault) → writer.new ≡ writer.old) }
+    ensures untouched { IfErr result (λ fault. IsTrue (is_before_output fault) → writer.new ≡ writer.old) }
     ensures spared { IsErrOf result Fault.OutOfMemory → writer.new ≡ writer.old }
     ensures fault { IfErr result (λ fault. IfSome (R.remaining reader.old) (λ input.
-        HasFault sample PROFILE_S.now input fault)) }
+        HasMapFault sample PROFILE_S.now input fault)) }
     ensures written { OnOk result (IfSome (R.remaining reader.old) (λ input.
         IsMapped sample PROFILE_S.now input (W.contents writer.old) (W.contents writer.new))) }
 {
@@ -53,7 +51,7 @@ pub fn map<R: Read, W: Write>(
 fn map_text(alloc: Global, map: &Map, body: &str) -> Result<String, Fault>
     requires { length body.now ≤ LONGEST_INPUT }
     ensures { let said = map_text map.now.geometry body.now in
-        MatchResult result (λ text. said ≡ Ok (string_bytes text)) (λ fault. Fails fault said) }
+        MatchResult result (λ text. said ≡ Ok (string_bytes text)) (λ fault. IsMapFault fault said) }
 {
     let mut text = String::new(alloc);
     let mut line = 0;
@@ -61,7 +59,7 @@ fn map_text(alloc: Global, map: &Map, body: &str) -> Result<String, Fault>
         line += 1;
         match line_text(alloc, map, written) {
             Ok(added) => text.push_str(added.as_str())?,
-            Err(LineError::Malformed) => return Err(Fault::MapLine { line }),
+            Err(LineError::AtFault) => return Err(Fault::MapLine { line }),
             Err(LineError::OutOfMemory) => return Err(Fault::OutOfMemory),
         }
     }
@@ -91,7 +89,7 @@ fn address_text(alloc: Global, map: &Map, addr: u64) -> Result<String, AllocErro
     let group = place.group;
     let bank = place.bank;
     let row = place.row;
-    let column = LINE_COLUMNS * u64::from(place.line);
+    let column = u64::from(LINE_COLUMNS) * u64::from(place.line);
     let offset = place.offset;
     format!(in alloc; "{addr} {channel} {group} {bank} {row} {column} {offset}\n")
 }

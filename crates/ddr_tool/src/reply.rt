@@ -5,6 +5,7 @@ ghost use Rattle.std.specs.Prelude.{◌≡◌, IfOk, string_bytes};
 ghost use Rattle.ddr_tool.specs.Replies.{bytes_asked, reply_text};
 
 use ddr_address_map::request::{Done, Kind};
+use ddr_timing::units::LINE_BYTES;
 use std::alloc::{AllocError, Global};
 
 /// A reply as a line: the port, the number, what was done, its address, and for a read the bytes that it asked
@@ -29,7 +30,7 @@ pub fn reply_text(alloc: Global, done: &Done) -> Result<String, AllocError>
 fn bytes_asked(done: &Done) -> &[u8]
     ensures { result.now ≡ bytes_asked done.now }
 {
-    let start = (done.echo.addr % 64) as usize;
-    let end = 64.min(start + done.echo.len as usize);
+    let start = (done.echo.addr % LINE_BYTES as u64) as usize;
+    let end = LINE_BYTES.min(start + done.echo.len as usize);
     &done.line[start..end]
 }

@@ -1,18 +1,16 @@
 //! The lines of a script.
 //!
-//! Nothing of the program stands below. A line that does something is a word and its fields, with one or more
-//! spaces between two; other lines are empty, or comments, which begin with `#`.
+//! Nothing of the program stands below, and `ddr_trace` reads the numbers. A line that does something has an
+//! instruction: a word and its fields, with one or more spaces between two. Other lines are empty, or comments, which
+//! begin with `#`.
 ghost use Rattle.std.specs.Prelude.{◌≡◌, ◌≤◌, IfOk, map, vec_len};
-ghost use Rattle.std.specs.Char.{is_ascii_digit};
-ghost use Rattle.std.specs.List.{list_all};
+ghost use Rattle.ddr_trace.specs.Numbers.{number_of};
 ghost use Rattle.ddr_tool.specs.declared.script.LineError.TheVariants.{OutOfMemory};
-ghost use Rattle.ddr_tool.specs.Script.{Gives, bytes_of, fields_of, has_space_at_end, is_skipped, length_of, number_of, of_word, order_of, read_of, view, write_of};
+ghost use Rattle.ddr_tool.specs.Script.{Gives, LARGEST, bytes_of, fields_of, has_space_at_end, instruction_of, is_skipped, length_of, of_word, read_of, view, write_of};
 
+use ddr_trace::number::parse_number;
 use hex::FromHexError;
 use std::alloc::{AllocError, AllocFailed, Global};
-
-/// The most digits of a number.
-const MOST_DIGITS: usize = 20;
 
 /// The greatest length that a line reads.
 const LONGEST_READ: u64 = 65_535;
@@ -20,9 +18,9 @@ const LONGEST_READ: u64 = 65_535;
 /// The most bytes that a line writes.
 const MOST_WRITTEN: usize = 128;
 
-/// A line of a script that does something.
+/// What a line of a script says to do.
 #[derive(Debug, Drop)]
-pub enum Line {
+pub enum Instruction {
     /// `read PORT ADDR LEN`: reads that many bytes, 0 to 65,535 of them.
     Read {
         port: u64,
@@ -40,8 +38,8 @@ pub enum Line {
 /// Why a line was not read.
 #[derive(Clone, Copy, Debug, PartialEq, Eq)]
 pub enum LineError {
-    /// The line is of no form that a script has.
-    Malformed,
+    /// The line is at fault: it is of no form that is read, or asks for what is not served.
+    AtFault,
     OutOfMemory,
 }
 
@@ -68,19 +66,19 @@ pub fn is_skipped(line: &str) -> bool
     line.is_empty() || line.starts_with('#')
 }
 
-/// Reads a line that is not skipped.
-#[tactic(auto, unfolding(crate::specs::Script::order_of))]
-pub fn parse_line(alloc: Global, line: &str) -> Result<Line, LineError>
-    ensures said { Gives view result (order_of line.now) }
-    ensures short { IfOk result (λ line. length_of (view line) ≤ LONGEST_READ) }
+/// The instruction of a line that is not skipped. Fails as `AtFault` where the line is of no form that a script has.
+#[tactic(auto, unfolding(crate::specs::Script::instruction_of))]
+pub fn parse_instruction(alloc: Global, line: &str) -> Result<Instruction, LineError>
+    ensures said { Gives view result (instruction_of line.now) }
+    ensures short { IfOk result (λ instruction. length_of (view instruction) ≤ LONGEST_READ) }
 {
     if line.starts_with(' ') || line.ends_with(' ') {
-        return Err(LineError::Malformed);
+        return Err(LineError::AtFault);
     }
     let fields = fields(alloc, line)?;
     match fields.as_slice() {
         [word, port, addr, last] => parse_access(alloc, word, port, addr, last),
-        _ => Err(LineError::Malformed),
+        _ => Err(LineError::AtFault),
     }
 }
 
@@ -92,14 +90,14 @@ fn parse_access(
     port: &str,
     addr: &str,
     last: &str,
-) -> Result<Line, LineError>
+) -> Result<Instruction, LineError>
     ensures said { Gives view result (of_word word.now port.now addr.now last.now) }
-    ensures short { IfOk result (λ line. length_of (view line) ≤ LONGEST_READ) }
+    ensures short { IfOk result (λ instruction. length_of (view instruction) ≤ LONGEST_READ) }
 {
     match word {
         "read" => parse_read(port, addr, last),
         "write" => parse_write(alloc, port, addr, last),
-        _ => Err(LineError::Malformed),
+        _ => Err(LineError::AtFault),
     }
 }
 
@@ -113,17 +111,17 @@ fn fields(alloc: Global, line: &str) -> Result<Vec<&str>, AllocError>
 }
 
 #[tactic(auto, unfolding(crate::specs::Script::read_of))]
-fn parse_read(port: &str, addr: &str, len: &str) -> Result<Line, LineError>
+fn parse_read(port: &str, addr: &str, len: &str) -> Result<Instruction, LineError>
     ensures said { Gives view result (read_of port.now addr.now len.now) }
-    ensures short { IfOk result (λ line. length_of (view line) ≤ LONGEST_READ) }
+    ensures short { IfOk result (λ instruction. length_of (view instruction) ≤ LONGEST_READ) }
 {
     let port = number(port)?;
     let addr = number(addr)?;
     let len = number(len)?;
     if len > LONGEST_READ {
-        return Err(LineError::Malformed);
+        return Err(LineError::AtFault);
     }
-    Ok(Line::Read {
+    Ok(Instruction::Read {
         port,
         addr,
         len: len as u32,
@@ -131,48 +129,36 @@ fn parse_read(port: &str, addr: &str, len: &str) -> Result<Line, LineError>
 }
 
 #[tactic(auto, unfolding(crate::specs::Script::write_of))]
-fn parse_write(alloc: Global, port: &str, addr: &str, hex: &str) -> Result<Line, LineError>
+fn parse_write(alloc: Global, port: &str, addr: &str, hex: &str) -> Result<Instruction, LineError>
     ensures said { Gives view result (write_of port.now addr.now hex.now) }
-    ensures short { IfOk result (λ line. length_of (view line) ≤ LONGEST_READ) }
+    ensures short { IfOk result (λ instruction. length_of (view instruction) ≤ LONGEST_READ) }
 {
-    Ok(Line::Write {
+    Ok(Instruction::Write {
         port: number(port)?,
         addr: number(addr)?,
-        bytes: written(alloc, hex)?,
+        bytes: bytes(alloc, hex)?,
     })
 }
 
 /// The number that a field spells: 1 to 20 decimal digits, below 2^64.
 pub(crate) fn number(field: &str) -> Result<u64, LineError>
-    ensures { Gives (λ n. n) result (number_of field.now) }
+    ensures { Gives (λ n. n) result (number_of LARGEST field.now) }
 {
-    if field.len() > MOST_DIGITS || !is_digits(field) {
-        return Err(LineError::Malformed);
-    }
-    match field.parse::<u64>() {
-        Ok(number) => Ok(number),
-        Err(_) => Err(LineError::Malformed),
-    }
-}
-
-fn is_digits(field: &str) -> bool
-    ensures { result ≡ list_all is_ascii_digit field.now }
-{
-    field.bytes().all(|byte| byte.is_ascii_digit())
+    parse_number(field.as_bytes(), u64::MAX).ok_or(LineError::AtFault)
 }
 
 /// The bytes that a field spells: 1 to 128 of them, two hexadecimal digits each, of either case.
-fn written(alloc: Global, field: &str) -> Result<Vec<u8>, LineError>
+fn bytes(alloc: Global, field: &str) -> Result<Vec<u8>, LineError>
     ensures said { Gives (λ v. v.items) result (bytes_of field.now) }
     ensures few { IfOk result (λ v. vec_len v ≤ MOST_WRITTEN) }
 {
     let bytes = match hex::decode(alloc, field) {
         Ok(bytes) => bytes,
         Err(FromHexError::OutOfMemory) => return Err(LineError::OutOfMemory),
-        Err(_) => return Err(LineError::Malformed),
+        Err(_) => return Err(LineError::AtFault),
     };
     if bytes.is_empty() || bytes.len() > MOST_WRITTEN {
-        return Err(LineError::Malformed);
+        return Err(LineError::AtFault);
     }
     Ok(bytes)
 }

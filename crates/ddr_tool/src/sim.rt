@@ -2,11 +2,10 @@
 //!
 //! Every other module of the program stands below, and `main` above.
 ghost use Rattle.std.specs.Prelude.{◌≡◌, ◌≢◌, ◌+◌, ◌-◌, ◌≤◌, ◌↔◌, ◌==◌, if◌then◌else◌, [], List, false, IsTrue, IfErr, IfOk, IfSome, IsErrOf, None, OnOk, position};
-ghost use Rattle.std.specs.Io.KnownBytes.{Appends};
-ghost use Rattle.ddr_trace.specs.Text.{trace_text};
 ghost use Rattle.ddr_address_map.specs.Requests.{Request};
+ghost use Rattle.ddr_tool.specs.Fault.{is_before_output};
 ghost use Rattle.ddr_tool.specs.Progress.{IsSameRun, Serves};
-ghost use Rattle.ddr_tool.specs.Runs.{AppendsReplies, AppendsTrace, HasFault, IsRun, has_channel, is_of_input};
+ghost use Rattle.ddr_tool.specs.Runs.{AppendsReplies, AppendsTrace, HasSimFault, IsRun, has_channel};
 
 use crate::body::open;
 use crate::fault::Fault;
@@ -41,9 +40,9 @@ pub fn sim<R: Read, W: Write>(
     reader: &mut R,
     writer: &mut W,
 ) -> Result<(), Fault>
-    ensures untouched { IfErr result (λ fault. IsTrue (is_of_input fault) → writer.new ≡ writer.old) }
+    ensures untouched { IfErr result (λ fault. IsTrue (is_before_output fault) → writer.new ≡ writer.old) }
     ensures fault { IfErr result (λ fault. IfSome (R.remaining reader.old) (λ input.
-        HasFault sample PROFILE_S.now trace input fault)) }
+        HasSimFault sample PROFILE_S.now trace input fault)) }
     ensures written { OnOk result (IfSome (R.remaining reader.old) (λ input.
         IsRun sample PROFILE_S.now trace input (W.contents writer.old) (W.contents writer.new))) }
 {
@@ -76,7 +75,7 @@ fn write_replies<W: Write>(alloc: Global, keeper: &mut Keeper, writer: &mut W) -
     requires { keeper.old.given ≡ 0 }
     ensures written { OnOk result ((requests : List Request) → Serves keeper.old requests
         → AppendsReplies requests (W.contents writer.old) (W.contents writer.new) 0 keeper.old.count) }
-    ensures late { IfErr result (λ fault. is_of_input fault ≡ false) }
+    ensures late { IfErr result (λ fault. is_before_output fault ≡ false) }
 {
     let mut rounds = 0;
     'rounds: while !keeper.is_done() {
@@ -97,7 +96,7 @@ fn write_ready<W: Write>(alloc: Global, keeper: &mut Keeper, writer: &mut W) -> 
     ensures given { keeper.old.given ≤ keeper.new.given }
     ensures all { OnOk result (keeper.new.given ≢ keeper.new.count → position (λ d. d.number == keeper.new.given) keeper.new.held ≡ None) }
     ensures kept { IsSameRun keeper.old keeper.new }
-    ensures late { IfErr result (λ fault. is_of_input fault ≡ false) }
+    ensures late { IfErr result (λ fault. is_before_output fault ≡ false) }
 {
     while let Some(done) = keeper.next_reply() {
         let text = reply_text(alloc, &done)?;
@@ -116,10 +115,8 @@ fn write_channel<W: Write>(
     requires { keeper.old.channel.start ≡ 0 }
     ensures written { OnOk result ((requests : List Request) → Serves keeper.old requests
         → AppendsTrace keeper.old.channel.config requests channel (W.contents writer.old) (W.contents writer.new)) }
-    ensures text { OnOk result (Appends (W.contents writer.old) (W.contents writer.new)
-        (trace_text (if channel == 0 then keeper.new.channel.trace else []) keeper.new.channel.now)) }
     ensures done { OnOk result (keeper.new.given ≡ keeper.old.count) }
-    ensures late { IfErr result (λ fault. is_of_input fault ≡ false) }
+    ensures late { IfErr result (λ fault. is_before_output fault ≡ false) }
 {
     let mut rounds = 0;
     'rounds: while !keeper.is_done() {
@@ -147,7 +144,7 @@ fn round(keeper: &mut Keeper, rounds: u32) -> Result<u32, Fault>
     ensures serves { OnOk result ((requests : List Request) → Serves keeper.old requests → Serves keeper.new requests) }
     ensures clock { OnOk result (keeper.new.channel.now ≡ keeper.old.channel.now + 1) }
     ensures limit { IsErrOf result Fault.ScriptLimit ↔ (rounds ≡ MOST_ROUNDS) }
-    ensures late { IfErr result (λ fault. is_of_input fault ≡ false) }
+    ensures late { IfErr result (λ fault. is_before_output fault ≡ false) }
 {
     if rounds == MOST_ROUNDS {
         return Err(Fault::ScriptLimit);

@@ -84,16 +84,3 @@ fn refused(rt: HostRuntime) -> Result<(), Fail> {
     assert_eq!(rt; refusal(text.as_str()), Some(Fault::ConfigUnknownKey));
     Ok(())
 }
-
-#[test]
-fn texts_and_statuses(rt: HostRuntime) -> Result<(), Fail> {
-    let faults = [
-        (Fault::InputHasNoMark, "input has no ---"),
-        (Fault::MapLine { line: 12 }, "map line 12"),
-    ];
-    for (fault, text) in faults {
-        assert_eq!(rt; fault.to_string(rt.alloc())?.as_str(), text);
-        assert_eq!(rt; fault.status(), 2, "{text}");
-    }
-    Ok(())
-}

@@ -86,8 +86,5 @@ fn the_first_fault_is_told(rt: HostRuntime) -> Result<(), Fail> {
             (Vec::new(alloc), Err(fault))
         );
     }
-    let text = format!(in alloc; "{}", Fault::TraceNoSuch)?;
-    assert_eq!(rt; text.as_str(), "trace NoSuch");
-    assert_eq!(rt; Fault::TraceNoSuch.status(), 2);
     Ok(())
 }

@@ -1,8 +1,6 @@
 //! Inputs that are at fault: each with its fault, and with nothing written.
 use super::run;
 use crate::fault::Fault;
-use ddr_timing::error::ConfigError;
-use ddr_timing::key::Key;
 use std::alloc::Global;
 use std::test::Fail;
 
@@ -38,11 +36,9 @@ const BAD_LINES: [&str; 40] = [
     "write 0 0 0g",
     "write 0 0 010",
     "write 0 0 0x01",
-    // Another port, another group, another bank, another channel, and beyond the memory.
+    // Another port, another channel, and beyond the memory.
     "read 1 0 1",
     "write 1 0 00",
-    "read 0 512 1",
-    "read 0 2048 1",
     "read 0 131072 1",
     "read 0 262144 1",
     "read 0 18446744073709551615 1",
@@ -112,46 +108,4 @@ fn bytes_that_are_no_text(rt: HostRuntime) {
     let fault = Some(Fault::InputNotUtf8);
     assert_eq!(rt; fault_of(alloc, b"\xff"), (fault, 0));
     assert_eq!(rt; fault_of(alloc, b"bad\n# \xe2\x82\n"), (fault, 0));
-}
-
-#[test]
-fn texts_and_statuses(rt: HostRuntime) -> Result<(), Fail> {
-    let alloc = rt.alloc();
-    let faults = [
-        (Fault::from(ConfigError::Syntax), "config Syntax", 2),
-        (
-            Fault::from(ConfigError::Missing { key: Key::RrdL }),
-            "config Missing rrd_l",
-            2,
-        ),
-        (Fault::from(ConfigError::UnknownKey), "config UnknownKey", 2),
-        (
-            Fault::from(ConfigError::Range { key: Key::Cap }),
-            "config Range cap",
-            2,
-        ),
-        (
-            Fault::from(ConfigError::NotPowerOfTwo { key: Key::Rows }),
-            "config NotPowerOfTwo rows",
-            2,
-        ),
-        (
-            Fault::from(ConfigError::Relation { n: 4 }),
-            "config Relation 4",
-            2,
-        ),
-        (Fault::InputTooLong, "input too long", 2),
-        (Fault::InputNotUtf8, "input not UTF-8", 2),
-        (Fault::ScriptLine { line: 12 }, "script line 12", 2),
-        (Fault::ScriptLimit, "script limit", 2),
-        (Fault::Read, "read failed", 3),
-        (Fault::Write, "write failed", 3),
-        (Fault::from(ConfigError::OutOfMemory), "out of memory", 3),
-        (Fault::ClockSpent, "clock spent", 3),
-    ];
-    for (fault, text, status) in faults {
-        assert_eq!(rt; fault.to_string(alloc)?.as_str(), text);
-        assert_eq!(rt; fault.status(), status, "{text}");
-    }
-    Ok(())
 }

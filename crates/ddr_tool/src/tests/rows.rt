@@ -55,6 +55,23 @@ fn two_rows_of_a_bank(rt: HostRuntime) -> Result<(), Fail> {
 }
 
 #[test]
+fn two_banks(rt: HostRuntime) -> Result<(), Fail> {
+    let script = "read 0 0 1\nread 0 512 1\n";
+    let replies = "0 0 read 0 00\n0 1 read 512 00\n";
+    assert_eq!(rt; written(rt.alloc(), None, script)?.as_str(), replies);
+    // The oldest alone is served, so the second ACT stands behind the first read; its own read waits for RCD.
+    let trace = "cycle,cmd,rank,group,bank,row,col
+0,ACT,0,0,0,0,
+4,RD,0,0,0,0,0
+5,ACT,0,1,0,0,
+9,RD,0,1,0,0,0
+18,END,,,,,
+";
+    assert_eq!(rt; written(rt.alloc(), Some(0), script)?.as_str(), trace);
+    Ok(())
+}
+
+#[test]
 fn nothing_to_do(rt: HostRuntime) -> Result<(), Fail> {
     let trace = "cycle,cmd,rank,group,bank,row,col\n0,END,,,,,\n";
     for script in ["", "\n", "# nothing\n", "\r\n#\r\n\n"] {

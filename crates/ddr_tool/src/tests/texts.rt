@@ -1,7 +1,7 @@
 //! The texts of the faults, and the statuses that they end the program with.
+use crate::ending::Ending;
 use crate::fault::Fault;
 use crate::job::job_of;
-use crate::refusal::Refusal;
 use ddr_timing::key::Key;
 use std::alloc::{AllocError, Global};
 use std::process::Abort;
@@ -114,11 +114,11 @@ fn faults_of_the_device(rt: HostRuntime) -> Result<(), Fail> {
 
 #[test]
 fn statuses_of_what_ends_the_program(rt: HostRuntime) {
-    assert_eq!(rt; Refusal::NotText.status(), 2);
-    assert_eq!(rt; Refusal::from(Fault::TraceHeader).status(), 2);
-    assert_eq!(rt; Refusal::from(Fault::Read).status(), 3);
-    assert_eq!(rt; Refusal::from(AllocError).status(), 3);
+    assert_eq!(rt; Ending::NotText.status(), 2);
+    assert_eq!(rt; Ending::from(Fault::TraceHeader).status(), 2);
+    assert_eq!(rt; Ending::from(Fault::Read).status(), 3);
+    assert_eq!(rt; Ending::from(AllocError).status(), 3);
     let unknown = job_of(rt.alloc(), ["ddr", "erase"].as_slice());
-    let status = unknown.err().map(|error| Refusal::from(error).status());
+    let status = unknown.err().map(|error| Ending::from(error).status());
     assert_eq!(rt; status, Some(2));
 }

@@ -24,7 +24,7 @@ returns-clause-app c =
     let required : App → App = λ a. record a { top = record a.top { subcommand_required = true } } in
     let no_help : App → App = λ a. record a { top = record a.top { disable_help_subcommand = true } } in
     let alone : app_of c.disable_help_subcommand.result ≡ name_alone =
-    ap app_of_fields c.disable_help_subcommand.ensures ∙ ap no_help (ap app_of_fields c.subcommand_required.ensures ∙ ap required (ap app_of_fields c.about.ensures ∙ c.new-2.ensures.app)) in
+    ap app_of_fields c.disable_help_subcommand.ensures ∙ ap no_help (ap app_of_fields c.subcommand_required.ensures ∙ ap required (ap app_of_fields c.after_help.ensures ∙ ap app_of_fields c.about.ensures ∙ ap app_of_fields c.in_ok-bin_name.ensures.0 ∙ c.new-2.ensures.app)) in
     IfOk-weaker c.subcommand-6.result _ _ (λ command h.
     h.shape c.in_ok-map.ensures.local
     ∙ ap₂ with_subcommand (c.in_ok-subcommand-3.ensures.shape c.in_ok-check.ensures.local
@@ -37,6 +37,6 @@ returns-clause-local c =
     ap (λ (a : Arg). a.global) c.help-trace.ensures ∙ ap (λ (a : Arg). a.global) c.value_parser-2.ensures.others ∙ ap (λ (a : Arg). a.global) c.value_name.ensures ∙ ap (λ (a : Arg). a.global) c.long.ensures ∙ c.new.ensures.optional.1 in
     let sim_local = c.in_ok-sim.ensures.globals ∙ ap₂ ◌||◌ c.in_ok-subcommand.ensures.local trace_local in
     let alone : (out-Command c.disable_help_subcommand.result).has_globals ≡ false =
-    ap (λ f. f.has_globals) c.disable_help_subcommand.ensures ∙ ap (λ f. f.has_globals) c.subcommand_required.ensures ∙ ap (λ f. f.has_globals) c.about.ensures ∙ c.new-2.ensures.local in
+    ap (λ f. f.has_globals) c.disable_help_subcommand.ensures ∙ ap (λ f. f.has_globals) c.subcommand_required.ensures ∙ ap (λ f. f.has_globals) c.after_help.ensures ∙ ap (λ f. f.has_globals) c.about.ensures ∙ ap (λ f. f.has_globals) c.in_ok-bin_name.ensures.0 ∙ c.new-2.ensures.local in
     IfOk-weaker c.subcommand-6.result _ _ (λ command h.
     h.globals ∙ ap₂ ◌||◌ (c.in_ok-subcommand-3.ensures.globals ∙ ap₂ ◌||◌ (c.in_ok-subcommand-2.ensures.globals ∙ ap₂ ◌||◌ alone sim_local) c.in_ok-check.ensures.local) c.in_ok-map.ensures.local) c.subcommand-6.ensures

@@ -10,4 +10,4 @@ returns-in_default c =
 pub returns : goal.returns
 returns c =
     subst (λ bs. IfOk c.format-2.result (λ text. string_bytes text ≡ bs))
-    (address_text-in c.args.map.now.geometry c.args.addr c.in-Some.place (sym c.place.ensures.exact ∙ c.in-Some.is)) (simp (append_assoc, c.from.ensures) at c.format-2.ensures.ok)
+    (address_text-in c.args.map.now.geometry c.args.addr c.in-Some.place (sym c.place.ensures.exact ∙ c.in-Some.is)) (simp (append_assoc, c.from.ensures, c.from-2.ensures) at c.format-2.ensures.ok)

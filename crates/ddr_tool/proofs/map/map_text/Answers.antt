@@ -34,11 +34,11 @@ loop-written-preserved c =
           (c.in_ok-push_str-in-Ok.ensures.bytes ∙ ap (λ added. string_bytes c.loop-written.text ++ added) c.as_str.ensures.value) kept.said;
     }
 
-pub returns-in-Err-Malformed : goal.returns-in-Err-Malformed
-returns-in-Err-Malformed c =
+pub returns-in-Err-AtFault : goal.returns-in-Err-AtFault
+returns-in-Err-AtFault c =
     let turn = YieldsList-turn (YieldsList-from_lines c.args.body.now cc) c.loop-written.yielded _ c.loop-written.yielded_by _ _ c.in-Some.written c.in-Some.is c.next.ensures.steps in
     let kept = c.loop-written.invariant in
-    text_fault c.args.map.now.geometry (lines c.args.body.now) _ _ _ c.in-Some.written.now _ kept.counted turn (rw c.in-Err-Malformed.field-0-is at c.in-Err-Malformed.ensures) kept.said
+    text_fault c.args.map.now.geometry (lines c.args.body.now) _ _ _ c.in-Some.written.now _ kept.counted turn (rw c.in-Err-AtFault.field-0-is at c.in-Err-AtFault.ensures) kept.said
 
 pub returns : goal.returns
 returns c =

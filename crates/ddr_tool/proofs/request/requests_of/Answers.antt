@@ -33,12 +33,12 @@ loop-written-preserved c =
       served = c.in-Ok.ensures.served kept.served;
     }
 
-pub returns-in-Err-Malformed-clause-said : goal.returns-in-Err-Malformed-clause-said
+pub returns-in-Err-AtFault-clause-said : goal.returns-in-Err-AtFault-clause-said
 unfolding requests_of
-returns-in-Err-Malformed-clause-said c =
+returns-in-Err-AtFault-clause-said c =
     let turn = YieldsList-turn (YieldsList-from_lines c.args.text.now cc) c.loop-written.yielded _ c.loop-written.yielded_by _ _ c.in-Some.written c.in-Some.is c.next.ensures.steps in
     let kept = c.loop-written.invariant in
-    requests_fault c.args.config.now (lines c.args.text.now) _ _ _ c.in-Some.written.now _ kept.counted turn (rw c.in-Err-Malformed.field-0-is at c.in-Err-Malformed.ensures.said) kept.said
+    requests_fault c.args.config.now (lines c.args.text.now) _ _ _ c.in-Some.written.now _ kept.counted turn (rw c.in-Err-AtFault.field-0-is at c.in-Err-AtFault.ensures.said) kept.said
 
 pub returns-clause-said : goal.returns-clause-said
 unfolding requests_of

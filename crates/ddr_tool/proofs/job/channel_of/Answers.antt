@@ -5,7 +5,7 @@ use Rattle.clap.specs.Words.{found_of, one_text}
 use Rattle.clap.proofs.WalkLemmas.{one_text-rows}
 use Rattle.ddr_tool.specs.Job.{IsTaken, trace_rule}
 use Rattle.ddr_tool.proofs.JobLemmas.{channel_read}
-use Rattle.ddr_tool.proofs.job.trace_of.Goals as goal
+use Rattle.ddr_tool.proofs.job.channel_of.Goals as goal
 
 pub returns : goal.returns
 returns c =

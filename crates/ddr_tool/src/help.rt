@@ -1,0 +1,45 @@
+//! What the help of each command says behind its options: its input, its output, how it ends, and a line to paste.
+//!
+//! Nothing of the program stands below; `job` hands these texts to `clap`.
+
+/// Behind the help of the program.
+pub const PROGRAM: &str = "\
+Each command reads standard input: a configuration, a line `---` and a body. With
+--sample the input is the body alone. `ddr COMMAND --help` says what the body is.
+A configuration is TOML, with a line `KEY = VALUE` for each key.
+No words at all mean `ddr sim --sample`.";
+
+/// Behind the help of `sim`.
+pub const SIM: &str = "\
+Input: a configuration, a line `---` and a script; with --sample the script alone.
+  A script has a request on each line: `read PORT ADDR LEN`, or `write PORT ADDR HEX`
+  with two digits for each byte. Empty lines and lines that begin with # are skipped.
+Output: a line for each request, in their order: `PORT NUMBER write ADDR`, or
+  `PORT NUMBER read ADDR HEX`. With --trace the commands of that channel in their place.
+Status: 0; 2 for a bad input or command line; 3 where the device, the memory or the
+  clock fails.
+
+To paste:
+  printf 'write 0 0 0a0b0c0d\\nread 0 0 4\\n' | ./ddr sim --sample";
+
+/// Behind the help of `check`.
+pub const CHECK: &str = "\
+Input: a configuration, a line `---` and a trace; with --sample the trace alone.
+  A trace is the text that `ddr sim --trace` writes.
+Output: `legal`, or `fault PLACE RULE`, where PLACE counts the commands from 0.
+Status: 0 where the trace is legal; 1 where it is not; 2 for a bad input or command
+  line; 3 where the device or the memory fails.
+
+To paste:
+  echo 'read 0 0 4' | ./ddr sim --sample --trace 0 | ./ddr check --sample";
+
+/// Behind the help of `map`.
+pub const MAP: &str = "\
+Input: a configuration, a line `---` and addresses; with --sample the addresses alone.
+  An address is a decimal number of bytes, one on each line. Empty lines are skipped.
+Output: a line for each address: `ADDR CHANNEL GROUP BANK ROW COL OFFSET`, or `ADDR out`
+  from the capacity on. COL counts device columns, and OFFSET bytes.
+Status: 0; 2 for a bad input or command line; 3 where the device or the memory fails.
+
+To paste:
+  echo 100000 | ./ddr map --sample";
