@@ -60,7 +60,13 @@ fn verdict(
 ) -> Result<Option<checker::Fault>, AllocError>
     ensures { IfOk result (λ fault. IsVerdict config.now trace.entry.now fault) }
 {
-    first_fault(alloc, trace.entries.as_slice(), config, trace.start, trace.end)
+    first_fault(
+        alloc,
+        trace.entries.as_slice(),
+        config,
+        trace.start,
+        trace.end,
+    )
 }
 
 /// The line of a verdict, with its line feed.

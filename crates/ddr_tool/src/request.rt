@@ -85,10 +85,7 @@ fn served_place(config: &Config, instruction: &Instruction) -> Option<Place>
 {
     let echo = echo_of(instruction);
     let place = Map::new(config).place(echo.addr)?;
-    if port_of(instruction) == 0
-        && place.channel == 0
-        && is_within_line(place.offset, echo.len)
-    {
+    if port_of(instruction) == 0 && place.channel == 0 && is_within_line(place.offset, echo.len) {
         Some(place)
     } else {
         None

@@ -5,7 +5,7 @@ use std::alloc::Global;
 use std::test::Fail;
 
 /// Lines that are at fault wherever they stand.
-const BAD_LINES: [&str; 40] = [
+const BAD_LINES: [&str; 38] = [
     // No form of a script's line.
     " ",
     "   ",
