@@ -1,5 +1,6 @@
 //! The clock counts of one rank's DDR4 timing.
 ghost use Rattle.std.specs.Prelude.{◌≤◌, ◌+◌, max};
+ghost use Rattle.ddr_timing.specs.declared.units.TheConstants.{BURST_CLOCKS};
 
 /// The timing of a rank, in DRAM clock cycles (JESD79-4, "AC timing parameters"; RTW, and the least
 /// value that it must have, are this project's choice).
@@ -64,9 +65,9 @@ pub struct Timing {
     ghost rfc_range: { (1 ≤ rfc) × (rfc ≤ 65535) },
     ghost refi_range: { (1 ≤ refi) × (refi ≤ 65535) },
     ghost postpone_range: { postpone ≤ 7 },
-    ghost bursts_apart: { 4 ≤ ccd_s },
+    ghost bursts_apart: { BURST_CLOCKS ≤ ccd_s },
     ghost same_group_slower: { ccd_s ≤ ccd_l },
     ghost same_group_activates_slower: { rrd_s ≤ rrd_l },
-    ghost bus_turns: { (4 ≤ rtw) × (cl + 4 ≤ rtw + cwl) },
-    ghost refresh_fits: { max (max (max ras (cwl + 4 + wr)) rtp + rp) rfc + 4 ≤ refi },
+    ghost bus_turns: { (BURST_CLOCKS ≤ rtw) × (cl + BURST_CLOCKS ≤ rtw + cwl) },
+    ghost refresh_fits: { max (max (max ras (cwl + BURST_CLOCKS + wr)) rtp + rp) rfc + 4 ≤ refi },
 }
