@@ -1,12 +1,15 @@
-//! The commands that serve a request, and which of them may be issued now.
+//! The commands that serve a request, which of them may be issued now, and the command of a choice.
 ghost use Rattle.std.specs.Prelude.{◌≡◌};
 ghost use Rattle.ddr_trace.specs.Rules.{is_row_open};
 ghost use Rattle.ddr_legality.specs.Bus.{is_legal_now};
 ghost use Rattle.ddr_arbiter.specs.Choice.{can_activate, is_on_other_row};
 ghost use Rattle.ddr_arbiter.specs.Commands.{activate_at, precharge_at, column_at, column_of};
+ghost use Rattle.ddr_arbiter.specs.Laws.{command_of};
 
+use crate::choice::Choice;
 use ddr_address_map::place::Place;
 use ddr_address_map::request::{Kind, Req};
+use ddr_hazards::pending::Pending;
 use ddr_legality::legality::Legality;
 use ddr_trace::command::Command;
 
@@ -59,6 +62,29 @@ pub(crate) fn column_at(kind: Kind, place: Place) -> Command
             row,
             line,
         },
+    }
+}
+
+/// The command that a choice issues. `None` where it issues none, and where no request stands at its place.
+pub fn command_of(pending: &Pending, choice: Choice) -> Option<Command>
+    ensures { result ≡ command_of pending.now.waiting choice }
+{
+    match choice {
+        Choice::Nothing => None,
+        Choice::Refresh => Some(Command::Refresh { rank: 0 }),
+        Choice::PreAll => Some(Command::PreAll { rank: 0 }),
+        Choice::Act { place } => {
+            let (request, _) = pending.get(place)?;
+            Some(activate_at(request.place))
+        }
+        Choice::Pre { place } => {
+            let (request, _) = pending.get(place)?;
+            Some(precharge_at(request.place))
+        }
+        Choice::Column { place } => {
+            let (request, _) = pending.get(place)?;
+            Some(column_at(request.echo.kind, request.place))
+        }
     }
 }
 

@@ -4,12 +4,12 @@
 //! the refreshes that are due (`ddr_refresh`); the channel, which issues what is chosen, stands above.
 //! `policy` is when writes are drained, `choice` the choice of a cycle; of its steps `refresh` is the one for
 //! a rank that has to be refreshed, `candidates` which requests may be served, and `commands` what may be
-//! issued for a request.
+//! issued for a request, and the command that a choice issues.
 #![tactic(auto)]
 
 mod candidates;
 pub mod choice;
-mod commands;
+pub mod commands;
 pub mod policy;
 mod refresh;
 #[cfg(test)]
