@@ -1,60 +1,42 @@
--- What the calls of a channel make of its fields.
-use Rattle.std.proofs.Common.{◌≡◌, ◌↔◌, IsTrue, ℕ, suc, ◌+◌, ◌*◌, ◌<◌, ◌≤◌, Bool, true, false, ◌&&◌, not, cond, eqb, ltb, List, [], ◌∷◌, ◌++◌, Option, Some, None, length, drop, refl, sym, ap, ap₂, subst, ◌∙◌, inl, inr, arith}
+-- What opening, admission and the look at a cycle's situation make of a channel's fields.
+use Rattle.std.proofs.Common.{◌≡◌, ◌↔◌, IsTrue, ℕ, ◌+◌, ◌-◌, ◌*◌, ◌<◌, ◌≤◌, Bool, true, false, not, eqb, ltb, leb, List, [], ◌∷◌, ◌++◌, Result, Ok, Err, IsErr, OnOk, IfErr, None, All, length, replicate, refl, sym, ap, ap₂, subst, ◌∙◌, arith}
 use Rattle.std.proofs.Math.Path.{fun_ext}
-use Rattle.std.specs.List.{filter, slice_get}
-use Rattle.std.specs.Option.{IsSomeAnd}
-use Rattle.std.proofs.lemmas.Bool.{eqb-true, true≢false, false≢true, eq-eqb, ne_eqb, cases_eq, and_right, leb-false}
+use Rattle.std.specs.List.{filter}
+use Rattle.std.proofs.lemmas.Bool.{false≢true}
 use Rattle.std.proofs.lemmas.List.{length-append}
-use Rattle.std.proofs.lemmas.List.Sums.{sum_by-append}
+use Rattle.circular_buffer.specs.Buffer.{Buffer, buffer}
 use Rattle.ddr_timing.specs.declared.config.Config.{Config}
-use Rattle.ddr_trace.specs.declared.command.Command.{Command}
-use Rattle.ddr_trace.specs.declared.command.Entry.{Entry}
-use Rattle.ddr_trace.specs.Commands.{is_same_bank}
-use Rattle.ddr_timing.specs.declared.geometry.Digit.TheVariants.{Bank}
-use Rattle.ddr_trace.specs.Rules.{is_bank_active, is_row_open}
-use Rattle.ddr_address_map.proofs.MapLemmas.{IsInRange-test}
+use Rattle.ddr_timing.specs.declared.units.TheConstants.{CLOCK_STOP, LINE_BYTES}
+use Rattle.ddr_trace.specs.Rules.{IsOpenRow}
 use Rattle.ddr_legality.specs.Bus.{Bus}
-use Rattle.ddr_address_map.specs.declared.place.Place.{Place}
+use Rattle.ddr_legality.specs.Bus as bus
+use Rattle.ddr_legality.specs.Kept as legality
 use Rattle.ddr_address_map.specs.declared.request.Kind.{Kind}
 use Rattle.ddr_address_map.specs.declared.request.Kind.TheVariants.{Read, Write}
-use Rattle.ddr_address_map.specs.Requests.{Completion}
-use Rattle.ddr_row_array.specs.Rows.{Rows, open_row, cells}
-use Rattle.ddr_row_array.specs.Changes.{SameShape}
-use Rattle.ddr_channel.specs.declared.choice.Choice.{Choice}
-use Rattle.ddr_channel.specs.declared.choice.Choice.TheVariants as choice
-use Rattle.ddr_channel.specs.declared.waiting.Waiting.{Waiting}
-use Rattle.ddr_channel.specs.Choice.{bus_of, has_room, choice_for, choice_among, choice_of}
-use Rattle.ddr_trace.specs.Commands.{entry}
-use Rattle.ddr_channel.specs.Commands.{activate_at, precharge_at, column_at, column_of}
-use Rattle.ddr_channel.specs.Cycle.{completed, recorded, completion_of, cells_after, served, issued, ticked, after_cycle}
-use Rattle.ddr_channel.specs.Kept.{Kept, state_of, IsOpen, AgreesWith}
-use Rattle.ddr_channel.specs.Memory.{LineAddress, bank_number}
-use Rattle.ddr_channel.specs.Sound.{IsServed}
-use Rattle.ddr_channel.specs.State.{State, is_same_kind, pending_count, queue_size, is_queue_full}
-use Rattle.ddr_channel.proofs.OpenRowLemmas.{active_after_column, row_after_column, active_after_activate, row_after_activate, active_after_precharge, active_after_other_activate, row_after_other_activate, active_after_other_precharge, row_after_other_precharge}
-use Rattle.ddr_channel.proofs.SoundLemmas.{Allows, choice_allowed, act_on, precharge_on, serve_on, length-filter}
+use Rattle.ddr_address_map.specs.Requests.{Request, Completion}
+use Rattle.ddr_hazards.specs.PendingList.{PendingList, pending_count}
+use Rattle.ddr_hazards.specs.PendingList as pending
+use Rattle.ddr_refresh.specs.Refreshes.{Refreshes, after_tick}
+use Rattle.ddr_refresh.specs.Refreshes as refreshes
+use Rattle.ddr_row_array.specs.Rows.{Rows, cells}
+use Rattle.ddr_row_array.specs.Changes.{IsFresh}
+use Rattle.ddr_arbiter.specs.declared.policy.Policy.{Policy}
+use Rattle.ddr_arbiter.specs.Situation.{Situation, situation}
+use Rattle.ddr_channel.specs.declared.channel.Channel.TheInside.{Inside}
+use Rattle.ddr_channel.specs.Choice.{policy_of, has_room, refreshes_of, situation_of}
+use Rattle.ddr_channel.specs.Cycle.{completed}
+use Rattle.ddr_channel.specs.History.{Call, Admit}
+use Rattle.ddr_channel.specs.Kept.{Kept, state_of}
+use Rattle.ddr_channel.specs.Memory.{LineAddress}
+use Rattle.ddr_channel.specs.Promise.{StandsFor}
+use Rattle.ddr_channel.specs.Sound.{IsServed, IsSound}
+use Rattle.ddr_channel.specs.State.{State, opened, after_admit, is_queue_full}
+use Rattle.ddr_channel.specs.View.{kept_of, IsWhole}
+use Rattle.ddr_channel.proofs.CycleLemmas.{bus_is, choosing}
+use Rattle.ddr_channel.proofs.SoundLemmas.{IsSound-opened, IsSound-after_admit, length-filter}
+use Rattle.ddr_channel.proofs.StandsLemmas.{stands_admitted, stands_refused}
 
--- the oldest pending request
-
-no_oldest : {X : Type 0} (xs : List X) → slice_get xs 0 ≡ None → xs ≡ []
-no_oldest [] is = refl
-no_oldest (x ∷ xs) is = cc
-
--- a queue that has a front is no empty one
-pub has_oldest : {X : Type 0} (xs : List X) → (xs ≡ [] → ⊥) → slice_get xs 0 ≡ None → ⊥
-has_oldest xs some none = some (no_oldest xs none)
-
--- the oldest request, by its kind and its place
-pub record Oldest (pending : List Waiting) (kind : Kind) (place : Place) : Type 0 where
-  pub first : Waiting
-  pub younger : List Waiting
-  pub is : pending ≡ first ∷ younger
-  pub kind_is : first.request.echo.kind ≡ kind
-  pub place_is : first.request.place ≡ place
-
-pub oldest_of : (pending : List Waiting) (kind : Kind) (place : Place) → IsSomeAnd (slice_get pending 0) (λ w. (w.request.echo.kind ≡ kind) × (w.request.place ≡ place)) → Oldest pending kind place
-oldest_of [] kind place is = absurd is
-oldest_of (w ∷ ws) kind place is = record { first = w; younger = ws; is = refl; kind_is = is.0; place_is = is.1 }
+-- the situation of a cycle
 
 -- in flight and done there are as many completions before the cycle's as after it
 pub same_room : (s : State) → has_room (completed s) ≡ ltb (length s.flight + length s.done) s.config.limits.done
@@ -64,255 +46,103 @@ same_room s =
     let same : length (completed s).flight + length (completed s).done ≡ length s.flight + length s.done = omega arith in
     ap (λ n. ltb n s.config.limits.done) same
 
--- the choice with an oldest request
-pub choice_of_oldest : (s : State) (w : Waiting) (ws : List Waiting) → s.pending ≡ w ∷ ws →
-    choice_of (completed s) ≡ choice_for (bus_of s) (has_room (completed s)) 0 w.request
-choice_of_oldest s w ws is = ap (choice_among (bus_of s) (has_room (completed s))) is
+pub situation_is : (a : Inside) (debt : Refreshes) (policy : Policy) (drain room : Bool) → IsWhole a → debt ≡ after_tick (refreshes_of (state_of (kept_of a))) → policy ≡ policy_of a.config → drain ≡ (choosing a).drain →
+    room ≡ ltb (length a.flight.items + length a.done.items) a.config.limits.done → situation a.pending a.legality debt policy drain room ≡ situation_of (choosing a)
+situation_is a debt policy drain room whole debt_is policy_is drain_is room_is =
+    let room_same = room_is ∙ sym (same_room (state_of (kept_of a))) in
+    λ i. record { waiting = a.pending.waiting; bus = bus_is a whole i; refreshes = debt_is i; policy = policy_is i; drain = drain_is i; room = room_same i }
 
-pub choice_of_first : (s : State) (pending : List Waiting) (w : Waiting) → s.pending ≡ pending → slice_get pending 0 ≡ Some w → (room : Bool) → room ≡ ltb (length s.flight + length s.done) s.config.limits.done →
-    choice_for (bus_of s) room 0 w.request ≡ choice_of (completed s)
-choice_of_first s [] w is first room room_is = cc
-choice_of_first s (v ∷ vs) w is first room room_is =
-    let same : v ≡ w = cc in
-    ap₂ (λ (r : Bool) (u : Waiting). choice_for (bus_of s) r 0 u.request) (room_is ∙ sym (same_room s)) (sym same) ∙ sym (choice_of_oldest s v vs is)
+-- admission
 
-pub choice_of_none : (s : State) → s.pending ≡ [] → choice.Nothing ≡ choice_of (completed s)
-choice_of_none s is = sym (ap (choice_among (bus_of s) (has_room (completed s))) is)
+abbrev with_pending : Inside → PendingList → Inside
+with_pending a p = record { config = a.config; pending = p; drain = a.drain; debt = a.debt; flight = a.flight; done = a.done; legality = a.legality; rows = a.rows }
 
--- what allows the choice that was made
-pub allowed_of : (s : State) (w : Waiting) (ws : List Waiting) (c : Choice) → s.pending ≡ w ∷ ws → choice_of (completed s) ≡ c → Allows (bus_of s) (has_room (completed s)) w.request c
-allowed_of s w ws c is chosen =
-    subst (Allows (bus_of s) (has_room (completed s)) w.request) (sym (choice_of_oldest s w ws is) ∙ chosen) (choice_allowed (bus_of s) (has_room (completed s)) w.request)
-
--- the state after a cycle
-
--- the cells of two row arrays with the same bytes
-pub same_cells : (a b : Rows) (f : LineAddress → List ℕ) → ((bank row line : ℕ) → cells b bank row line ≡ f (record { bank = bank; row = row; line = line })) →
-    (λ (address : LineAddress). cells b address.bank address.row address.line) ≡ f
-same_cells a b f same = fun_ext (λ address. same address.bank address.row address.line)
-
--- a channel whose bus has gone on
-abbrev pub kept_on : Kept → Bus → List Waiting → List Completion → List Completion → Rows → Kept
-kept_on k b pending flight done rows =
-    record { config = k.config; start = b.start; now = b.now; pending = pending; flight = flight; done = done; trace = b.trace; rows = rows }
-
-state_with : Kept → List Waiting → List Completion → List Completion → List Entry → (LineAddress → List ℕ) → State
-state_with k pending flight done trace bytes = record {
-  config = k.config;
-  start = k.start;
-  now = k.now + 1;
-  pending = pending;
-  flight = flight;
-  done = done;
-  trace = trace;
-  cells = bytes;
+whole_admitted : (a : Inside) (r : Request) → IsWhole a → IsServed a.config r.place → IsWhole (with_pending a (pending.after_admit r a.legality.bus.now a.pending))
+whole_admitted a r whole served = record {
+  sound = IsSound-after_admit (state_of (kept_of a)) r whole.sound served;
+  of_config = whole.of_config;
+  clock = whole.clock;
+  reads = whole.reads;
+  writes = whole.writes;
+  debt = whole.debt;
+  flight_room = whole.flight_room;
+  done_room = whole.done_room;
+  agrees = whole.agrees;
 }
 
-pub after_rest : (k : Kept) (flight done : List Completion) → choice_of (completed (state_of k)) ≡ choice.Nothing →
-    flight ≡ filter (λ d. not (eqb d.due k.now)) k.flight → done ≡ k.done ++ filter (λ d. eqb d.due k.now) k.flight →
-    state_of (record k { now = k.now + 1; flight = flight; done = done }) ≡ after_cycle (state_of k)
-unfolding state_with
-after_rest k flight done chosen flight_is done_is =
-    ap₂ (λ (f : List Completion) (d : List Completion). state_with k k.pending f d k.trace (state_of k).cells) flight_is done_is
-    ∙ ap (λ (c : Choice). ticked (issued c (completed (state_of k)))) (sym chosen)
+pub whole_admit : {T : Type 0} (a : Inside) (result : Result T Request) (p : PendingList) (r : Request) (now : ℕ) → IsWhole a → IsServed a.config r.place → now ≡ a.legality.bus.now →
+    OnOk result (p ≡ pending.after_admit r now a.pending) → IfErr result (λ q. (q ≡ r) × (p ≡ a.pending)) → IsWhole (with_pending a p)
+whole_admit a (Ok x) p r now whole served clock ok err =
+    subst (λ (q : PendingList). IsWhole (with_pending a q)) (sym (ok ∙ ap (λ n. pending.after_admit r n a.pending) clock)) (whole_admitted a r whole served)
+whole_admit a (Err q) p r now whole served clock ok err = subst (λ (x : PendingList). IsWhole (with_pending a x)) (sym err.1) whole
 
--- after a cycle with a command for rows alone
-after_row : (k : Kept) (c : Command) (trace : List Entry) (flight done : List Completion) (rows : Rows) →
-    trace ≡ k.trace ++ entry k.now c ∷ [] → flight ≡ filter (λ d. not (eqb d.due k.now)) k.flight → done ≡ k.done ++ filter (λ d. eqb d.due k.now) k.flight →
-    ((b r l : ℕ) → cells rows b r l ≡ cells k.rows b r l) →
-    state_of (record k { now = k.now + 1; trace = trace; flight = flight; done = done; rows = rows }) ≡ ticked (recorded c (completed (state_of k)))
-unfolding state_with
-after_row k c trace flight done rows trace_is flight_is done_is bytes =
-    ap (λ (f : LineAddress → List ℕ). state_with k k.pending flight done trace f) (same_cells k.rows rows (state_of k).cells bytes)
-    ∙ ap₂ (λ (f : List Completion) (d : List Completion). state_with k k.pending f d trace (state_of k).cells) flight_is done_is
-    ∙ ap (λ (t : List Entry). state_with k k.pending (completed (state_of k)).flight (completed (state_of k)).done t (state_of k).cells) trace_is
+pub state_admit : {T : Type 0} (a : Inside) (result : Result T Request) (p : PendingList) (r : Request) (now : ℕ) → now ≡ a.legality.bus.now → OnOk result (p ≡ pending.after_admit r now a.pending) →
+    OnOk result (state_of (kept_of (with_pending a p)) ≡ after_admit r (state_of (kept_of a)))
+state_admit a (Ok x) p r now clock ok = ap (λ (q : PendingList). state_of (kept_of (with_pending a q))) (ok ∙ ap (λ n. pending.after_admit r n a.pending) clock)
+state_admit a (Err q) p r now clock ok = tt
 
-pub after_activate : (k : Kept) (kind : Kind) (place : Place) (trace : List Entry) (flight done : List Completion) (rows : Rows) →
-    choice_of (completed (state_of k)) ≡ choice.Act 0 → Oldest k.pending kind place →
-    trace ≡ k.trace ++ entry k.now (activate_at place) ∷ [] → flight ≡ filter (λ d. not (eqb d.due k.now)) k.flight → done ≡ k.done ++ filter (λ d. eqb d.due k.now) k.flight →
-    ((b r l : ℕ) → cells rows b r l ≡ cells k.rows b r l) →
-    state_of (record k { now = k.now + 1; trace = trace; flight = flight; done = done; rows = rows }) ≡ after_cycle (state_of k)
-after_activate k kind place trace flight done rows chosen o trace_is flight_is done_is bytes =
-    after_row k (activate_at place) trace flight done rows trace_is flight_is done_is bytes
-    ∙ ap (λ (p : Place). ticked (recorded (activate_at p) (completed (state_of k)))) (sym o.place_is)
-    ∙ ap ticked (sym (act_on (completed (state_of k)) o.first o.younger o.is 0 refl))
-    ∙ ap (λ (c : Choice). ticked (issued c (completed (state_of k)))) (sym chosen)
+-- the queue is full by the list's limits, which are the configuration's
+pub full_is : (a : Inside) (kind : Kind) → IsWhole a → pending.is_full a.pending kind ≡ is_queue_full (state_of (kept_of a)) kind
+full_is a Read whole = ap (λ n. leb n (pending_count Read a.pending.waiting)) whole.reads
+full_is a Write whole = ap (λ n. leb n (pending_count Write a.pending.waiting)) whole.writes
 
-pub after_precharge : (k : Kept) (kind : Kind) (place : Place) (trace : List Entry) (flight done : List Completion) (rows : Rows) →
-    choice_of (completed (state_of k)) ≡ choice.Pre 0 → Oldest k.pending kind place →
-    trace ≡ k.trace ++ entry k.now (precharge_at place) ∷ [] → flight ≡ filter (λ d. not (eqb d.due k.now)) k.flight → done ≡ k.done ++ filter (λ d. eqb d.due k.now) k.flight →
-    ((b r l : ℕ) → cells rows b r l ≡ cells k.rows b r l) →
-    state_of (record k { now = k.now + 1; trace = trace; flight = flight; done = done; rows = rows }) ≡ after_cycle (state_of k)
-after_precharge k kind place trace flight done rows chosen o trace_is flight_is done_is bytes =
-    after_row k (precharge_at place) trace flight done rows trace_is flight_is done_is bytes
-    ∙ ap (λ (p : Place). ticked (recorded (precharge_at p) (completed (state_of k)))) (sym o.place_is)
-    ∙ ap ticked (sym (precharge_on (completed (state_of k)) o.first o.younger o.is 0 refl))
-    ∙ ap (λ (c : Choice). ticked (issued c (completed (state_of k)))) (sym chosen)
+not_full : (b : Bool) → (IsTrue b → ⊥) → b ≡ false
+not_full true none = absurd (none refl)
+not_full false none = refl
 
-pub after_serve : (k : Kept) (w : Waiting) (ws : List Waiting) (pending : List Waiting) (trace : List Entry) (flight done : List Completion) (rows : Rows) →
-    choice_of (completed (state_of k)) ≡ choice.Column 0 → k.pending ≡ w ∷ ws → pending ≡ drop 1 k.pending →
-    trace ≡ k.trace ++ entry k.now (column_of w.request) ∷ [] →
-    flight ≡ filter (λ d. not (eqb d.due k.now)) k.flight ++ completion_of (state_of k) w.request ∷ [] → done ≡ k.done ++ filter (λ d. eqb d.due k.now) k.flight →
-    ((b r l : ℕ) → cells rows b r l ≡ cells_after w.request (state_of k).cells (record { bank = b; row = r; line = l })) →
-    state_of (record k { now = k.now + 1; pending = pending; trace = trace; flight = flight; done = done; rows = rows }) ≡ after_cycle (state_of k)
-unfolding state_with
-after_serve k w ws pending trace flight done rows chosen is pending_is trace_is flight_is done_is bytes =
-    ap (λ (f : LineAddress → List ℕ). state_with k pending flight done trace f) (same_cells k.rows rows (cells_after w.request (state_of k).cells) bytes)
-    ∙ ap₂ (λ (f : List Completion) (d : List Completion). state_with k pending f d trace (cells_after w.request (state_of k).cells)) flight_is done_is
-    ∙ ap₂ (λ (p : List Waiting) (t : List Entry). state_with k p (served 0 w.request (completed (state_of k))).flight (completed (state_of k)).done t (cells_after w.request (state_of k).cells)) pending_is trace_is
-    ∙ ap ticked (sym (serve_on (completed (state_of k)) w ws is 0 refl))
-    ∙ ap (λ (c : Choice). ticked (issued c (completed (state_of k)))) (sym chosen)
+pub stands_admit : {T : Type 0} (a : Inside) (result : Result T Request) (p : PendingList) (r : Request) (now : ℕ) (calls : List Call) → IsWhole a → IsServed a.config r.place → now ≡ a.legality.bus.now →
+    OnOk result (p ≡ pending.after_admit r now a.pending) → (IsErr result ↔ IsTrue (pending.is_full a.pending r.echo.kind)) → IfErr result (λ q. (q ≡ r) × (p ≡ a.pending)) →
+    StandsFor (kept_of a) calls → StandsFor (kept_of (with_pending a p)) (calls ++ Admit r ∷ [])
+stands_admit a (Ok x) p r now calls whole served clock ok full err stands =
+    stands_admitted (kept_of a) (kept_of (with_pending a p)) r calls stands served
+    (sym (full_is a r.echo.kind whole) ∙ not_full (pending.is_full a.pending r.echo.kind) (λ is. false≢true (full.1 is)))
+    (state_admit a (Ok x) p r now clock ok)
+stands_admit a (Err q) p r now calls whole served clock ok full err stands =
+    stands_refused (kept_of a) (kept_of (with_pending a p)) r calls stands served
+    (sym (full_is a r.echo.kind whole) ∙ full.0 refl) (ap (λ (x : PendingList). kept_of (with_pending a x)) err.1)
 
--- the open rows
+-- a channel's fields before the first cycle
 
--- the bank of a place in the geometry is below 4
-bank_below : (config : Config) (p : Place) → IsServed config p → p.bank < 4
-bank_below config p is = (IsInRange-test config.geometry p is).digits Bank
-
--- places of one bank number are of one group and one bank of it
-same_bank : (p q : Place) → p.bank < 4 → q.bank < 4 → bank_number q ≡ bank_number p → (p.group ≡ q.group) × (p.bank ≡ q.bank)
-same_bank p q low low' same = (omega arith, omega arith)
-
--- places of two bank numbers are of two banks
-other_bank : (p q : Place) → (bank_number q ≡ bank_number p → ⊥) → is_same_bank (activate_at p) (activate_at q) ≡ false
-other_bank p q other = elim (cases_eq p.group q.group) [
-  | inl group ↦ elim (cases_eq p.bank q.bank) [
-    | inl bank ↦ absurd (other (ap₂ (λ g n. g * 4 + n) (sym group) (sym bank)))
-    | inr bank ↦ ap (λ t. eqb p.group q.group && t) (ne_eqb p.bank q.bank bank) ∙ and_right (eqb p.group q.group) false refl
-  ]
-  | inr group ↦ ap (λ t. t && eqb p.bank q.bank) (ne_eqb p.group q.group group)
-]
-
--- in an idle bank no row is open
-pub idle_row : (trace : List Entry) (p : Place) (o : Option ℕ) → IsOpen trace p o → is_bank_active trace (activate_at p) ≡ false → o ≡ None
-idle_row trace p None open_is idle = refl
-idle_row trace p (Some row) open_is idle = absurd (true≢false (sym open_is.0 ∙ idle))
-
--- where a column command is legal, the bank's open row is the place's
-pub column_row_is : (trace : List Entry) (p : Place) (o : Option ℕ) → IsOpen trace p o → is_bank_active trace (activate_at p) ≡ true → is_row_open trace (activate_at p) ≡ true → o ≡ Some p.row
-column_row_is trace p None open_is active row = absurd (true≢false (sym active ∙ open_is))
-column_row_is trace p (Some w) open_is active row = ap Some (eqb-true w p.row (sym open_is.1 ∙ row))
-
-open_after_column : (trace : List Entry) (cycle : ℕ) (kind : Kind) (p q : Place) (o : Option ℕ) → IsOpen trace q o → IsOpen (trace ++ entry cycle (column_at kind p) ∷ []) q o
-open_after_column trace cycle kind p q None open_is = active_after_column trace cycle kind p (activate_at q) ∙ open_is
-open_after_column trace cycle kind p q (Some row) open_is =
-    (active_after_column trace cycle kind p (activate_at q) ∙ open_is.0, row_after_column trace cycle kind p (activate_at q) ∙ open_is.1)
-
-pub agrees_column : (config : Config) (trace : List Entry) (cycle : ℕ) (kind : Kind) (p : Place) (old new : Rows) → AgreesWith config trace old → SameShape old new → ((b : ℕ) → open_row new b ≡ open_row old b) →
-    AgreesWith config (trace ++ entry cycle (column_at kind p) ∷ []) new
-agrees_column config trace cycle kind p old new agrees shape opened = record {
-  banks = shape.banks ∙ agrees.banks;
-  rows_are = shape.rows ∙ agrees.rows_are;
-  lines = shape.lines ∙ agrees.lines;
-  opened = λ q is. subst (IsOpen (trace ++ entry cycle (column_at kind p) ∷ []) q) (sym (opened (bank_number q))) (open_after_column trace cycle kind p q (open_row old (bank_number q)) (agrees.opened q is));
+abbrev pub fields_open : Config → ℕ → ℕ → Rows → Inside
+fields_open config first spare rows = record {
+  config = config;
+  pending = pending.opened config.limits.reads config.limits.writes;
+  drain = false;
+  debt = refreshes.opened config.timing;
+  flight = buffer [] config.limits.done;
+  done = buffer [] config.limits.done;
+  legality = record { bus = bus.opened config first; spare = spare };
+  rows = rows;
 }
 
-open_after_other_activate : (trace : List Entry) (cycle : ℕ) (p q : Place) (o : Option ℕ) → is_same_bank (activate_at p) (activate_at q) ≡ false → IsOpen trace q o →
-    IsOpen (trace ++ entry cycle (activate_at p) ∷ []) q o
-open_after_other_activate trace cycle p q None other open_is = active_after_other_activate trace cycle p q other ∙ open_is
-open_after_other_activate trace cycle p q (Some row) other open_is =
-    (active_after_other_activate trace cycle p q other ∙ open_is.0, row_after_other_activate trace cycle p q other ∙ open_is.1)
+pub fields_are_open : (config : Config) (first : ℕ) (p : PendingList) (debt : Refreshes) (flight done : Buffer Completion) (l : legality.Kept) (rows : Rows) →
+    p ≡ pending.opened config.limits.reads config.limits.writes → debt ≡ refreshes.opened config.timing → flight ≡ buffer [] config.limits.done → done ≡ buffer [] config.limits.done → l.bus ≡ bus.opened config first →
+    record { config = config; pending = p; drain = false; debt = debt; flight = flight; done = done; legality = l; rows = rows } ≡ fields_open config first l.spare rows
+fields_are_open config first p debt flight done l rows p_is debt_is flight_is done_is bus_are =
+    λ i. record { config = config; pending = p_is i; drain = false; debt = debt_is i; flight = flight_is i; done = done_is i; legality = record { bus = bus_are i; spare = l.spare }; rows = rows }
 
-pub agrees_activate : (config : Config) (trace : List Entry) (cycle : ℕ) (p : Place) (old new : Rows) → IsServed config p → is_bank_active trace (activate_at p) ≡ false → AgreesWith config trace old → SameShape old new →
-    ((b : ℕ) → open_row new b ≡ cond (eqb b (bank_number p)) (Some p.row) (open_row old b)) → AgreesWith config (trace ++ entry cycle (activate_at p) ∷ []) new
-agrees_activate config trace cycle p old new here idle agrees shape opened = record {
-  banks = shape.banks ∙ agrees.banks;
-  rows_are = shape.rows ∙ agrees.rows_are;
-  lines = shape.lines ∙ agrees.lines;
-  opened = λ q is. elim (cases_eq (bank_number q) (bank_number p)) [
-    | inl there ↦
-        let same = same_bank p q (bank_below config p here) (bank_below config q is) there in
-        let idle' : is_bank_active trace (activate_at q) ≡ false = ap₂ (λ g b. is_bank_active trace (activate_at (record q { group = g; bank = b }))) (sym same.0) (sym same.1) ∙ idle in
-        subst (IsOpen (trace ++ entry cycle (activate_at p) ∷ []) q)
-        (sym (opened (bank_number q) ∙ ap (λ b. cond b (Some p.row) (open_row old (bank_number q))) (eq-eqb (bank_number q) (bank_number p) there)))
-        (active_after_activate trace cycle p q same.0 same.1, row_after_activate trace cycle p q same.0 same.1 idle')
-    | inr elsewhere ↦
-        subst (IsOpen (trace ++ entry cycle (activate_at p) ∷ []) q)
-        (sym (opened (bank_number q) ∙ ap (λ b. cond b (Some p.row) (open_row old (bank_number q))) (ne_eqb (bank_number q) (bank_number p) elsewhere)))
-        (open_after_other_activate trace cycle p q (open_row old (bank_number q)) (other_bank p q elsewhere) (agrees.opened q is))
-  ];
-}
+pub state_open : (config : Config) (first spare : ℕ) (rows : Rows) → IsFresh config rows → state_of (kept_of (fields_open config first spare rows)) ≡ opened config first
+state_open config first spare rows fresh =
+    let zeros : (λ (address : LineAddress). cells rows address.bank address.row address.line) ≡ (λ _. replicate LINE_BYTES 0) = fun_ext (λ address. fresh.zeros address.bank address.row address.line) in
+    ap (λ (f : LineAddress → List ℕ). record (opened config first) { cells = f }) zeros
 
-open_after_other_precharge : (trace : List Entry) (cycle : ℕ) (p q : Place) (o : Option ℕ) → is_same_bank (activate_at p) (activate_at q) ≡ false → IsOpen trace q o →
-    IsOpen (trace ++ entry cycle (precharge_at p) ∷ []) q o
-open_after_other_precharge trace cycle p q None other open_is = active_after_other_precharge trace cycle p q other ∙ open_is
-open_after_other_precharge trace cycle p q (Some row) other open_is =
-    (active_after_other_precharge trace cycle p q other ∙ open_is.0, row_after_other_precharge trace cycle p q other ∙ open_is.1)
-
-pub agrees_precharge : (config : Config) (trace : List Entry) (cycle : ℕ) (p : Place) (old new : Rows) → IsServed config p → AgreesWith config trace old → SameShape old new →
-    ((b : ℕ) → open_row new b ≡ cond (eqb b (bank_number p)) None (open_row old b)) → AgreesWith config (trace ++ entry cycle (precharge_at p) ∷ []) new
-agrees_precharge config trace cycle p old new here agrees shape opened = record {
-  banks = shape.banks ∙ agrees.banks;
-  rows_are = shape.rows ∙ agrees.rows_are;
-  lines = shape.lines ∙ agrees.lines;
-  opened = λ q is. elim (cases_eq (bank_number q) (bank_number p)) [
-    | inl there ↦
-        let same = same_bank p q (bank_below config p here) (bank_below config q is) there in
-        subst (IsOpen (trace ++ entry cycle (precharge_at p) ∷ []) q)
-        (sym (opened (bank_number q) ∙ ap (λ b. cond b None (open_row old (bank_number q))) (eq-eqb (bank_number q) (bank_number p) there)))
-        (active_after_precharge trace cycle p q same.0 same.1)
-    | inr elsewhere ↦
-        subst (IsOpen (trace ++ entry cycle (precharge_at p) ∷ []) q)
-        (sym (opened (bank_number q) ∙ ap (λ b. cond b None (open_row old (bank_number q))) (ne_eqb (bank_number q) (bank_number p) elsewhere)))
-        (open_after_other_precharge trace cycle p q (open_row old (bank_number q)) (other_bank p q elsewhere) (agrees.opened q is))
-  ];
-}
-
--- how many requests are pending
-
-one_more : (kind : Kind) (reads writes n : ℕ) → reads + writes ≡ n → (cond (is_same_kind Read kind) 1 0 + reads) + (cond (is_same_kind Write kind) 1 0 + writes) ≡ suc n
-one_more Read reads writes n e = omega arith
-one_more Write reads writes n e = omega arith
-
-pub counts : (pending : List Waiting) → pending_count Read pending + pending_count Write pending ≡ length pending
-counts [] = refl
-counts (w ∷ ws) =
-    let reads = sum_by-append (λ (v : Waiting). cond (is_same_kind Read v.request.echo.kind) 1 0) (w ∷ []) ws in
-    let writes = sum_by-append (λ (v : Waiting). cond (is_same_kind Write v.request.echo.kind) 1 0) (w ∷ []) ws in
-    let both = one_more w.request.echo.kind (pending_count Read ws) (pending_count Write ws) (length ws) (counts ws) in
-    omega arith
-
--- one more pending request
-pub count_admit : (kind : Kind) (pending : List Waiting) (w : Waiting) → pending_count kind (pending ++ w ∷ []) ≡ pending_count kind pending + cond (is_same_kind kind w.request.echo.kind) 1 0
-count_admit kind pending w =
-    let more = sum_by-append (λ (v : Waiting). cond (is_same_kind kind v.request.echo.kind) 1 0) pending (w ∷ []) in
-    omega arith
-
--- one fewer
-pub count_served : (kind : Kind) (w : Waiting) (ws : List Waiting) → pending_count kind (w ∷ ws) ≡ cond (is_same_kind kind w.request.echo.kind) 1 0 + pending_count kind ws
-count_served kind w ws =
-    let more = sum_by-append (λ (v : Waiting). cond (is_same_kind kind v.request.echo.kind) 1 0) (w ∷ []) ws in
-    omega arith
-
--- the answer of a test that says no
-pub told : (b c : Bool) → (IsTrue b ↔ IsTrue c) → b ≡ false → c ≡ false
-told b true tells false_is = absurd (false≢true (sym false_is ∙ tells.1 refl))
-told b false tells false_is = refl
-
--- a queue that isn't full has room for one more
-pub queue_room : (s : State) (kind : Kind) (full : Bool) → (IsTrue full ↔ IsTrue (is_queue_full s kind)) → full ≡ false → pending_count kind s.pending < queue_size s.config kind
-queue_room s kind full tells not_full = leb-false _ _ (told full (is_queue_full s kind) tells not_full)
-
--- there is room for one more in all
-pub admit_fits : (config : Config) (pending : List Waiting) (kind : Kind) → pending_count kind pending < queue_size config kind → pending_count Read pending ≤ config.limits.reads → pending_count Write pending ≤ config.limits.writes →
-    length pending < config.limits.reads + config.limits.writes
-admit_fits config pending Read room reads writes = let both = counts pending in omega arith
-admit_fits config pending Write room reads writes = let both = counts pending in omega arith
-
-state_at : Kept → List Entry → (LineAddress → List ℕ) → State
-state_at k trace bytes = record {
-  config = k.config;
-  start = k.start;
-  now = k.now;
-  pending = k.pending;
-  flight = k.flight;
-  done = k.done;
-  trace = trace;
-  cells = bytes;
-}
-
--- rows that were made ready change no state
-pub same_state : (k : Kept) (trace : List Entry) (rows : Rows) → trace ≡ k.trace → ((b r l : ℕ) → cells rows b r l ≡ cells k.rows b r l) → state_of (record k { trace = trace; rows = rows }) ≡ state_of k
-unfolding state_at
-same_state k trace rows trace_is bytes =
-    ap₂ (λ (t : List Entry) (f : LineAddress → List ℕ). state_at k t f) trace_is (same_cells k.rows rows (state_of k).cells bytes)
+pub whole_open : (config : Config) (first spare : ℕ) (rows : Rows) → first ≤ CLOCK_STOP → IsFresh config rows → IsWhole (fields_open config first spare rows)
+whole_open config first spare rows clock fresh =
+    let sound = IsSound-opened config first in
+    let none : 0 ≡ first - first = omega arith in
+    record {
+      sound = subst IsSound (sym (state_open config first spare rows fresh)) sound;
+      of_config = refl;
+      clock = clock;
+      reads = refl;
+      writes = refl;
+      debt = ap (λ n. record (refreshes.opened config.timing) { ticks = n }) none;
+      flight_room = refl;
+      done_room = refl;
+      agrees = record {
+        banks = fresh.banks;
+        rows_are = fresh.rows;
+        lines = fresh.lines;
+        opened = λ group bank g b. subst (IsOpenRow [] group bank) (sym (fresh.idle (group * 4 + bank))) refl;
+      };
+    }

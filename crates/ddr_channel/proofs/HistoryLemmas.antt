@@ -1,52 +1,76 @@
--- What every history keeps, call by call. The oldest pending request is always the one that is served, so the
--- owners stand in the acceptance list in order, and the pending requests after them.
-use Rattle.std.proofs.Common.{◌≡◌, ℕ, zero, suc, ◌+◌, ◌<◌, Bool, true, false, not, cond, eqb, List, [], ◌∷◌, ◌++◌, Option, Some, None, map, length, take, drop, get_or, refl, sym, ap, ap₂, subst, ◌∙◌, inl, inr, arith}
-use Rattle.std.specs.List.{AllByRecursion, filter, slice_get, remove, range_with_len, fold}
-use Rattle.std.specs.Option.{option_map}
-use Rattle.std.proofs.lemmas.Bool.{cases_eq}
-use Rattle.std.proofs.lemmas.List.{append_assoc, append-nil, length-append, length_push, length-map, map-append, take_at, take-append-le, take-append-drop}
-use Rattle.std.proofs.lemmas.List.Elements.{filter-append}
-use Rattle.std.proofs.lemmas.Option.{slice_get_within}
+-- What every history keeps, call by call.
+use Rattle.std.proofs.Common.{◌≡◌, ℕ, zero, suc, ◌+◌, ◌<◌, ◌≤◌, Bool, true, false, ◌&&◌, not, cond, eqb, List, [], ◌∷◌, ◌++◌, Option, Some, None, All, map, length, take, drop, get_or, refl, sym, ap, ap₂, subst, ◌∙◌, ◌⊎◌, inl, inr, arith}
+use Rattle.std.specs.List.{AllByRecursion, AllPairs, filter, list_any, slice_get, remove, range_with_len, fold}
+use Rattle.std.specs.List.Sorted.{IsPermutation}
+use Rattle.std.specs.Option.{option_map, option_map_or, IfSome}
+use Rattle.std.proofs.lemmas.Bool.{cases_eq, cases_Bool, cases_order, true≢false, eq-eqb, eqb-true, and_parts}
+use Rattle.std.proofs.lemmas.List.{append_assoc, append-nil, length-append, length_push, length-map, map-append, take_at, take-append-le, take-append-drop, take-map, take_all}
+use Rattle.std.proofs.lemmas.List.Elements.{All-take, All-tail, filter-append}
+use Rattle.std.proofs.lemmas.List.Quantifiers.{all_pairs_remove, all_pairs_push}
+use Rattle.std.proofs.lemmas.List.Sorted.{IsPermutation-refl, IsPermutation-more, IsPermutation-append_left}
+use Rattle.std.proofs.lemmas.Option.{slice_get_within, get_or_from_slice_get}
 use Rattle.circular_buffer.proofs.Places.{slice_get-append_left, slice_get-append_right}
 use Rattle.ddr_timing.specs.declared.config.Config.{Config}
+use Rattle.ddr_timing.specs.declared.geometry.Digit.TheVariants.{Bank}
+use Rattle.ddr_timing.specs.declared.units.TheConstants.{CLOCK_STOP}
 use Rattle.ddr_trace.specs.declared.command.Command.{Command}
 use Rattle.ddr_trace.specs.declared.command.Entry.{Entry}
-use Rattle.ddr_trace.specs.Commands.{is_column}
+use Rattle.ddr_trace.specs.Commands.{entry, is_column}
 use Rattle.ddr_address_map.specs.declared.place.Place.{Place}
 use Rattle.ddr_address_map.specs.declared.request.Kind.{Kind}
 use Rattle.ddr_address_map.specs.declared.request.Kind.TheVariants.{Read, Write}
 use Rattle.ddr_address_map.specs.Requests.{Request, Completion}
-use Rattle.ddr_channel.specs.declared.choice.Choice.{Choice}
-use Rattle.ddr_channel.specs.declared.choice.Choice.TheVariants as choice
-use Rattle.ddr_channel.specs.declared.waiting.Waiting.{Waiting}
-use Rattle.ddr_channel.specs.Choice.{bus_of, has_room, choice_among, choice_of}
-use Rattle.ddr_trace.specs.Commands.{entry}
-use Rattle.ddr_channel.specs.Commands.{activate_at, precharge_at, column_at, column_of}
-use Rattle.ddr_timing.specs.declared.units.TheConstants.{CLOCK_STOP}
-use Rattle.ddr_channel.specs.Cycle.{completed, recorded, completion_at, completion_of, cells_after, served, for_request, issued, ticked, after_cycle}
+use Rattle.ddr_address_map.proofs.MapLemmas.{IsInRange-test}
+use Rattle.ddr_hazards.specs.declared.waiting.Waiting.{Waiting}
+use Rattle.ddr_hazards.specs.Hazards as hazards
+use Rattle.ddr_arbiter.specs.declared.choice.Choice.{Choice}
+use Rattle.ddr_arbiter.specs.declared.choice.Choice.TheVariants as choice
+use Rattle.ddr_arbiter.specs.Commands.{activate_at, precharge_at, column_at, column_of}
+use Rattle.ddr_arbiter.specs.Laws.{command_of, IsLawful}
+use Rattle.ddr_arbiter.proofs.LawLemmas.{choice_lawful}
+use Rattle.ddr_channel.specs.Choice.{bus_of, has_room, situation_of, choice_of}
+use Rattle.ddr_channel.specs.Cycle.{completed, at_choice, recorded, completion_at, completion_of, cells_after, served, served_at, served_by, issued, ticked, after_cycle}
 use Rattle.ddr_channel.specs.History.{Call, Admit, Cycle, Pop, Owner, History, begun, with_owner, after_call, run}
-use Rattle.ddr_channel.specs.Memory.{LineAddress, line_of, line_after}
-use Rattle.ddr_channel.specs.Promise.{answer_to, right_answer, command_of, requests_of, completions_of, MayCall, AreCalls}
+use Rattle.ddr_channel.specs.Memory.{LineAddress, bank_number, line_of, is_same_line, line_over, line_after}
+use Rattle.ddr_channel.specs.Promise.{answer_to, right_answer, owned_entry, requests_of, completions_of, MayCall, AreCalls}
 use Rattle.ddr_channel.specs.Sound.{IsServed, AreDue, IsSound}
 use Rattle.ddr_channel.specs.State.{State, after_admit, after_pop, is_queue_full}
-use Rattle.ddr_channel.proofs.MemoryLemmas.{cells_after-line_after}
-use Rattle.ddr_channel.proofs.SoundLemmas.{IsSound-opened, IsSound-after_cycle, IsSound-after_admit, IsSound-after_pop, Allows, choice_allowed, act_on, precharge_on, serve_on, due_now, due_later, due_after, none_due, AreDue-append, All-append, All-implies}
+use Rattle.ddr_channel.proofs.ListLemmas.{slice_get-remove_before, slice_get-remove_behind, get_or-remove_before, get_or-remove_behind, take-remove_before, TakesBoth, takes_both, split_at, map-remove, All-at, All-implies, All-last, All-taken, at_recursion, at_map, mapped_at, list_any-none_at, neither}
+use Rattle.ddr_channel.proofs.MemoryLemmas.{line_over-append, line_over-line_after, serve_line, line_kept, IsFormed, formed_after, NoneTo}
+use Rattle.ddr_channel.proofs.SoundLemmas.{IsSound-opened, IsSound-at_choice, IsSound-after_cycle, IsSound-after_admit, IsSound-after_pop, sound_issued, due_now, due_later, due_after, none_due, AreDue-append}
 
--- What a history keeps: the requests that were served, and that completions stand in order of their dues, those
--- that are done before the cycle `next`.
+-- what a pending request would read is what the requests that were admitted before it leave
+abbrev pub PromisesAt : History → ℕ → Request → Type 0
+PromisesAt h place r =
+    line_over (h.state.cells (line_of r.place)) (take place (requests_of h.state.pending)) (line_of r.place)
+    ≡ line_after (take (get_or h.waiting place 0) h.accepted) (line_of r.place)
+
+-- What a history keeps. Completions stand in the order of their dues, those that are done before the cycle `next`.
 pub record Keeps (next : ℕ) (h : History) : Type 0 where
-  pub served : List Request
-  pub split : h.accepted ≡ served ++ requests_of h.state.pending
-  pub count : length h.owners ≡ length served
-  pub places : map (λ o. o.place) h.owners ≡ range_with_len 0 (length served)
-  pub waiting : h.waiting ≡ range_with_len (length served) (length h.state.pending)
+  pub each_once : IsPermutation (range_with_len 0 (length h.accepted)) (map (λ o. o.place) h.owners ++ h.waiting)
+  pub pending : map Some (requests_of h.state.pending) ≡ map (slice_get h.accepted) h.waiting
+  pub below : AllByRecursion (λ n. n < length h.accepted) h.waiting
+  pub oldest_first : AllPairs ◌<◌ h.waiting
   pub placed : AllByRecursion (λ o. o.place < length h.accepted) h.owners
-  pub cells : (address : LineAddress) → h.state.cells address ≡ line_after served address
-  pub commands : map Some (filter (λ e. is_column e.command) h.state.trace) ≡ map (command_of h.accepted) h.owners
+  pub formed : (address : LineAddress) → IsFormed (h.state.cells address)
+  pub promise : (place : ℕ) (r : Request) → slice_get (requests_of h.state.pending) place ≡ Some r → PromisesAt h place r
+  pub memory : (address : LineAddress) → line_over (h.state.cells address) (requests_of h.state.pending) address ≡ line_after h.accepted address
+  pub commands : map Some (filter (λ e. is_column e.command) h.state.trace) ≡ map (owned_entry h.accepted) h.owners
   pub answers : map Some (completions_of h) ≡ map (right_answer h.state.config h.accepted) h.owners
   pub ended : AreDue 0 (h.popped ++ h.state.done)
   pub finished : AllByRecursion (λ d. d.due < next) (h.popped ++ h.state.done)
   pub due : AreDue next h.state.flight
+
+-- as many places as pending requests
+pub waiting_length : (next : ℕ) (h : History) → Keeps next h → length h.waiting ≡ length h.state.pending
+waiting_length next h k =
+    sym (length-map h.waiting (slice_get h.accepted)) ∙ sym (ap length k.pending) ∙ length-map (requests_of h.state.pending) Some ∙ length-map h.state.pending (λ w. w.request)
+
+-- the pending request at a place was admitted at the place that is kept for it
+pub accepted_at : (next : ℕ) (h : History) (place : ℕ) (r : Request) → Keeps next h → slice_get (requests_of h.state.pending) place ≡ Some r →
+    (n : ℕ) × (slice_get h.waiting place ≡ Some n) × (slice_get h.accepted n ≡ Some r)
+accepted_at next h place r k here =
+    at_map (slice_get h.accepted) h.waiting place (Some r) (ap (λ (os : List (Option Request)). slice_get os place) (sym k.pending) ∙ mapped_at Some (requests_of h.state.pending) place r here)
 
 -- admission
 
@@ -54,8 +78,8 @@ map_same : {X Y : Type 0} (P : X → Type 0) (f g : X → Y) (xs : List X) → (
 map_same P f g [] same all = refl
 map_same P f g (x ∷ xs) same all = ap₂ ◌∷◌ (same x all.0) (map_same P f g xs same all.1)
 
-command_kept : (accepted : List Request) (r : Request) (o : Owner) → o.place < length accepted → command_of accepted o ≡ command_of (accepted ++ r ∷ []) o
-command_kept accepted r o placed = ap (option_map (λ q. entry o.cycle (column_of q))) (sym (slice_get-append_left accepted (r ∷ []) o.place placed))
+entry_kept : (accepted : List Request) (r : Request) (o : Owner) → o.place < length accepted → owned_entry accepted o ≡ owned_entry (accepted ++ r ∷ []) o
+entry_kept accepted r o placed = ap (option_map (λ q. entry o.cycle (column_of q))) (sym (slice_get-append_left accepted (r ∷ []) o.place placed))
 
 answer_kept : (config : Config) (accepted : List Request) (r : Request) (o : Owner) → o.place < length accepted → right_answer config accepted o ≡ right_answer config (accepted ++ r ∷ []) o
 answer_kept config accepted r o placed =
@@ -69,25 +93,82 @@ range_more a (suc n) =
     let more : suc n + 1 ≡ suc (n + 1) = omega arith in
     ap (λ k. a ∷ (range_with_len (a + 1) n ++ k ∷ [])) next ∙ ap (λ (ks : List ℕ). a ∷ ks) (range_more (a + 1) n) ∙ ap (range_with_len a) (sym more)
 
+each_once_more : (accepted : List Request) (r : Request) (owned waiting : List ℕ) → IsPermutation (range_with_len 0 (length accepted)) (owned ++ waiting) →
+    IsPermutation (range_with_len 0 (length (accepted ++ r ∷ []))) (owned ++ (waiting ++ length accepted ∷ []))
+each_once_more accepted r owned waiting each =
+    let n = length accepted in
+    let from : range_with_len 0 n ++ n ∷ [] ≡ range_with_len 0 (length (accepted ++ r ∷ [])) =
+    let zero_more : n ≡ 0 + n = omega arith in
+    ap (λ m. range_with_len 0 n ++ m ∷ []) zero_more ∙ range_more 0 n ∙ ap (range_with_len 0) (sym (length_push accepted r)) in
+    subst (λ (xs : List ℕ). IsPermutation xs (owned ++ (waiting ++ n ∷ []))) from
+    (subst (IsPermutation (range_with_len 0 n ++ n ∷ [])) (append_assoc owned waiting (n ∷ []))
+    (IsPermutation-append_left (n ∷ []) (range_with_len 0 n) (owned ++ waiting) each))
+
+-- what one more request leaves in a line
+one_after : (bytes : List ℕ) (pending accepted : List Request) (r : Request) (address : LineAddress) → line_over bytes pending address ≡ line_after accepted address →
+    line_over bytes (pending ++ r ∷ []) address ≡ line_after (accepted ++ r ∷ []) address
+one_after bytes pending accepted r address same =
+    sym (line_over-append bytes pending (r ∷ []) address) ∙ ap (λ (line : List ℕ). line_over line (r ∷ []) address) same ∙ line_over-line_after accepted (r ∷ []) address
+
+-- the admitted one is the youngest, and it is promised what all others leave
+promise_admitted : (next : ℕ) (h : History) (r : Request) → Keeps next h → (place : ℕ) (q : Request) → slice_get (requests_of h.state.pending ++ r ∷ []) place ≡ Some q →
+    line_over (h.state.cells (line_of q.place)) (take place (requests_of h.state.pending ++ r ∷ [])) (line_of q.place)
+    ≡ line_after (take (get_or (h.waiting ++ length h.accepted ∷ []) place 0) (h.accepted ++ r ∷ [])) (line_of q.place)
+promise_admitted next h r k place q here = elim (cases_order place (length (requests_of h.state.pending))) [
+  | inl last ↦
+      let reqs = requests_of h.state.pending in
+      let many : length h.waiting ≡ place = waiting_length next h k ∙ sym (length-map h.state.pending (λ w. w.request)) ∙ sym last in
+      let all : take place (reqs ++ r ∷ []) ≡ reqs = take_at reqs (r ∷ []) place (sym last) in
+      let at_end : slice_get (h.waiting ++ length h.accepted ∷ []) place ≡ Some (length h.accepted) = ap (slice_get (h.waiting ++ length h.accepted ∷ [])) (sym many ∙ omega arith) ∙ slice_get-append_right h.waiting (length h.accepted ∷ []) (length h.waiting) 0 (omega arith) in
+      let is_last : get_or (h.waiting ++ length h.accepted ∷ []) place 0 ≡ length h.accepted = get_or_from_slice_get (h.waiting ++ length h.accepted ∷ []) place (length h.accepted) 0 at_end in
+      ap (λ (xs : List Request). line_over (h.state.cells (line_of q.place)) xs (line_of q.place)) all
+      ∙ k.memory (line_of q.place)
+      ∙ ap (λ (xs : List Request). line_after xs (line_of q.place)) (sym (ap (λ n. take n (h.accepted ++ r ∷ [])) is_last ∙ take_at h.accepted (r ∷ []) (length h.accepted) refl))
+  | inr (inl before) ↦
+      let reqs = requests_of h.state.pending in
+      let here' : slice_get reqs place ≡ Some q = sym (slice_get-append_left reqs (r ∷ []) place before) ∙ here in
+      let at = accepted_at next h place q k here' in
+      let small : at.0 < length h.accepted = slice_get_within h.accepted at.0 q at.2 in
+      let old : get_or h.waiting place 0 ≡ at.0 = get_or_from_slice_get h.waiting place at.0 0 at.1 in
+      let new : get_or (h.waiting ++ length h.accepted ∷ []) place 0 ≡ at.0 =
+      get_or_from_slice_get (h.waiting ++ length h.accepted ∷ []) place at.0 0 (slice_get-append_left h.waiting (length h.accepted ∷ []) place (slice_get_within h.waiting place at.0 at.1) ∙ at.1) in
+      ap (λ (xs : List Request). line_over (h.state.cells (line_of q.place)) xs (line_of q.place)) (take-append-le place reqs (r ∷ []) (omega arith))
+      ∙ k.promise place q here'
+      ∙ ap (λ (xs : List Request). line_after xs (line_of q.place))
+      (ap (λ n. take n h.accepted) old ∙ sym (take-append-le at.0 h.accepted (r ∷ []) (omega arith)) ∙ ap (λ n. take n (h.accepted ++ r ∷ [])) (sym new))
+  | inr (inr past) ↦ absurd (let within = slice_get_within (requests_of h.state.pending ++ r ∷ []) place q here in omega (arith, length_push (requests_of h.state.pending) r))
+]
+
 pub keeps_admit : (next : ℕ) (h : History) (r : Request) → Keeps next h → Keeps next (record h { state = after_admit r h.state; accepted = h.accepted ++ r ∷ []; waiting = h.waiting ++ length h.accepted ∷ [] })
 keeps_admit next h r k =
     let w : Waiting = record { request = r; admitted = h.state.now } in
-    let total = ap length k.split ∙ length-append k.served (requests_of h.state.pending) in
-    let waiting_count = length-map h.state.pending (λ v. v.request) in
+    let requests : requests_of (h.state.pending ++ w ∷ []) ≡ requests_of h.state.pending ++ r ∷ [] = map-append (λ v. v.request) h.state.pending (w ∷ []) in
+    let last : slice_get (h.accepted ++ r ∷ []) (length h.accepted) ≡ Some r = slice_get-append_right h.accepted (r ∷ []) (length h.accepted) 0 (omega arith) in
     record {
-      served = k.served;
-      split = ap (λ (xs : List Request). xs ++ r ∷ []) k.split ∙ append_assoc k.served (requests_of h.state.pending) (r ∷ []) ∙ ap (λ (xs : List Request). k.served ++ xs) (sym (map-append (λ v. v.request) h.state.pending (w ∷ [])));
-      count = k.count;
-      places = k.places;
-      waiting = ap₂ (λ (xs : List ℕ) (n : ℕ). xs ++ n ∷ []) k.waiting (total ∙ ap (λ n. length k.served + n) waiting_count) ∙ range_more (length k.served) (length h.state.pending) ∙ ap (range_with_len (length k.served)) (sym (length_push h.state.pending w));
+      each_once = each_once_more h.accepted r (map (λ o. o.place) h.owners) h.waiting k.each_once;
+      pending =
+          ap (map Some) requests ∙ map-append Some (requests_of h.state.pending) (r ∷ [])
+          ∙ ap₂ (λ (xs : List (Option Request)) (x : Option Request). xs ++ x ∷ []) (k.pending ∙ map_same (λ n. n < length h.accepted) _ _ h.waiting (λ n below. sym (slice_get-append_left h.accepted (r ∷ []) n below)) k.below) (sym last)
+          ∙ sym (map-append (slice_get (h.accepted ++ r ∷ [])) h.waiting (length h.accepted ∷ []));
+      below = All-last _ h.waiting (length h.accepted) (All-implies _ _ h.waiting (λ n below. omega (arith, length_push h.accepted r)) k.below) (omega (arith, length_push h.accepted r));
+      oldest_first = all_pairs_push ◌<◌ h.waiting (length h.accepted) k.oldest_first (below_all h.waiting (length h.accepted) k.below);
       placed = All-implies _ _ h.owners (λ o below. omega (arith, length_push h.accepted r)) k.placed;
-      cells = k.cells;
-      commands = k.commands ∙ map_same (λ o. o.place < length h.accepted) _ _ h.owners (command_kept h.accepted r) k.placed;
+      formed = k.formed;
+      promise = λ place q here.
+          ap (λ (xs : List Request). line_over (h.state.cells (line_of q.place)) (take place xs) (line_of q.place)) requests
+          ∙ promise_admitted next h r k place q (ap (λ (xs : List Request). slice_get xs place) (sym requests) ∙ here);
+      memory = λ address. ap (λ (xs : List Request). line_over (h.state.cells address) xs address) requests ∙ one_after (h.state.cells address) (requests_of h.state.pending) h.accepted r address (k.memory address);
+      commands = k.commands ∙ map_same (λ o. o.place < length h.accepted) _ _ h.owners (entry_kept h.accepted r) k.placed;
       answers = k.answers ∙ map_same (λ o. o.place < length h.accepted) _ _ h.owners (answer_kept h.state.config h.accepted r) k.placed;
       ended = k.ended;
       finished = k.finished;
       due = k.due;
     }
+  where
+    below_all : (xs : List ℕ) (n : ℕ) → AllByRecursion (λ m. m < n) xs → (i : ℕ) (d : ℕ) → i < length xs → get_or xs i d < n
+    below_all [] n all i d within = absurd (omega arith)
+    below_all (x ∷ xs) n all zero d within = all.0
+    below_all (x ∷ xs) n all (suc i) d within = below_all xs n all.1 i d (omega arith)
 
 -- taking a completion
 
@@ -96,13 +177,14 @@ keeps_pop next h k =
     let moved : (h.popped ++ take 1 h.state.done) ++ drop 1 h.state.done ≡ h.popped ++ h.state.done =
     append_assoc h.popped (take 1 h.state.done) (drop 1 h.state.done) ∙ ap (λ (xs : List Completion). h.popped ++ xs) (take-append-drop 1 h.state.done) in
     record {
-      served = k.served;
-      split = k.split;
-      count = k.count;
-      places = k.places;
-      waiting = k.waiting;
+      each_once = k.each_once;
+      pending = k.pending;
+      below = k.below;
+      oldest_first = k.oldest_first;
       placed = k.placed;
-      cells = k.cells;
+      formed = k.formed;
+      promise = k.promise;
+      memory = k.memory;
       commands = k.commands;
       answers = ap (λ (xs : List Completion). map Some (xs ++ h.state.flight)) moved ∙ k.answers;
       ended = subst (AreDue 0) (sym moved) k.ended;
@@ -110,7 +192,7 @@ keeps_pop next h k =
       due = k.due;
     }
 
--- a cycle: completion
+-- a cycle: what comes before the choice
 
 pub due_split : (now : ℕ) (ds : List Completion) → AreDue now ds → filter (λ d. eqb d.due now) ds ++ filter (λ d. not (eqb d.due now)) ds ≡ ds
 due_split now [] due = refl
@@ -131,13 +213,13 @@ finished_more : (now : ℕ) (xs ds : List Completion) → AllByRecursion (λ d. 
 finished_more now xs [] finished due = subst (AllByRecursion (λ d. d.due < now + 1)) (sym (append-nil xs)) (All-implies _ _ xs (λ e below. omega arith) finished)
 finished_more now xs (d ∷ ds) finished due = elim (cases_eq d.due now) [
   | inl same ↦ subst (λ (ys : List Completion). AllByRecursion (λ e. e.due < now + 1) (xs ++ ys)) (sym (due_now now d ds due same).0)
-      (All-append (λ e. e.due < now + 1) xs d (All-implies _ _ xs (λ e below. omega arith) finished) (omega arith))
+      (All-last (λ e. e.due < now + 1) xs d (All-implies _ _ xs (λ e below. omega arith) finished) (omega arith))
   | inr other ↦ subst (λ (ys : List Completion). AllByRecursion (λ e. e.due < now + 1) (xs ++ ys)) (sym (none_due now (d ∷ ds) (due_later now d ds due other)).0)
       (subst (AllByRecursion (λ e. e.due < now + 1)) (sym (append-nil xs)) (All-implies _ _ xs (λ e below. omega arith) finished))
 ]
 
-keeps_completed : (h : History) → Keeps h.state.now h → Keeps (h.state.now + 1) (record h { state = completed h.state })
-keeps_completed h k =
+keeps_at_choice : (h : History) → Keeps h.state.now h → Keeps (h.state.now + 1) (record h { state = at_choice h.state })
+keeps_at_choice h k =
     let now = h.state.now in
     let over = filter (λ d. eqb d.due now) h.state.flight in
     let rest = filter (λ d. not (eqb d.due now)) h.state.flight in
@@ -146,13 +228,14 @@ keeps_completed h k =
     ap (λ (xs : List Completion). xs ++ rest) ended ∙ append_assoc (h.popped ++ h.state.done) over rest
     ∙ ap (λ (xs : List Completion). (h.popped ++ h.state.done) ++ xs) (due_split now h.state.flight k.due) in
     record {
-      served = k.served;
-      split = k.split;
-      count = k.count;
-      places = k.places;
-      waiting = k.waiting;
+      each_once = k.each_once;
+      pending = k.pending;
+      below = k.below;
+      oldest_first = k.oldest_first;
       placed = k.placed;
-      cells = k.cells;
+      formed = k.formed;
+      promise = k.promise;
+      memory = k.memory;
       commands = k.commands;
       answers = ap (λ (xs : List Completion). map Some xs) all ∙ k.answers;
       ended = subst (AreDue 0) (sym ended) (ended_more now (h.popped ++ h.state.done) h.state.flight k.ended k.finished k.due);
@@ -160,115 +243,245 @@ keeps_completed h k =
       due = due_after now h.state.flight k.due;
     }
 
--- a cycle: the command
+-- a cycle: a command that moves no data, or none
 
-keeps_recorded : (next : ℕ) (h : History) (c : Command) → is_column c ≡ false → Keeps next h → Keeps next (record h { state = ticked (recorded c h.state) })
-keeps_recorded next h c row k = record {
-  served = k.served;
-  split = k.split;
-  count = k.count;
-  places = k.places;
-  waiting = k.waiting;
-  placed = k.placed;
-  cells = k.cells;
-  commands = ap (λ (xs : List Entry). map Some xs) (filter-append (λ e. is_column e.command) h.state.trace (entry h.state.now c ∷ [])
-      ∙ ap (λ b. filter (λ e. is_column e.command) h.state.trace ++ cond b (entry h.state.now c ∷ []) []) row ∙ append-nil _) ∙ k.commands;
-  answers = k.answers;
-  ended = k.ended;
-  finished = k.finished;
-  due = k.due;
-}
+abbrev moves_data : Option Command → Bool
+moves_data None = false
+moves_data (Some c) = is_column c
 
-keeps_ticked : (next : ℕ) (h : History) → Keeps next h → Keeps next (record h { state = ticked h.state })
-keeps_ticked next h k = record {
-  served = k.served;
-  split = k.split;
-  count = k.count;
-  places = k.places;
-  waiting = k.waiting;
+no_data : (command : Waiting → Command) (o : Option Waiting) → ((w : Waiting) → is_column (command w) ≡ false) → moves_data (option_map command o) ≡ false
+no_data command None row = refl
+no_data command (Some w) row = row w
+
+columns_kept : (trace : List Entry) (now : ℕ) (c : Command) → is_column c ≡ false → filter (λ e. is_column e.command) (trace ++ entry now c ∷ []) ≡ filter (λ e. is_column e.command) trace
+columns_kept trace now c row =
+    filter-append (λ e. is_column e.command) trace (entry now c ∷ [])
+    ∙ ap (λ b. filter (λ e. is_column e.command) trace ++ cond b (entry now c ∷ []) []) row ∙ append-nil _
+
+keeps_recorded : (next : ℕ) (h : History) (o : Option Command) → moves_data o ≡ false → Keeps next h → Keeps next (record h { state = ticked (recorded o h.state) })
+keeps_recorded next h None row k = record {
+  each_once = k.each_once;
+  pending = k.pending;
+  below = k.below;
+  oldest_first = k.oldest_first;
   placed = k.placed;
-  cells = k.cells;
+  formed = k.formed;
+  promise = k.promise;
+  memory = k.memory;
   commands = k.commands;
   answers = k.answers;
   ended = k.ended;
   finished = k.finished;
   due = k.due;
 }
+keeps_recorded next h (Some c) row k = record {
+  each_once = k.each_once;
+  pending = k.pending;
+  below = k.below;
+  oldest_first = k.oldest_first;
+  placed = k.placed;
+  formed = k.formed;
+  promise = k.promise;
+  memory = k.memory;
+  commands = ap (λ (xs : List Entry). map Some xs) (columns_kept h.state.trace h.state.now c row) ∙ k.commands;
+  answers = k.answers;
+  ended = k.ended;
+  finished = k.finished;
+  due = k.due;
+}
+
+-- a cycle: a column command
 
 column_is : (kind : Kind) (p : Place) → is_column (column_at kind p) ≡ true
 column_is Read p = refl
 column_is Write p = refl
 
+-- the bank of a place in the geometry is below 4
+bank_below : (config : Config) (p : Place) → IsServed config p → p.bank < 4
+bank_below config p is = (IsInRange-test config.geometry p is).digits Bank
+
+-- requests to one line are requests to one group, bank, row and line of the row
+same_place : (config : Config) (address : LineAddress) (p q : Place) → IsServed config p → IsServed config q →
+    is_same_line address (line_of p) ≡ true → is_same_line address (line_of q) ≡ true → hazards.is_same_line p q ≡ true
+same_place config address p q here there to_p to_q =
+    let a = and_parts (eqb address.bank (bank_number p)) (eqb address.row p.row && eqb address.line p.line) to_p in
+    let b = and_parts (eqb address.bank (bank_number q)) (eqb address.row q.row && eqb address.line q.line) to_q in
+    let c = and_parts (eqb address.row p.row) (eqb address.line p.line) a.1 in
+    let d = and_parts (eqb address.row q.row) (eqb address.line q.line) b.1 in
+    let bank : bank_number p ≡ bank_number q = sym (eqb-true address.bank (bank_number p) a.0) ∙ eqb-true address.bank (bank_number q) b.0 in
+    let low = bank_below config p here in
+    let low' = bank_below config q there in
+    let row : p.row ≡ q.row = sym (eqb-true address.row p.row c.0) ∙ eqb-true address.row q.row d.0 in
+    let line : p.line ≡ q.line = sym (eqb-true address.line p.line c.1) ∙ eqb-true address.line q.line d.1 in
+    let group_is : p.group ≡ q.group = omega arith in
+    let bank_is : p.bank ≡ q.bank = omega arith in
+    rw (eq-eqb p.group q.group group_is, eq-eqb p.bank q.bank bank_is, eq-eqb p.row q.row row, eq-eqb p.line q.line line) refl
+
+-- where no older pending request is to the line of a request, none is to that line
+none_older : (config : Config) (older : List Waiting) (w : Waiting) → All (λ v. IsServed config v.request.place) older → IsServed config w.request.place →
+    list_any (λ v. hazards.is_same_line v.request.place w.request.place) older ≡ false →
+    (address : LineAddress) → is_same_line address (line_of w.request.place) ≡ true → NoneTo address (requests_of older)
+none_older config [] w all here none address same = refl
+none_older config (v ∷ vs) w all here none address same =
+    let parts = neither (hazards.is_same_line v.request.place w.request.place) (list_any (λ u. hazards.is_same_line u.request.place w.request.place) vs) none in
+    let elsewhere : is_same_line address (line_of v.request.place) ≡ false = elim (cases_Bool (is_same_line address (line_of v.request.place))) [
+      | inl to_v ↦ absurd (true≢false (sym (same_place config address v.request.place w.request.place (all 0 v (omega arith)) here to_v same) ∙ parts.0))
+      | inr not_to_v ↦ not_to_v
+    ] in
+    rw elsewhere (none_older config vs w (All-tail (λ (u : Waiting). IsServed config u.request.place) v vs all) here parts.1 address same)
+
+-- the line of a place is one line
+itself : (a : LineAddress) → is_same_line a a ≡ true
+itself a = rw (eq-eqb a.bank a.bank refl, eq-eqb a.row a.row refl, eq-eqb a.line a.line refl) refl
+
+-- what serves a request: it is pending, and no older one is to its line
+pub record Serves (h : History) (place : ℕ) (w : Waiting) : Type 0 where
+  pub here : slice_get h.state.pending place ≡ Some w
+  pub first : (address : LineAddress) → is_same_line address (line_of w.request.place) ≡ true → NoneTo address (take place (requests_of h.state.pending))
+
+request_here : (h : History) (place : ℕ) (w : Waiting) → Serves h place w → slice_get (requests_of h.state.pending) place ≡ Some w.request
+request_here h place w s = mapped_at (λ v. v.request) h.state.pending place w s.here
+
+-- another pending request goes on being promised what it was
+promise_served : (next : ℕ) (h : History) (place : ℕ) (w : Waiting) → Keeps next h → Serves h place w → (k : ℕ) (q : Request) → slice_get (remove (requests_of h.state.pending) place) k ≡ Some q →
+    line_over (cells_after w.request h.state.cells (line_of q.place)) (take k (remove (requests_of h.state.pending) place)) (line_of q.place)
+    ≡ line_after (take (get_or (remove h.waiting place) k 0) h.accepted) (line_of q.place)
+promise_served next h place w kept s k q there = elim (order k place) [
+  | inl before ↦
+      let reqs = requests_of h.state.pending in
+      let old : slice_get reqs k ≡ Some q = sym (slice_get-remove_before reqs place k before) ∙ there in
+      let elsewhere : is_same_line (line_of q.place) (line_of w.request.place) ≡ false = elim (cases_Bool (is_same_line (line_of q.place) (line_of w.request.place))) [
+        | inl same ↦ absurd (true≢false (sym (itself (line_of q.place)) ∙ list_any-none_at (λ r. is_same_line (line_of q.place) (line_of r.place)) (take place reqs) k q (s.first (line_of q.place) same) (taken_at reqs place k q before old)))
+        | inr other ↦ other
+      ] in
+      let bytes : cells_after w.request h.state.cells (line_of q.place) ≡ h.state.cells (line_of q.place) = rw elsewhere refl in
+      ap₂ (λ (c : List ℕ) (xs : List Request). line_over c xs (line_of q.place)) bytes (take-remove_before reqs place k (omega arith))
+      ∙ kept.promise k q old
+      ∙ ap (λ n. line_after (take n h.accepted) (line_of q.place)) (sym (get_or-remove_before h.waiting place k before))
+  | inr behind ↦
+      let reqs = requests_of h.state.pending in
+      let old : slice_get reqs (suc k) ≡ Some q = sym (slice_get-remove_behind reqs place k behind) ∙ there in
+      let both = takes_both reqs place w.request k (request_here h place w s) behind in
+      ap (λ (xs : List Request). line_over (cells_after w.request h.state.cells (line_of q.place)) xs (line_of q.place)) both.without
+      ∙ serve_line w.request h.state.cells (take place reqs) both.behind (line_of q.place) (s.first (line_of q.place))
+      ∙ ap (λ (xs : List Request). line_over (h.state.cells (line_of q.place)) xs (line_of q.place)) (sym both.with_it)
+      ∙ kept.promise (suc k) q old
+      ∙ ap (λ n. line_after (take n h.accepted) (line_of q.place)) (sym (get_or-remove_behind h.waiting place k behind))
+]
+  where
+    order : (m n : ℕ) → (m < n) ⊎ (n ≤ m)
+    order m n = elim (cases_order m n) [
+      | inl same ↦ inr (omega arith)
+      | inr (inl less) ↦ inl less
+      | inr (inr more) ↦ inr (omega arith)
+    ]
+
+    taken_at : (xs : List Request) (n j : ℕ) (x : Request) → j < n → slice_get xs j ≡ Some x → slice_get (take n xs) j ≡ Some x
+    taken_at xs zero j x below is = absurd (omega arith)
+    taken_at [] (suc n) j x below is = is
+    taken_at (y ∷ ys) (suc n) zero x below is = is
+    taken_at (y ∷ ys) (suc n) (suc j) x below is = taken_at ys n j x (omega arith) is
+
+-- the memory stays what was admitted
+memory_served : (next : ℕ) (h : History) (place : ℕ) (w : Waiting) → Keeps next h → Serves h place w → (address : LineAddress) →
+    line_over (cells_after w.request h.state.cells address) (remove (requests_of h.state.pending) place) address ≡ line_after h.accepted address
+memory_served next h place w kept s address =
+    let reqs = requests_of h.state.pending in
+    serve_line w.request h.state.cells (take place reqs) (drop (suc place) reqs) address (s.first address)
+    ∙ ap (λ (xs : List Request). line_over (h.state.cells address) xs address) (sym (split_at reqs place w.request (request_here h place w s)))
+    ∙ kept.memory address
+
+-- the line that the request finds is what the requests before it leave
+line_found : (next : ℕ) (h : History) (place : ℕ) (w : Waiting) → Keeps next h → Serves h place w →
+    h.state.cells (line_of w.request.place) ≡ line_after (take (get_or h.waiting place 0) h.accepted) (line_of w.request.place)
+line_found next h place w kept s =
+    let address = line_of w.request.place in
+    sym (kept.formed address)
+    ∙ sym (line_kept (h.state.cells address) (take place (requests_of h.state.pending)) address (s.first address (itself address)))
+    ∙ kept.promise place w.request (request_here h place w s)
+
 -- what the column command makes of its request is the right answer to its owner
-answer_is : (s : State) (accepted : List Request) (o : Owner) (r : Request) (before : List Request) → slice_get accepted o.place ≡ Some r → o.cycle ≡ s.now → take o.place accepted ≡ before →
-    s.cells (line_of r.place) ≡ line_after before (line_of r.place) → right_answer s.config accepted o ≡ Some (completion_of s r)
-answer_is s accepted o r before here now first cells =
+answer_is : (s : State) (accepted : List Request) (o : Owner) (r : Request) → slice_get accepted o.place ≡ Some r → o.cycle ≡ s.now →
+    s.cells (line_of r.place) ≡ line_after (take o.place accepted) (line_of r.place) → right_answer s.config accepted o ≡ Some (completion_of s r)
+answer_is s accepted o r here now cells =
     ap (option_map (answer_to s.config accepted o)) here
-    ∙ ap (λ (q : List Request). Some (completion_at s.config o.cycle (line_after q (line_of r.place)) r)) first
     ∙ ap₂ (λ (t : ℕ) (line : List ℕ). Some (completion_at s.config t line r)) now (sym cells)
 
-keeps_served : (next : ℕ) (h : History) (w : Waiting) (ws : List Waiting) → h.state.pending ≡ w ∷ ws → AreDue next (h.state.flight ++ completion_of h.state w.request ∷ []) → Keeps next h →
-    Keeps next (record (with_owner (choice.Column 0) h) { state = ticked (served 0 w.request h.state) })
-keeps_served next h w ws pending due k =
+keeps_served : (next : ℕ) (h : History) (place : ℕ) (w : Waiting) → Serves h place w → AreDue next (h.state.flight ++ completion_of h.state w.request ∷ []) → Keeps next h →
+    Keeps next (record (with_owner (choice.Column place) h) { state = ticked (served place w.request (recorded (Some (column_of w.request)) h.state)) })
+keeps_served next h place w serves due k =
     let r = w.request in
     let s = h.state in
-    let n = length k.served in
-    let o : Owner = record { place = get_or h.waiting 0 0; cycle = s.now } in
+    let at = accepted_at next h place r k (request_here h place w serves) in
+    let o : Owner = record { place = get_or h.waiting place 0; cycle = s.now } in
     let e = entry s.now (column_of r) in
-    let left : remove s.pending 0 ≡ ws = ap (λ (p : List Waiting). remove p 0) pending in
-    let waiting : h.waiting ≡ n ∷ range_with_len (n + 1) (length ws) = k.waiting ∙ ap (λ (p : List Waiting). range_with_len n (length p)) pending in
-    let first : o.place ≡ n = ap (λ (xs : List ℕ). get_or xs 0 0) waiting in
-    let place : o.place ≡ 0 + n = omega arith in
-    let split : h.accepted ≡ k.served ++ r ∷ requests_of ws = k.split ∙ ap (λ (p : List Waiting). k.served ++ requests_of p) pending in
-    let whole : k.served ++ r ∷ requests_of ws ≡ (k.served ++ r ∷ []) ++ requests_of ws = sym (append_assoc k.served (r ∷ []) (requests_of ws)) in
-    let here : slice_get h.accepted o.place ≡ Some r =
-    ap₂ slice_get split first ∙ slice_get-append_right k.served (r ∷ requests_of ws) n 0 (omega arith) in
-    let before : take o.place h.accepted ≡ k.served = ap₂ take first split ∙ take_at k.served (r ∷ requests_of ws) n refl in
-    let length_served = length_push k.served r in
-    let below : o.place < length h.accepted = slice_get_within h.accepted o.place r here in
+    let number : o.place ≡ at.0 = get_or_from_slice_get h.waiting place at.0 0 at.1 in
+    let here : slice_get h.accepted o.place ≡ Some r = ap (slice_get h.accepted) number ∙ at.2 in
+    let within = slice_get_within h.waiting place at.0 at.1 in
+    let is_it : o.place ≡ get_or h.waiting place o.place = number ∙ sym (get_or_from_slice_get h.waiting place at.0 o.place at.1) in
+    let left : requests_of (remove s.pending place) ≡ remove (requests_of s.pending) place = map-remove (λ v. v.request) s.pending place in
     record {
-      served = k.served ++ r ∷ [];
-      split = split ∙ whole ∙ ap (λ (p : List Waiting). (k.served ++ r ∷ []) ++ requests_of p) (sym left);
-      count = length_push h.owners o ∙ ap (λ m. m + 1) k.count ∙ sym length_served;
-      places = map-append (λ p. p.place) h.owners (o ∷ []) ∙ ap₂ (λ (xs : List ℕ) (m : ℕ). xs ++ m ∷ []) k.places place ∙ range_more 0 n ∙ ap (range_with_len 0) (sym length_served);
-      waiting = ap (λ (xs : List ℕ). remove xs 0) waiting ∙ ap₂ range_with_len (sym length_served) (ap length (sym left));
-      placed = All-append _ h.owners o k.placed below;
-      cells = λ address. ap (λ (c : List ℕ). cells_after r (λ _. c) address) (k.cells address) ∙ cells_after-line_after r k.served address;
+      each_once =
+          subst (λ (xs : List ℕ). IsPermutation (range_with_len 0 (length h.accepted)) (xs ++ remove h.waiting place)) (sym (map-append (λ p. p.place) h.owners (o ∷ [])))
+          (IsPermutation-more (range_with_len 0 (length h.accepted)) (map (λ p. p.place) h.owners) h.waiting place o.place within is_it k.each_once);
+      pending =
+          ap (map Some) left ∙ map-remove Some (requests_of s.pending) place ∙ ap (λ (xs : List (Option Request)). remove xs place) k.pending ∙ sym (map-remove (slice_get h.accepted) h.waiting place);
+      below = All-taken _ h.waiting place k.below;
+      oldest_first = all_pairs_remove ◌<◌ h.waiting place within k.oldest_first;
+      placed = All-last _ h.owners o k.placed (slice_get_within h.accepted o.place r here);
+      formed = λ address. formed_after r s.cells address (k.formed address);
+      promise = λ m q there.
+          ap (λ (xs : List Request). line_over (cells_after r s.cells (line_of q.place)) (take m xs) (line_of q.place)) left
+          ∙ promise_served next h place w k serves m q (ap (λ (xs : List Request). slice_get xs m) (sym left) ∙ there);
+      memory = λ address. ap (λ (xs : List Request). line_over (cells_after r s.cells address) xs address) left ∙ memory_served next h place w k serves address;
       commands =
           ap (λ (xs : List Entry). map Some xs) (filter-append (λ m. is_column m.command) s.trace (e ∷ []) ∙ ap (λ b. filter (λ m. is_column m.command) s.trace ++ cond b (e ∷ []) []) (column_is r.echo.kind r.place))
           ∙ map-append Some (filter (λ m. is_column m.command) s.trace) (e ∷ [])
           ∙ ap₂ (λ (xs : List (Option Entry)) (x : Option Entry). xs ++ x ∷ []) k.commands (sym (ap (option_map (λ q. entry o.cycle (column_of q))) here))
-          ∙ sym (map-append (command_of h.accepted) h.owners (o ∷ []));
+          ∙ sym (map-append (owned_entry h.accepted) h.owners (o ∷ []));
       answers =
           ap (λ (xs : List Completion). map Some xs) (sym (append_assoc (h.popped ++ s.done) s.flight (completion_of s r ∷ [])))
           ∙ map-append Some (completions_of h) (completion_of s r ∷ [])
-          ∙ ap₂ (λ (xs : List (Option Completion)) (x : Option Completion). xs ++ x ∷ []) k.answers (sym (answer_is s h.accepted o r k.served here refl before (k.cells (line_of r.place))))
+          ∙ ap₂ (λ (xs : List (Option Completion)) (x : Option Completion). xs ++ x ∷ []) k.answers (sym (answer_is s h.accepted o r here refl (line_found next h place w k serves)))
           ∙ sym (map-append (right_answer s.config h.accepted) h.owners (o ∷ []));
       ended = k.ended;
       finished = k.finished;
       due = due;
     }
 
-keeps_issued : (g : History) (w : Waiting) (ws : List Waiting) → g.state.pending ≡ w ∷ ws → Keeps (g.state.now + 1) g → (c : Choice) → Allows (bus_of g.state) (has_room g.state) w.request c →
-    IsSound (ticked (issued c g.state)) → Keeps (g.state.now + 1) (record (with_owner c g) { state = ticked (issued c g.state) })
-keeps_issued g w ws pending k choice.Nothing allowed sound = keeps_ticked (g.state.now + 1) g k
-keeps_issued g w ws pending k (choice.Act place) allowed sound =
-    subst (λ (s : State). Keeps (g.state.now + 1) (record g { state = ticked s })) (sym (act_on g.state w ws pending place allowed.0))
-    (keeps_recorded (g.state.now + 1) g (activate_at w.request.place) refl k)
-keeps_issued g w ws pending k (choice.Pre place) allowed sound =
-    subst (λ (s : State). Keeps (g.state.now + 1) (record g { state = ticked s })) (sym (precharge_on g.state w ws pending place allowed.0))
-    (keeps_recorded (g.state.now + 1) g (precharge_at w.request.place) refl k)
-keeps_issued g w ws pending k (choice.Column place) allowed sound =
-    let done = serve_on g.state w ws pending place allowed.0 in
-    let sound' = subst (λ (s : State). IsSound (ticked s)) done sound in
-    subst (λ (s : State). Keeps (g.state.now + 1) (record (with_owner (choice.Column place) g) { state = ticked s })) (sym done)
-    (subst (λ n. Keeps (g.state.now + 1) (record (with_owner (choice.Column n) g) { state = ticked (served 0 w.request g.state) })) (sym allowed.0)
-    (keeps_served (g.state.now + 1) g w ws pending sound'.due k))
+-- a cycle: the choice
 
-keeps_chosen : (g : History) (pending : List Waiting) → g.state.pending ≡ pending → Keeps (g.state.now + 1) g → IsSound (ticked (issued (choice_among (bus_of g.state) (has_room g.state) pending) g.state)) →
-    Keeps (g.state.now + 1) (record (with_owner (choice_among (bus_of g.state) (has_room g.state) pending) g) { state = ticked (issued (choice_among (bus_of g.state) (has_room g.state) pending) g.state) })
-keeps_chosen g [] is k sound = keeps_ticked (g.state.now + 1) g k
-keeps_chosen g (w ∷ ws) is k sound = keeps_issued g w ws is k _ (choice_allowed (bus_of g.state) (has_room g.state) w.request) sound
+-- what a lawful column command serves: it is pending, and no older request is to its line
+serves_of : (g : History) (place : ℕ) (w : Waiting) → IsSound g.state → slice_get g.state.pending place ≡ Some w → hazards.is_blocked g.state.pending place ≡ false → Serves g place w
+serves_of g place w sound here free = record {
+  here = here;
+  first = λ address same.
+      subst (λ (rs : List Request). NoneTo address rs) (sym (take-map (λ v. v.request) place g.state.pending))
+      (none_older g.state.config (take place g.state.pending) w (All-take (λ (v : Waiting). IsServed g.state.config v.request.place) place g.state.pending sound.served)
+      (All-at (λ (v : Waiting). IsServed g.state.config v.request.place) g.state.pending place w sound.served here)
+      (sym (ap (λ (o : Option Waiting). option_map_or (λ v. list_any (λ older. hazards.is_same_line older.request.place v.request.place) (take place g.state.pending)) o false) here) ∙ free) address same);
+}
+
+-- the number of a place that isn't there is no owner's: a lawful choice has none such
+keeps_column : (g : History) (place : ℕ) (o : Option Waiting) → slice_get g.state.pending place ≡ o → place < length g.state.pending → hazards.is_blocked g.state.pending place ≡ false → IsSound g.state → Keeps (g.state.now + 1) g →
+    IsSound (ticked (served_at place o (recorded (option_map (λ w. column_of w.request) o) g.state))) →
+    Keeps (g.state.now + 1) (record (with_owner (choice.Column place) g) { state = ticked (served_at place o (recorded (option_map (λ w. column_of w.request) o) g.state)) })
+keeps_column g place None here within free sound k after = absurd (not_past g.state.pending place within here)
+  where
+    not_past : {X : Type 0} (xs : List X) (n : ℕ) → n < length xs → slice_get xs n ≡ None → ⊥
+    not_past [] n before is = omega arith
+    not_past (x ∷ xs) zero before is = cc
+    not_past (x ∷ xs) (suc n) before is = not_past xs n (omega arith) is
+keeps_column g place (Some w) here within free sound k after = keeps_served (g.state.now + 1) g place w (serves_of g place w sound here free) after.due k
+
+keeps_issued : (g : History) (c : Choice) → IsLawful (situation_of g.state) c → IsSound g.state → Keeps (g.state.now + 1) g → IsSound (ticked (issued c g.state)) →
+    Keeps (g.state.now + 1) (record (with_owner c g) { state = ticked (issued c g.state) })
+keeps_issued g choice.Nothing law sound k after = keeps_recorded (g.state.now + 1) g None refl k
+keeps_issued g choice.Refresh law sound k after = keeps_recorded (g.state.now + 1) g (command_of g.state.pending choice.Refresh) refl k
+keeps_issued g choice.PreAll law sound k after = keeps_recorded (g.state.now + 1) g (command_of g.state.pending choice.PreAll) refl k
+keeps_issued g (choice.Act place) law sound k after = keeps_recorded (g.state.now + 1) g _ (no_data (λ w. activate_at w.request.place) (slice_get g.state.pending place) (λ w. refl)) k
+keeps_issued g (choice.Pre place) law sound k after = keeps_recorded (g.state.now + 1) g _ (no_data (λ w. precharge_at w.request.place) (slice_get g.state.pending place) (λ w. refl)) k
+keeps_issued g (choice.Column place) law sound k after = keeps_column g place (slice_get g.state.pending place) refl law.in_list law.no_older sound k after
 
 -- the whole invariant: of the configuration and the start as at open, and of the state and its history
 pub record IsKept (config : Config) (start : ℕ) (h : History) : Type 0 where
@@ -276,44 +489,40 @@ pub record IsKept (config : Config) (start : ℕ) (h : History) : Type 0 where
   pub sound : IsSound h.state
   pub keeps : Keeps h.state.now h
 
-for_config : (o : Option Waiting) (act : Request → State → State) (s : State) → ((r : Request) → (act r s).config ≡ s.config) → (for_request act o s).config ≡ s.config
-for_config None act s same = refl
-for_config (Some w) act s same = same w.request
+-- what the data of a column command leave alone
+pub served_alike : {X : Type 0} (f : State → X) → ((s : State) (place : ℕ) (r : Request) → f (served place r s) ≡ f s) → (c : Choice) (s : State) → f (served_by c s) ≡ f s
+served_alike f same choice.Nothing s = refl
+served_alike f same choice.Refresh s = refl
+served_alike f same choice.PreAll s = refl
+served_alike f same (choice.Act place) s = refl
+served_alike f same (choice.Pre place) s = refl
+served_alike f same (choice.Column place) s = by_request (slice_get s.pending place)
+  where
+    by_request : (o : Option Waiting) → f (served_at place o s) ≡ f s
+    by_request None = refl
+    by_request (Some w) = same s place w.request
 
-for_now : (o : Option Waiting) (act : Request → State → State) (s : State) → ((r : Request) → (act r s).now ≡ s.now) → (for_request act o s).now + 1 ≡ s.now + 1
-for_now None act s same = refl
-for_now (Some w) act s same = ap (λ n. n + 1) (same w.request)
-
-issued_config : (c : Choice) (s : State) → (ticked (issued c s)).config ≡ s.config
-issued_config choice.Nothing s = refl
-issued_config (choice.Act place) s = for_config (slice_get s.pending place) (λ r. recorded (activate_at r.place)) s (λ r. refl)
-issued_config (choice.Pre place) s = for_config (slice_get s.pending place) (λ r. recorded (precharge_at r.place)) s (λ r. refl)
-issued_config (choice.Column place) s = for_config (slice_get s.pending place) (served place) s (λ r. refl)
-
-issued_now : (c : Choice) (s : State) → (ticked (issued c s)).now ≡ s.now + 1
-issued_now choice.Nothing s = refl
-issued_now (choice.Act place) s = for_now (slice_get s.pending place) (λ r. recorded (activate_at r.place)) s (λ r. refl)
-issued_now (choice.Pre place) s = for_now (slice_get s.pending place) (λ r. recorded (precharge_at r.place)) s (λ r. refl)
-issued_now (choice.Column place) s = for_now (slice_get s.pending place) (served place) s (λ r. refl)
-
--- the owner of a command doesn't depend on the completion before it
-owner_alike : (c : Choice) (h : History) (after : State) → record (with_owner c (record h { state = completed h.state })) { state = after } ≡ record (with_owner c h) { state = after }
+-- the owner of a command doesn't depend on what comes before the choice
+owner_alike : (c : Choice) (h : History) (after : State) → record (with_owner c (record h { state = at_choice h.state })) { state = after } ≡ record (with_owner c h) { state = after }
 owner_alike choice.Nothing h after = refl
+owner_alike choice.Refresh h after = refl
+owner_alike choice.PreAll h after = refl
 owner_alike (choice.Act place) h after = refl
 owner_alike (choice.Pre place) h after = refl
 owner_alike (choice.Column place) h after = refl
 
 -- a cycle keeps it
-pub kept_cycle : (config : Config) (start : ℕ) (h : History) → IsKept config start h → IsKept config start (record (with_owner (choice_of (completed h.state)) h) { state = after_cycle h.state })
+pub kept_cycle : (config : Config) (start : ℕ) (h : History) → IsKept config start h → IsKept config start (record (with_owner (choice_of (at_choice h.state)) h) { state = after_cycle h.state })
 kept_cycle config start h k =
-    let c = choice_of (completed h.state) in
+    let c = choice_of (at_choice h.state) in
+    let s = recorded (command_of h.state.pending c) (at_choice h.state) in
     let sound = IsSound-after_cycle h.state k.sound in
-    let keeps = keeps_chosen (record h { state = completed h.state }) h.state.pending refl (keeps_completed h k.keeps) sound in
+    let keeps = keeps_issued (record h { state = at_choice h.state }) c (choice_lawful (situation_of (at_choice h.state))) (IsSound-at_choice h.state k.sound) (keeps_at_choice h k.keeps) sound in
     record {
-      config_is = issued_config c (completed h.state) ∙ k.config_is;
+      config_is = served_alike (λ t. t.config) (λ t place r. refl) c s ∙ k.config_is;
       sound = sound;
       keeps = subst (λ (g : History). Keeps (after_cycle h.state).now g) (owner_alike c h (after_cycle h.state))
-          (subst (λ n. Keeps n (record (with_owner c (record h { state = completed h.state })) { state = after_cycle h.state })) (sym (issued_now c (completed h.state))) keeps);
+          (subst (λ n. Keeps n (record (with_owner c (record h { state = at_choice h.state })) { state = after_cycle h.state })) (sym (ap (λ n. n + 1) (served_alike (λ t. t.now) (λ t place r. refl) c s))) keeps);
     }
 
 kept_if : (config : Config) (start : ℕ) (b : Bool) (old new : History) → IsKept config start old → IsKept config start new → IsKept config start (cond b old new)
@@ -343,13 +552,14 @@ kept_begun config start = record {
   config_is = refl;
   sound = IsSound-opened config start;
   keeps = record {
-    served = [];
-    split = refl;
-    count = refl;
-    places = refl;
-    waiting = refl;
+    each_once = IsPermutation-refl [];
+    pending = refl;
+    below = tt;
+    oldest_first = λ i j d before within. absurd (omega arith);
     placed = tt;
-    cells = λ address. refl;
+    formed = λ address. refl;
+    promise = λ place r here. cc;
+    memory = λ address. refl;
     commands = refl;
     answers = refl;
     ended = tt;

@@ -1,4 +1,4 @@
--- Lemmas on legal commands, and how far apart column commands are.
+-- How far apart legal column commands are.
 use Rattle.std.proofs.Common.{◌≡◌, ℕ, zero, suc, ◌+◌, ◌-◌, ◌<◌, ◌≤◌, Bool, true, false, ◌&&◌, ◌||◌, not, eqb, ltb, leb, List, [], ◌∷◌, Option, Some, None, refl, sym, ap, ◌∙◌, inl, inr, arith}
 use Rattle.std.specs.List.{list_any, slice_get}
 use Rattle.std.specs.Option.{is_none}
@@ -14,31 +14,10 @@ use Rattle.ddr_address_map.specs.declared.request.Kind.TheVariants.{Read, Write}
 use Rattle.ddr_trace.specs.Commands.{entry}
 use Rattle.ddr_legality.specs.Bus.{Bus, broken_now, is_legal_now}
 use Rattle.ddr_legality.proofs.LegalLemmas.{keeps_from_none}
-use Rattle.ddr_channel.specs.Commands.{column_at}
+use Rattle.ddr_arbiter.specs.Commands.{column_at}
+use Rattle.ddr_arbiter.proofs.CommandLemmas.{legal_keeps}
 use Rattle.ddr_channel.specs.Cycle.{service_time}
-
-no_option : {X : Type 0} (o : Option X) → is_none o ≡ true → o ≡ None
-no_option None is = refl
-no_option (Some x) is = cc
-
--- a legal command keeps the rules
-pub legal_keeps : (b : Bus) (c : Command) → is_legal_now b c ≡ true → KeepsRules b.config b.start (b.now + 1) b.trace (entry b.now c)
-legal_keeps b c legal = keeps_from_none b.config b.start (b.now + 1) b.trace (entry b.now c) (no_option (broken_now b c) legal)
-
--- and breaks none
-pub legal_none : (b : Bus) (c : Command) → is_legal_now b c ≡ true → broken_now b c ≡ None
-legal_none b c legal = no_option (broken_now b c) legal
-
-neither : (x y : Bool) → (x || y) ≡ false → (x ≡ false) × (y ≡ false)
-neither true y e = cc
-neither false y e = (refl, e)
-
-list_any-false_at : {X : Type 0} (p : X → Bool) (xs : List X) (k : ℕ) (x : X) → list_any p xs ≡ false → slice_get xs k ≡ Some x → p x ≡ false
-list_any-false_at p [] k x none is = cc
-list_any-false_at p (y ∷ ys) zero x none is =
-    let same : y ≡ x = cc in
-    ap p (sym same) ∙ (neither (p y) (list_any p ys) none).0
-list_any-false_at p (y ∷ ys) (suc k) x none is = list_any-false_at p ys k x (neither (p y) (list_any p ys) none).1 is
+use Rattle.ddr_channel.proofs.ListLemmas.{list_any-none_at}
 
 -- a distance that one of two rules asks for, whichever group the two commands are of
 either_group : (same : Bool) (now cycle near far least : ℕ) → least ≤ near → least ≤ far → (same && ltb now (cycle + near)) ≡ false → (not same && ltb now (cycle + far)) ≡ false → cycle + least ≤ now
@@ -50,24 +29,24 @@ pub later_due : (b : Bus) (kind earlier : Kind) (p q : Place) (k cycle : ℕ) �
     cycle + service_time b.config earlier < b.now + service_time b.config kind
 later_due b Read Read p q k cycle legal is =
     let at = legal_keeps b (column_at Read p) legal in
-    let near = list_any-false_at (λ a. is_too_close (spacing_of b.config.timing rule.CcdL) a (entry b.now (column_at Read p))) b.trace k _ (at rule.CcdL refl) is in
-    let far = list_any-false_at (λ a. is_too_close (spacing_of b.config.timing rule.CcdS) a (entry b.now (column_at Read p))) b.trace k _ (at rule.CcdS refl) is in
+    let near = list_any-none_at (λ a. is_too_close (spacing_of b.config.timing rule.CcdL) a (entry b.now (column_at Read p))) b.trace k _ (at rule.CcdL refl) is in
+    let far = list_any-none_at (λ a. is_too_close (spacing_of b.config.timing rule.CcdS) a (entry b.now (column_at Read p))) b.trace k _ (at rule.CcdS refl) is in
     let apart = either_group (eqb q.group p.group) b.now cycle b.config.timing.ccd_l b.config.timing.ccd_s 4 (omega arith) (omega arith) near far in
     omega arith
 later_due b Write Write p q k cycle legal is =
     let at = legal_keeps b (column_at Write p) legal in
-    let near = list_any-false_at (λ a. is_too_close (spacing_of b.config.timing rule.CcdL) a (entry b.now (column_at Write p))) b.trace k _ (at rule.CcdL refl) is in
-    let far = list_any-false_at (λ a. is_too_close (spacing_of b.config.timing rule.CcdS) a (entry b.now (column_at Write p))) b.trace k _ (at rule.CcdS refl) is in
+    let near = list_any-none_at (λ a. is_too_close (spacing_of b.config.timing rule.CcdL) a (entry b.now (column_at Write p))) b.trace k _ (at rule.CcdL refl) is in
+    let far = list_any-none_at (λ a. is_too_close (spacing_of b.config.timing rule.CcdS) a (entry b.now (column_at Write p))) b.trace k _ (at rule.CcdS refl) is in
     let apart = either_group (eqb q.group p.group) b.now cycle b.config.timing.ccd_l b.config.timing.ccd_s 4 (omega arith) (omega arith) near far in
     omega arith
 later_due b Read Write p q k cycle legal is =
     let at = legal_keeps b (column_at Read p) legal in
-    let near = list_any-false_at (λ a. is_too_close (spacing_of b.config.timing rule.WtrL) a (entry b.now (column_at Read p))) b.trace k _ (at rule.WtrL refl) is in
-    let far = list_any-false_at (λ a. is_too_close (spacing_of b.config.timing rule.WtrS) a (entry b.now (column_at Read p))) b.trace k _ (at rule.WtrS refl) is in
+    let near = list_any-none_at (λ a. is_too_close (spacing_of b.config.timing rule.WtrL) a (entry b.now (column_at Read p))) b.trace k _ (at rule.WtrL refl) is in
+    let far = list_any-none_at (λ a. is_too_close (spacing_of b.config.timing rule.WtrS) a (entry b.now (column_at Read p))) b.trace k _ (at rule.WtrS refl) is in
     let apart = either_group (eqb q.group p.group) b.now cycle (b.config.timing.cwl + 4 + b.config.timing.wtr_l) (b.config.timing.cwl + 4 + b.config.timing.wtr_s) (b.config.timing.cwl + 4) (omega arith) (omega arith) near far in
     omega arith
 later_due b Write Read p q k cycle legal is =
     let at = legal_keeps b (column_at Write p) legal in
-    let close = list_any-false_at (λ a. is_too_close (spacing_of b.config.timing rule.Rtw) a (entry b.now (column_at Write p))) b.trace k _ (at rule.Rtw refl) is in
+    let close = list_any-none_at (λ a. is_too_close (spacing_of b.config.timing rule.Rtw) a (entry b.now (column_at Write p))) b.trace k _ (at rule.Rtw refl) is in
     let apart = ltb-false b.now (cycle + b.config.timing.rtw) close in
     omega arith

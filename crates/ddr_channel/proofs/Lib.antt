@@ -1,11 +1,12 @@
+pub mod ListLemmas
 pub mod MemoryLemmas
 pub mod LegalNowLemmas
-pub mod OpenRowLemmas
 pub mod SoundLemmas
 pub mod HistoryLemmas
 pub mod PromiseLemmas
-pub mod ChoiceLemmas
 pub mod QueueLemmas
+pub mod IssueLemmas
+pub mod ServeLemmas
+pub mod CycleLemmas
 pub mod ChannelLemmas
-pub mod WholeLemmas
 pub mod StandsLemmas

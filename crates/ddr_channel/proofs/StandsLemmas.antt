@@ -8,18 +8,17 @@ use Rattle.ddr_timing.specs.declared.config.Config.{Config}
 use Rattle.ddr_address_map.specs.Requests.{Request, Completion}
 use Rattle.ddr_channel.specs.Choice.{choice_of}
 use Rattle.ddr_timing.specs.declared.units.TheConstants.{CLOCK_STOP}
-use Rattle.ddr_channel.specs.Cycle.{completed, recorded, served, for_request, issued, after_cycle}
-use Rattle.ddr_channel.specs.Commands.{activate_at, precharge_at}
-use Rattle.ddr_channel.specs.declared.choice.Choice.{Choice}
-use Rattle.ddr_channel.specs.declared.choice.Choice.TheVariants as choice
-use Rattle.ddr_channel.specs.declared.waiting.Waiting.{Waiting}
+use Rattle.ddr_channel.specs.Cycle.{at_choice, recorded, issued, after_cycle}
+use Rattle.ddr_arbiter.specs.declared.choice.Choice.{Choice}
+use Rattle.ddr_arbiter.specs.Laws.{command_of}
 use Rattle.ddr_channel.specs.History.{Call, Admit, Cycle, Pop, History, begun, with_owner, after_call, run}
 use Rattle.ddr_channel.specs.Kept.{Kept, state_of}
 use Rattle.ddr_channel.specs.Promise.{right_answer, MayCall, AreCalls, StandsFor, IsNextAnswer}
 use Rattle.ddr_channel.specs.Sound.{IsServed}
 use Rattle.ddr_channel.specs.State.{State, opened, after_admit, after_pop, is_queue_full}
 use Rattle.ddr_channel.proofs.PromiseLemmas.{promise_kept}
-use Rattle.ddr_channel.proofs.SoundLemmas.{All-append}
+use Rattle.ddr_channel.proofs.HistoryLemmas.{served_alike}
+use Rattle.ddr_channel.proofs.ListLemmas.{All-last, at_map, mapped_at}
 
 -- one more call
 run_more : (config : Config) (start : ℕ) (calls : List Call) (call : Call) → run config start (calls ++ call ∷ []) ≡ after_call (run config start calls) call
@@ -29,7 +28,7 @@ run_more config start calls call = fold-append after_call (begun config start) c
 pub stands_after : (old new : Kept) (calls : List Call) (call : Call) → StandsFor old calls → MayCall old.config call → new.config ≡ old.config → new.start ≡ old.start →
     state_of new ≡ (after_call (run old.config old.start calls) call).state → StandsFor new (calls ++ call ∷ [])
 stands_after old new calls call stands may config start state = record {
-  calls_are = subst (λ (c : Config). AreCalls c (calls ++ call ∷ [])) (sym config) (All-append (MayCall old.config) calls call stands.calls_are may);
+  calls_are = subst (λ (c : Config). AreCalls c (calls ++ call ∷ [])) (sym config) (All-last (MayCall old.config) calls call stands.calls_are may);
   state = state ∙ ap (λ (h : History). h.state) (sym (run_more old.config old.start calls call)) ∙ ap₂ (λ (c : Config) (s : ℕ). (run c s (calls ++ call ∷ [])).state) (sym config) (sym start);
 }
 
@@ -67,18 +66,13 @@ stands_cycled old new calls stands clock is config start =
     let h = run old.config old.start calls in
     let clock' : eqb h.state.now CLOCK_STOP ≡ false = ne_eqb h.state.now CLOCK_STOP (λ e. clock (ap (λ (s : State). s.now) stands.state ∙ e)) in
     stands_after old new calls Cycle stands tt (ap (λ (s : State). s.config) is ∙ config) (ap (λ (s : State). s.start) is ∙ start)
-    (is ∙ ap after_cycle stands.state ∙ sym (chosen_state (eqb h.state.now CLOCK_STOP) h (record (with_owner (choice_of (completed h.state)) h) { state = after_cycle h.state }) clock'))
+    (is ∙ ap after_cycle stands.state ∙ sym (chosen_state (eqb h.state.now CLOCK_STOP) h (record (with_owner (choice_of (at_choice h.state)) h) { state = after_cycle h.state }) clock'))
 
 pub stands_popped : (old new : Kept) (calls : List Call) → StandsFor old calls → state_of new ≡ after_pop (state_of old) → StandsFor new (calls ++ Pop ∷ [])
 stands_popped old new calls stands is =
     stands_after old new calls Pop stands tt (ap (λ (s : State). s.config) is) (ap (λ (s : State). s.start) is) (is ∙ ap after_pop stands.state)
 
 -- the completion that is handed out
-
-at_map : {X Y : Type 0} (f : X → Y) (xs : List X) (n : ℕ) (y : Y) → slice_get (map f xs) n ≡ Some y → (x : X) × (slice_get xs n ≡ Some x) × (f x ≡ y)
-at_map f [] n y is = cc
-at_map f (x ∷ xs) zero y is = let same : f x ≡ y = cc in (x, refl, same)
-at_map f (x ∷ xs) (suc n) y is = at_map f xs n y is
 
 behind : {X : Type 0} (before after : List X) (x : X) → slice_get after 0 ≡ Some x → slice_get (before ++ after) (length before) ≡ Some x
 behind [] after x is = is
@@ -87,11 +81,6 @@ behind (y ∷ ys) after x is = behind ys after x is
 first_of_both : {X : Type 0} (xs ys : List X) (x : X) → slice_get xs 0 ≡ Some x → slice_get (xs ++ ys) 0 ≡ Some x
 first_of_both [] ys x is = cc
 first_of_both (z ∷ zs) ys x is = is
-
-mapped_at : {X Y : Type 0} (f : X → Y) (xs : List X) (n : ℕ) (x : X) → slice_get xs n ≡ Some x → slice_get (map f xs) n ≡ Some (f x)
-mapped_at f [] n x is = cc
-mapped_at f (y ∷ ys) zero x is = let same : y ≡ x = cc in ap (λ z. Some (f z)) same
-mapped_at f (y ∷ ys) (suc n) x is = mapped_at f ys n x is
 
 pub next_answer : (k : Kept) (calls : List Call) (d : Completion) → StandsFor k calls → slice_get k.done 0 ≡ Some d → IsNextAnswer (run k.config k.start calls) d
 next_answer k calls d stands is =
@@ -106,22 +95,12 @@ next_answer k calls d stands is =
 
 -- a cycle leaves the configuration and the first cycle
 
-by_request : {X : Type 0} (f : State → X) (act : Request → State → State) (s : State) (o : Option Waiting) → ((r : Request) → f (act r s) ≡ f s) → f (for_request act o s) ≡ f s
-by_request f act s None same = refl
-by_request f act s (Some w) same = same w.request
-
 issued_config : (c : Choice) (s : State) → (issued c s).config ≡ s.config
-issued_config choice.Nothing s = refl
-issued_config (choice.Act place) s = by_request (λ t. t.config) (λ r. recorded (activate_at r.place)) s (slice_get s.pending place) (λ r. refl)
-issued_config (choice.Pre place) s = by_request (λ t. t.config) (λ r. recorded (precharge_at r.place)) s (slice_get s.pending place) (λ r. refl)
-issued_config (choice.Column place) s = by_request (λ t. t.config) (served place) s (slice_get s.pending place) (λ r. refl)
+issued_config c s = served_alike (λ t. t.config) (λ t place r. refl) c (recorded (command_of s.pending c) s)
 
 issued_start : (c : Choice) (s : State) → (issued c s).start ≡ s.start
-issued_start choice.Nothing s = refl
-issued_start (choice.Act place) s = by_request (λ t. t.start) (λ r. recorded (activate_at r.place)) s (slice_get s.pending place) (λ r. refl)
-issued_start (choice.Pre place) s = by_request (λ t. t.start) (λ r. recorded (precharge_at r.place)) s (slice_get s.pending place) (λ r. refl)
-issued_start (choice.Column place) s = by_request (λ t. t.start) (served place) s (slice_get s.pending place) (λ r. refl)
+issued_start c s = served_alike (λ t. t.start) (λ t place r. refl) c (recorded (command_of s.pending c) s)
 
 pub stands_after_cycle : (old new : Kept) (calls : List Call) → StandsFor old calls → (old.now ≡ CLOCK_STOP → ⊥) → state_of new ≡ after_cycle (state_of old) → StandsFor new (calls ++ Cycle ∷ [])
 stands_after_cycle old new calls stands clock is =
-    stands_cycled old new calls stands clock is (issued_config (choice_of (completed (state_of old))) (completed (state_of old))) (issued_start (choice_of (completed (state_of old))) (completed (state_of old)))
+    stands_cycled old new calls stands clock is (issued_config (choice_of (at_choice (state_of old))) (at_choice (state_of old))) (issued_start (choice_of (at_choice (state_of old))) (at_choice (state_of old)))

@@ -1,34 +1,45 @@
--- What the channel does in a cycle.
-use Rattle.std.specs.Prelude.{ℕ, ◌+◌, Bool, ◌&&◌, nat_lt, if◌then◌else◌, List, [], ◌∷◌, length}
-use Rattle.ddr_address_map.specs.Requests.{Request}
-use Rattle.ddr_channel.specs.declared.choice.Choice.{Choice}
-use Rattle.ddr_channel.specs.declared.choice.Choice.TheVariants as choice
-use Rattle.ddr_channel.specs.declared.waiting.Waiting.{Waiting}
-use Rattle.ddr_legality.specs.Bus.{Bus, is_legal_now}
-use Rattle.ddr_channel.specs.Commands.{activate_at, precharge_at, column_of, is_on_other_row}
+-- What the channel does in a cycle: the scheduler's choice, in the situation that the channel is in.
+use Rattle.std.specs.Prelude.{ℕ, ◌+◌, ◌-◌, Bool, nat_lt, length}
+use Rattle.ddr_timing.specs.declared.config.Config.{Config}
+use Rattle.ddr_trace.specs.Rules.{refresh_count}
+use Rattle.ddr_legality.specs.Bus.{Bus}
+use Rattle.ddr_refresh.specs.Refreshes.{Refreshes, after_tick}
+use Rattle.ddr_arbiter.specs.declared.choice.Choice.{Choice}
+use Rattle.ddr_arbiter.specs.declared.policy.Policy.{Policy}
+use Rattle.ddr_arbiter.specs.Choice as arbiter
+use Rattle.ddr_arbiter.specs.Commands.{refresh}
+use Rattle.ddr_arbiter.specs.Situation.{Situation}
 use Rattle.ddr_channel.specs.State.{State}
 
 abbrev pub bus_of : State → Bus
 bus_of s = record { config = s.config; start = s.start; now = s.now; trace = s.trace }
 
+abbrev pub policy_of : Config → Policy
+policy_of config = record { cap = config.limits.cap; low = config.limits.low; high = config.limits.high }
+
 -- in flight and done together there is room for one more
 abbrev pub has_room : State → Bool
 has_room s = nat_lt (length s.flight + length s.done) s.config.limits.done
 
--- For the one candidate, which is at this place among the pending requests: its column command where there is room
--- and it is legal; else its ACT where that is legal, which it is in an idle bank alone; else a PRE where the bank is
--- active with another row and the PRE is legal.
-abbrev pub choice_for : Bus → Bool → ℕ → Request → Choice
-choice_for b room place r =
-    if room && is_legal_now b (column_of r) then choice.Column place
-    else (if is_legal_now b (activate_at r.place) then choice.Act place
-    else (if is_on_other_row b r.place && is_legal_now b (precharge_at r.place) then choice.Pre place
-    else choice.Nothing))
+-- the refreshes, by the cycles that were made and the REFs in the trace
+abbrev pub refreshes_of : State → Refreshes
+refreshes_of s = record {
+  refi = s.config.timing.refi;
+  postpone = s.config.timing.postpone;
+  ticks = s.now - s.start;
+  issued = refresh_count s.trace refresh;
+}
 
--- the oldest pending request is the only candidate
-abbrev pub choice_among : Bus → Bool → List Waiting → Choice
-choice_among b room [] = choice.Nothing
-choice_among b room (oldest ∷ younger) = choice_for b room 0 oldest.request
+-- What the scheduler finds, where the drain mode is this cycle's already. A refresh that falls due in this cycle counts.
+abbrev pub situation_of : State → Situation
+situation_of s = record {
+  waiting = s.pending;
+  bus = bus_of s;
+  refreshes = after_tick (refreshes_of s);
+  policy = policy_of s.config;
+  drain = s.drain;
+  room = has_room s;
+}
 
 abbrev pub choice_of : State → Choice
-choice_of s = choice_among (bus_of s) (has_room s) s.pending
+choice_of s = arbiter.choice_of (situation_of s)

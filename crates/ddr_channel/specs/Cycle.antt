@@ -3,16 +3,19 @@ use Rattle.std.specs.Prelude.{ℕ, ◌+◌, ◌^◌, not, ◌==◌, if◌then◌
 use Rattle.ddr_timing.specs.declared.config.Config.{Config}
 use Rattle.ddr_timing.specs.declared.units.TheConstants.{BURST_CLOCKS}
 use Rattle.ddr_trace.specs.declared.command.Command.{Command}
+use Rattle.ddr_trace.specs.declared.command.Entry.{Entry}
 use Rattle.ddr_address_map.specs.declared.request.Kind.{Kind}
 use Rattle.ddr_address_map.specs.declared.request.Kind.TheVariants.{Read, Write}
 use Rattle.ddr_address_map.specs.Requests.{Request, Completion}
 use Rattle.ddr_row_array.specs.Merge.{merged}
-use Rattle.ddr_channel.specs.declared.choice.Choice.{Choice}
-use Rattle.ddr_channel.specs.declared.choice.Choice.TheVariants as choice
-use Rattle.ddr_channel.specs.declared.waiting.Waiting.{Waiting}
-use Rattle.ddr_channel.specs.Choice.{choice_of}
 use Rattle.ddr_trace.specs.Commands.{entry}
-use Rattle.ddr_channel.specs.Commands.{activate_at, precharge_at, column_of}
+use Rattle.ddr_hazards.specs.declared.waiting.Waiting.{Waiting}
+use Rattle.ddr_hazards.specs.PendingList.{pending_count}
+use Rattle.ddr_arbiter.specs.declared.choice.Choice.{Choice}
+use Rattle.ddr_arbiter.specs.declared.choice.Choice.TheVariants as choice
+use Rattle.ddr_arbiter.specs.Laws.{command_of}
+use Rattle.ddr_arbiter.specs.Mode.{next_mode}
+use Rattle.ddr_channel.specs.Choice.{policy_of, choice_of}
 use Rattle.ddr_channel.specs.Memory.{LineAddress, line_of, is_same_line}
 use Rattle.ddr_channel.specs.State.{State}
 
@@ -23,9 +26,21 @@ completed s = record s {
   done = s.done ++ filter (λ d. d.due == s.now) s.flight;
 }
 
--- the command is issued now
-abbrev pub recorded : Command → State → State
-recorded c s = record s { trace = s.trace ++ entry s.now c ∷ [] }
+-- the drain mode of this cycle, by the writes that are pending
+abbrev pub drained : State → State
+drained s = record s { drain = next_mode (policy_of s.config) s.drain (pending_count Write s.pending) }
+
+-- what comes before the choice of a cycle
+abbrev pub at_choice : State → State
+at_choice s = drained (completed s)
+
+-- the command is on the bus in that cycle, if there is one
+abbrev pub with_command : ℕ → Option Command → List Entry → List Entry
+with_command cycle None trace = trace
+with_command cycle (Some c) trace = trace ++ entry cycle c ∷ []
+
+abbrev pub recorded : Option Command → State → State
+recorded o s = record s { trace = with_command s.now o s.trace }
 
 -- from the column command to completion: the latency, and the clocks of a burst
 abbrev pub service_time : Config → Kind → ℕ
@@ -59,28 +74,30 @@ abbrev pub cells_after : Request → (LineAddress → List ℕ) → LineAddress 
 cells_after r cells address =
     if is_same_line address (line_of r.place) then burst_after r (cells address) else cells address
 
--- the column command of the request at this place among the pending ones
+-- the request at this place among the pending ones is read or written
 abbrev pub served : ℕ → Request → State → State
-served place r s = record (recorded (column_of r) s) {
+served place r s = record s {
   pending = remove s.pending place;
   flight = s.flight ++ completion_of s r ∷ [];
   cells = cells_after r s.cells;
 }
 
--- what is done for a request, if there is one at that place
-abbrev pub for_request : (Request → State → State) → Option Waiting → State → State
-for_request act (Some w) s = act w.request s
-for_request act None s = s
+abbrev pub served_at : ℕ → Option Waiting → State → State
+served_at place None s = s
+served_at place (Some w) s = served place w.request s
 
+-- the request whose column command was chosen, if one was
+abbrev pub served_by : Choice → State → State
+served_by (choice.Column place) s = served_at place (slice_get s.pending place) s
+served_by _ s = s
+
+-- the command of the choice, and the data that it moves
 abbrev pub issued : Choice → State → State
-issued choice.Nothing s = s
-issued (choice.Act place) s = for_request (λ r. recorded (activate_at r.place)) (slice_get s.pending place) s
-issued (choice.Pre place) s = for_request (λ r. recorded (precharge_at r.place)) (slice_get s.pending place) s
-issued (choice.Column place) s = for_request (served place) (slice_get s.pending place) s
+issued c s = served_by c (recorded (command_of s.pending c) s)
 
 abbrev pub ticked : State → State
 ticked s = record s { now = s.now + 1 }
 
--- completion, the choice, its command, and the clock
+-- completion, the drain mode, the choice with its command, and the clock
 abbrev pub after_cycle : State → State
-after_cycle s = ticked (issued (choice_of (completed s)) (completed s))
+after_cycle s = ticked (issued (choice_of (at_choice s)) (at_choice s))

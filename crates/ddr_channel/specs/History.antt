@@ -3,10 +3,10 @@ use Rattle.std.specs.Prelude.{ℕ, ◌==◌, if◌then◌else◌, List, [], ◌�
 use Rattle.ddr_timing.specs.declared.config.Config.{Config}
 use Rattle.ddr_timing.specs.declared.units.TheConstants.{CLOCK_STOP}
 use Rattle.ddr_address_map.specs.Requests.{Request, Completion}
-use Rattle.ddr_channel.specs.declared.choice.Choice.{Choice}
-use Rattle.ddr_channel.specs.declared.choice.Choice.TheVariants as choice
+use Rattle.ddr_arbiter.specs.declared.choice.Choice.{Choice}
+use Rattle.ddr_arbiter.specs.declared.choice.Choice.TheVariants as choice
 use Rattle.ddr_channel.specs.Choice.{choice_of}
-use Rattle.ddr_channel.specs.Cycle.{completed, after_cycle}
+use Rattle.ddr_channel.specs.Cycle.{at_choice, after_cycle}
 use Rattle.ddr_channel.specs.State.{State, opened, after_admit, after_pop, is_queue_full}
 
 -- the calls that change a channel
@@ -49,7 +49,7 @@ after_call h (Admit r) = if is_queue_full h.state r.echo.kind then h else record
   accepted = h.accepted ++ r ∷ [];
   waiting = h.waiting ++ length h.accepted ∷ [];
 }
-after_call h Cycle = if h.state.now == CLOCK_STOP then h else record (with_owner (choice_of (completed h.state)) h) {
+after_call h Cycle = if h.state.now == CLOCK_STOP then h else record (with_owner (choice_of (at_choice h.state)) h) {
   state = after_cycle h.state;
 }
 after_call h Pop = record h { state = after_pop h.state; popped = h.popped ++ take 1 h.state.done }

@@ -1,5 +1,5 @@
 -- What every state of a channel keeps.
-use Rattle.std.specs.Prelude.{◌≡◌, ℕ, true, ◌+◌, ◌≤◌, List, [], ◌∷◌, length, Some, slice_get}
+use Rattle.std.specs.Prelude.{◌≡◌, ℕ, true, ◌+◌, ◌≤◌, All, List, [], ◌∷◌, length, Some, slice_get}
 use Rattle.std.specs.List.{AllByRecursion}
 use Rattle.ddr_timing.specs.declared.config.Config.{Config}
 use Rattle.ddr_trace.specs.declared.command.Entry.{Entry}
@@ -8,7 +8,7 @@ use Rattle.ddr_address_map.specs.declared.place.Place.{Place}
 use Rattle.ddr_address_map.specs.Map.{in_range}
 use Rattle.ddr_address_map.specs.Requests.{Completion}
 use Rattle.ddr_trace.specs.Commands.{entry}
-use Rattle.ddr_channel.specs.Commands.{column_at}
+use Rattle.ddr_arbiter.specs.Commands.{column_at}
 use Rattle.ddr_channel.specs.Cycle.{service_time}
 use Rattle.ddr_channel.specs.State.{State}
 
@@ -33,4 +33,7 @@ pub record IsSound (s : State) : Type 0 where
   pub due : AreDue s.now s.flight
   pub traced : AllByRecursion (IsTraced s.config s.trace) s.flight
   pub room : length s.flight + length s.done ≤ s.config.limits.done
-  pub served : AllByRecursion (λ w. IsServed s.config w.request.place) s.pending
+  pub served : All (λ w. IsServed s.config w.request.place) s.pending
+  -- every cycle counts from the first, and no request was admitted later than now
+  pub begun : s.start ≤ s.now
+  pub admitted : All (λ w. w.admitted ≤ s.now) s.pending

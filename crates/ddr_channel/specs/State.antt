@@ -1,12 +1,13 @@
 -- The state of a channel, and what admission and the taking of completions make of it.
-use Rattle.std.specs.Prelude.{ℕ, Bool, true, false, nat_le, List, [], ◌∷◌, ◌++◌, drop, count_by, replicate}
+use Rattle.std.specs.Prelude.{ℕ, Bool, false, nat_le, List, [], ◌∷◌, ◌++◌, drop, replicate}
 use Rattle.ddr_timing.specs.declared.config.Config.{Config}
 use Rattle.ddr_timing.specs.declared.units.TheConstants.{LINE_BYTES}
 use Rattle.ddr_trace.specs.declared.command.Entry.{Entry}
 use Rattle.ddr_address_map.specs.declared.request.Kind.{Kind}
 use Rattle.ddr_address_map.specs.declared.request.Kind.TheVariants.{Read, Write}
 use Rattle.ddr_address_map.specs.Requests.{Request, Completion}
-use Rattle.ddr_channel.specs.declared.waiting.Waiting.{Waiting}
+use Rattle.ddr_hazards.specs.declared.waiting.Waiting.{Waiting}
+use Rattle.ddr_hazards.specs.PendingList.{pending_count}
 use Rattle.ddr_channel.specs.Memory.{LineAddress}
 
 pub record State : Type 0 where
@@ -16,6 +17,8 @@ pub record State : Type 0 where
   pub now : ℕ
   -- admitted and not served, the oldest first
   pub pending : List Waiting
+  -- whether writes were drained in the cycle before
+  pub drain : Bool
   -- served and not complete, in the order of their column commands
   pub flight : List Completion
   -- complete and not taken, the oldest first
@@ -31,20 +34,12 @@ opened config start = record {
   start = start;
   now = start;
   pending = [];
+  drain = false;
   flight = [];
   done = [];
   trace = [];
   cells = λ _. replicate LINE_BYTES 0;
 }
-
-abbrev pub is_same_kind : Kind → Kind → Bool
-is_same_kind Read Read = true
-is_same_kind Write Write = true
-is_same_kind _ _ = false
-
--- how many requests of a kind are pending
-abbrev pub pending_count : Kind → List Waiting → ℕ
-pending_count kind pending = count_by (λ w. is_same_kind kind w.request.echo.kind) pending
 
 -- how many requests of a kind may be pending
 abbrev pub queue_size : Config → Kind → ℕ

@@ -1,26 +1,30 @@
 //! One channel: its pending requests, its rows, its trace, and the cycles that it makes.
-ghost use Rattle.std.specs.Prelude.{◌≡◌, ◌≢◌, false, ◌+◌, ◌^◌, ◌<◌, ◌≤◌, ◌↔◌, List, [], ◌∷◌, ◌++◌, IfSome, Some, Err, IsTrue, IsErr, IsOk, IfOk, IfErr, OnOk, OnErr, IsErrOf, option_copied, slice_get, IsSomeAnd};
-ghost use Rattle.ddr_channel.specs.declared.choice.Choice.TheVariants as choice;
+ghost use Rattle.std.specs.Prelude.{◌≡◌, false, ◌+◌, ◌<◌, ◌≤◌, ◌↔◌, List, [], ◌∷◌, ◌++◌, IfSome, IsTrue, IsErr, IsOk, IfOk, IfErr, OnOk, OnErr, IsErrOf, option_copied, slice_get};
+ghost use Rattle.ddr_arbiter.specs.declared.choice.Choice.TheVariants as choice;
 ghost use Rattle.ddr_channel.specs.declared.channel.CycleError.TheVariants.{ClockSpent, OutOfMemory};
 ghost use Rattle.ddr_address_map.specs.declared.request.Kind.TheVariants.{Read, Write};
 ghost use Rattle.ddr_timing.specs.declared.units.TheConstants.{CLOCK_STOP};
 ghost use Rattle.ddr_trace.specs.Legality.{IsLegal};
-ghost use Rattle.ddr_channel.specs.Choice.{choice_of, has_room};
-ghost use Rattle.ddr_channel.specs.Cycle.{completed, after_cycle};
+ghost use Rattle.ddr_refresh.specs.Refreshes.{after_tick};
+ghost use Rattle.ddr_channel.specs.Choice.{choice_of, policy_of, refreshes_of};
+ghost use Rattle.ddr_channel.specs.Cycle.{at_choice, drained, after_cycle};
 ghost use Rattle.ddr_channel.specs.History.{Call, Admit, Cycle, Pop, run};
 ghost use Rattle.ddr_channel.specs.Kept.{state_of};
 ghost use Rattle.ddr_channel.specs.Promise.{StandsFor, IsNextAnswer};
 ghost use Rattle.ddr_channel.specs.Sound.{IsServed};
 ghost use Rattle.ddr_channel.specs.State.{opened, after_admit, after_pop, is_queue_full};
 
-use crate::choice::{Choice, activate_at, choice_for, column_at, precharge_at};
-use crate::queue::{complete, push, take_oldest};
-use crate::transfer::{bank_number, transfer};
-use crate::waiting::Waiting;
+use crate::bus::{issue, reserve};
+use crate::queue::complete;
+use crate::transfer::serve;
 use circular_buffer::HeapCircularBuffer;
-use ddr_address_map::place::Place;
 use ddr_address_map::request::{Done, Kind, Req};
+use ddr_arbiter::choice::{Choice, choose};
+use ddr_arbiter::commands::command_of;
+use ddr_arbiter::policy::Policy;
+use ddr_hazards::pending::Pending;
 use ddr_legality::legality::Legality;
+use ddr_refresh::debt::Debt;
 use ddr_row_array::row_array::RowArray;
 use ddr_timing::config::Config;
 use ddr_timing::units::CLOCK_STOP;
@@ -42,9 +46,10 @@ pub enum CycleError {
 #[derive(Drop)]
 pub struct Channel {
     config: Config,
-    pending: HeapCircularBuffer<Waiting>,
-    reads: u32,
-    writes: u32,
+    pending: Pending,
+    // Whether writes were drained in the cycle before.
+    drain: bool,
+    debt: Debt,
     flight: HeapCircularBuffer<Done>,
     done: HeapCircularBuffer<Done>,
     legality: Legality,
@@ -75,27 +80,14 @@ impl Channel {
         let limits = config.limits;
         Ok(Channel {
             config: *config,
-            pending: HeapCircularBuffer::with_capacity(
-                alloc,
-                (limits.reads + limits.writes) as usize,
-            )?,
-            reads: 0,
-            writes: 0,
+            pending: Pending::open(limits.reads, limits.writes),
+            drain: false,
+            debt: Debt::open(config),
             flight: HeapCircularBuffer::with_capacity(alloc, limits.done as usize)?,
             done: HeapCircularBuffer::with_capacity(alloc, limits.done as usize)?,
             legality: Legality::open(alloc, config, first_cycle)?,
             rows: RowArray::open(alloc, config)?,
         })
-    }
-
-    /// Whether the queue of the kind has no free place.
-    fn is_full(&self, kind: Kind) -> bool
-        ensures { IsTrue result ↔ IsTrue (is_queue_full (state_of self.entry.now) kind) }
-    {
-        match kind {
-            Kind::Read => self.reads >= self.config.limits.reads,
-            Kind::Write => self.writes >= self.config.limits.writes,
-        }
     }
 
     /// Takes a request, or hands it back where the queue of its kind is full.
@@ -107,149 +99,51 @@ impl Channel {
         ensures config { self.new.config ≡ self.old.config }
         ensures stands { (calls : List Call) → StandsFor self.old calls → StandsFor self.new (calls ++ Admit request ∷ []) }
     {
-        if self.is_full(request.echo.kind) {
-            return Err(request);
-        }
-        self.enqueue(request);
-        Ok(())
-    }
-
-    /// Adds a request to the pending ones, where the queue of its kind has a free place.
-    fn enqueue(&mut self, request: Req)
-        requires served { IsServed self.old.config request.place }
-        requires room { is_queue_full (state_of self.old) request.echo.kind ≡ false }
-        ensures state { state_of self.new ≡ after_admit request (state_of self.old) }
-        ensures config { self.new.config ≡ self.old.config }
-    {
-        let kind = request.echo.kind;
-        let admitted = self.legality.now();
-        push(&mut self.pending, Waiting { request, admitted });
-        match kind {
-            Kind::Read => self.reads += 1,
-            Kind::Write => self.writes += 1,
-        }
+        let now = self.legality.now();
+        self.pending.admit(request, now)
     }
 
     /// Whether each of the two queues has a free place.
     pub fn room(&self) -> bool
         ensures { IsTrue result ↔ ((is_queue_full (state_of self.entry.now) Read ≡ false) × (is_queue_full (state_of self.entry.now) Write ≡ false)) }
     {
-        !self.is_full(Kind::Read) && !self.is_full(Kind::Write)
+        !self.pending.is_full(Kind::Read) && !self.pending.is_full(Kind::Write)
     }
 
-    /// What the next cycle does.
-    fn choice(&self) -> Choice
-        requires { self.now.now < CLOCK_STOP }
-        ensures { result ≡ choice_of (completed (state_of self.entry.now)) }
+    /// Whether writes are drained in the next cycle.
+    fn next_drain(&self) -> bool
+        ensures { result ≡ (drained (state_of self.entry.now)).drain }
     {
-        let Some(oldest) = self.pending.front() else {
-            return Choice::Nothing;
-        };
+        policy(&self.config).next_mode(self.drain, self.pending.writes())
+    }
+
+    /// What the next cycle does, where the debt was ticked and the drain mode is that cycle's.
+    fn choice(&self, debt: &Debt, drain: bool) -> Choice
+        requires debt { debt.now ≡ after_tick (refreshes_of (state_of self.now)) }
+        requires mode { drain ≡ (drained (state_of self.now)).drain }
+        ensures { result ≡ choice_of (at_choice (state_of self.entry.now)) }
+    {
         let room = self.flight.len() + self.done.len() < self.config.limits.done as usize;
-        choice_for(&self.legality, room, &oldest.request)
+        choose(
+            &self.pending,
+            &self.legality,
+            debt,
+            &policy(&self.config),
+            drain,
+            room,
+        )
     }
 
-    /// The kind and the place of the oldest request, which is there.
-    fn oldest(&self) -> (Kind, Place)
-        requires { self.now.pending ≢ [] }
-        ensures { IsSomeAnd (slice_get self.entry.now.pending 0) (λ w. (w.request.echo.kind ≡ result.0) × (w.request.place ≡ result.1)) }
-    {
-        match self.pending.front() {
-            Some(oldest) => {
-                let request = &oldest.request;
-                (request.echo.kind, request.place)
-            }
-            None => unreachable!(),
-        }
-    }
-
-    /// A cycle with no command.
-    fn rest(&mut self)
-        requires clock { self.old.now < CLOCK_STOP }
-        requires chosen { choice_of (completed (state_of self.old)) ≡ choice.Nothing }
-        ensures state { state_of self.new ≡ after_cycle (state_of self.old) }
-        ensures config { self.new.config ≡ self.old.config }
-        ensures clock { self.new.now ≡ self.old.now + 1 }
-    {
-        let now = self.legality.now();
-        complete(&mut self.flight, &mut self.done, now);
-        self.legality.tick();
-    }
-
-    /// A cycle with an ACT for the oldest request.
-    fn activate(&mut self) -> Result<(), AllocError>
-        requires clock { self.old.now < CLOCK_STOP }
-        requires chosen { choice_of (completed (state_of self.old)) ≡ choice.Act 0 }
-        ensures ok { OnOk result (state_of self.new ≡ after_cycle (state_of self.old)) }
-        ensures err { OnErr result (state_of self.new ≡ state_of self.old) }
-        ensures config { self.new.config ≡ self.old.config }
-        ensures clock { OnOk result (self.new.now ≡ self.old.now + 1) }
-    {
-        let now = self.legality.now();
-        let (_, place) = self.oldest();
-        let bank = bank_number(place);
-        self.rows.ensure(bank, place.row)?;
-        self.legality.reserve_entry()?;
-        complete(&mut self.flight, &mut self.done, now);
-        self.legality.record(activate_at(place));
-        self.rows.activate(bank, place.row);
-        self.legality.tick();
-        Ok(())
-    }
-
-    /// A cycle with a PRE for the oldest request.
-    fn precharge(&mut self) -> Result<(), AllocError>
-        requires clock { self.old.now < CLOCK_STOP }
-        requires chosen { choice_of (completed (state_of self.old)) ≡ choice.Pre 0 }
-        ensures ok { OnOk result (state_of self.new ≡ after_cycle (state_of self.old)) }
-        ensures err { OnErr result (state_of self.new ≡ state_of self.old) }
-        ensures config { self.new.config ≡ self.old.config }
-        ensures clock { OnOk result (self.new.now ≡ self.old.now + 1) }
-    {
-        let now = self.legality.now();
-        let (_, place) = self.oldest();
-        self.legality.reserve_entry()?;
-        complete(&mut self.flight, &mut self.done, now);
-        self.legality.record(precharge_at(place));
-        self.rows.precharge(bank_number(place));
-        self.legality.tick();
-        Ok(())
-    }
-
-    /// A cycle with the column command of the oldest request.
-    fn serve(&mut self) -> Result<(), AllocError>
-        requires clock { self.old.now < CLOCK_STOP }
-        requires chosen { choice_of (completed (state_of self.old)) ≡ choice.Column 0 }
-        ensures ok { OnOk result (state_of self.new ≡ after_cycle (state_of self.old)) }
-        ensures err { OnErr result (state_of self.new ≡ state_of self.old) }
-        ensures config { self.new.config ≡ self.old.config }
-        ensures clock { OnOk result (self.new.now ≡ self.old.now + 1) }
-    {
-        let now = self.legality.now();
-        let (kind, place) = self.oldest();
-        self.legality.reserve_entry()?;
-        complete(&mut self.flight, &mut self.done, now);
-        self.legality.record(column_at(kind, place));
-        let request = take_oldest(&mut self.pending);
-        let done = transfer(&mut self.rows, &self.config, now, request);
-        push(&mut self.flight, done);
-        self.legality.tick();
-        match kind {
-            Kind::Read => self.reads -= 1,
-            Kind::Write => self.writes -= 1,
-        }
-        Ok(())
-    }
-
-    /// Makes the cycle `now`: what is due completes, and the command that is chosen is issued. A refusal
-    /// leaves the channel as it was. Memory is asked for only where a command is issued.
+    /// Makes the cycle `now`: what is due completes, the refresh debt and the drain mode go on, the command that is
+    /// chosen is issued, and a column command moves its data. A refusal leaves the channel as it was. Memory is asked
+    /// for only where a command is issued.
     pub fn cycle(&mut self) -> Result<(), CycleError>
         ensures ok { OnOk result (state_of self.new ≡ after_cycle (state_of self.old)) }
         ensures spent { IsErrOf result ClockSpent ↔ (self.old.now ≡ CLOCK_STOP) }
         ensures err { OnErr result (state_of self.new ≡ state_of self.old) }
         ensures config { self.new.config ≡ self.old.config }
         ensures clock { OnOk result (self.new.now ≡ self.old.now + 1) }
-        ensures idle { choice_of (completed (state_of self.old)) ≡ choice.Nothing → IsErrOf result OutOfMemory → ⊥ }
+        ensures idle { choice_of (at_choice (state_of self.old)) ≡ choice.Nothing → IsErrOf result OutOfMemory → ⊥ }
         ensures stands { OnOk result ((calls : List Call) → StandsFor self.old calls → StandsFor self.new (calls ++ Cycle ∷ [])) }
     {
         if self.legality.now() == CLOCK_STOP {
@@ -268,17 +162,35 @@ impl Channel {
         ensures err { OnErr result (state_of self.new ≡ state_of self.old) }
         ensures config { self.new.config ≡ self.old.config }
         ensures clock { OnOk result (self.new.now ≡ self.old.now + 1) }
-        ensures idle { choice_of (completed (state_of self.old)) ≡ choice.Nothing → IsOk result }
+        ensures idle { choice_of (at_choice (state_of self.old)) ≡ choice.Nothing → IsOk result }
     {
-        match self.choice() {
-            Choice::Nothing => {
-                self.rest();
-                Ok(())
-            }
-            Choice::Act { place: _ } => self.activate(),
-            Choice::Pre { place: _ } => self.precharge(),
-            Choice::Column { place: _ } => self.serve(),
-        }
+        let now = self.legality.now();
+        let mut debt = self.debt;
+        debt.tick();
+        let drain = self.next_drain();
+        let choice = self.choice(&debt, drain);
+        let command = command_of(&self.pending, choice);
+        reserve(&self.config, &mut self.legality, &mut self.rows, command)?;
+        complete(&mut self.flight, &mut self.done, now);
+        issue(
+            &self.config,
+            &mut self.legality,
+            &mut self.rows,
+            &mut debt,
+            command,
+        );
+        serve(
+            &self.config,
+            now,
+            choice,
+            &mut self.pending,
+            &mut self.rows,
+            &mut self.flight,
+        );
+        self.drain = drain;
+        self.debt = debt;
+        self.legality.tick();
+        Ok(())
     }
 
     /// The completion that was done first.
@@ -333,8 +245,8 @@ impl Channel {
         let Channel {
             config: _,
             pending: _,
-            reads: _,
-            writes: _,
+            drain: _,
+            debt: _,
             flight: _,
             done: _,
             legality,
@@ -347,5 +259,16 @@ impl Channel {
             end,
             entries: legality.into_entries(),
         }
+    }
+}
+
+/// The marks by which the channel's scheduler goes.
+fn policy(config: &Config) -> Policy
+    ensures { result ≡ policy_of config.now }
+{
+    Policy {
+        cap: config.limits.cap,
+        low: config.limits.low,
+        high: config.limits.high,
     }
 }

@@ -1,16 +1,15 @@
 //! One channel of a DDR4 memory controller, cycle by cycle.
 //!
-//! Below stand the rows (`ddr_row_array`), what may be issued next (`ddr_legality`), the rules of a trace
-//! (`ddr_trace`), the requests (`ddr_address_map`) and the configuration (`ddr_timing`). `channel` is the
-//! channel with its calls; `waiting` is a pending request, `choice` what a cycle does, and `transfer` how a
-//! column command moves its data.
+//! Below stand the scheduler (`ddr_arbiter`) over the pending requests (`ddr_hazards`), the refreshes that are due
+//! (`ddr_refresh`) and what may be issued next (`ddr_legality`), and the rows (`ddr_row_array`). `channel` is the
+//! channel with its calls; of a cycle, `bus` makes room for its command and issues it, and `transfer` moves the data
+//! of a column command; `queue` has the steps on the channel's own queues.
 #![tactic(auto)]
 
+mod bus;
 pub mod channel;
-pub mod choice;
 pub mod promise;
 mod queue;
 #[cfg(test)]
 mod tests;
 mod transfer;
-pub mod waiting;

@@ -1,11 +1,10 @@
 //! Steps on the bounded queues of a channel.
-ghost use Rattle.std.specs.Prelude.{◌≡◌, ◌+◌, ◌<◌, ◌≤◌, ◌==◌, not, List, [], ◌∷◌, ◌++◌, length, drop, filter, slice_get, option_map, ◌≢◌, Some};
+ghost use Rattle.std.specs.Prelude.{◌≡◌, ◌+◌, ◌<◌, ◌≤◌, ◌==◌, not, List, [], ◌∷◌, ◌++◌, length, filter};
 ghost use Rattle.circular_buffer.specs.Buffer.{buffer};
 ghost use Rattle.ddr_channel.specs.Sound.{AreDue};
 
-use crate::waiting::Waiting;
 use circular_buffer::HeapCircularBuffer;
-use ddr_address_map::request::{Done, Req};
+use ddr_address_map::request::Done;
 
 /// Adds an item to a queue that has room.
 pub(crate) fn push<T: Drop>(queue: &mut HeapCircularBuffer<T>, item: T)
@@ -34,22 +33,5 @@ pub(crate) fn complete(
     }
     if let Some(first) = flight.pop_front() {
         push(done, first);
-    }
-}
-
-/// Takes the oldest request, which is there.
-pub(crate) fn take_oldest(pending: &mut HeapCircularBuffer<Waiting>) -> Req
-    requires { pending.old.items ≢ [] }
-    ensures oldest { option_map (λ w. w.request) (slice_get pending.old.items 0) ≡ Some result }
-    ensures rest { pending.new ≡ buffer (drop 1 pending.old.items) pending.old.capacity }
-{
-    match pending.pop_front() {
-        Some(
-            Waiting {
-                request,
-                admitted: _,
-            },
-        ) => request,
-        None => unreachable!(),
     }
 }

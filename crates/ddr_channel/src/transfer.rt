@@ -1,28 +1,27 @@
 //! How a column command moves its data between a request's line and the open row.
-ghost use Rattle.std.specs.Prelude.{◌≡◌, ℕ, ◌<◌, ◌^◌, Some};
+ghost use Rattle.std.specs.Prelude.{◌≡◌, ℕ, ◌<◌, ◌^◌, Some, length, IfSome};
 ghost use Rattle.ddr_timing.specs.declared.units.TheConstants.{CLOCK_STOP};
 ghost use Rattle.ddr_row_array.specs.Changes.{SameShape};
 ghost use Rattle.ddr_row_array.specs.Rows.{line_count, open_row, cells};
-ghost use Rattle.ddr_channel.specs.Cycle.{completion_at, cells_after};
+ghost use Rattle.ddr_arbiter.specs.Laws.{column_place_of};
+ghost use Rattle.ddr_channel.specs.Cycle.{completion_at, cells_after, served_by};
 ghost use Rattle.ddr_channel.specs.Memory.{bank_number};
+ghost use Rattle.ddr_channel.specs.Served.{Holds, MayServe};
+ghost use Rattle.ddr_channel.specs.State.{State};
 
-use ddr_address_map::place::Place;
+use crate::bus::bank_number;
+use crate::queue::push;
+use circular_buffer::HeapCircularBuffer;
 use ddr_address_map::request::{Done, Kind, Req};
+use ddr_arbiter::choice::Choice;
+use ddr_hazards::pending::Pending;
 use ddr_row_array::row_array::RowArray;
 use ddr_timing::config::Config;
-use ddr_timing::units::{BURST_CLOCKS, GROUP_BANKS};
-
-/// The bank's number in its rank.
-pub(crate) fn bank_number(place: Place) -> u32
-    requires { bank_number place < 2 ^ 32 }
-    ensures { result ≡ bank_number place }
-{
-    place.group * GROUP_BANKS + place.bank
-}
+use ddr_timing::units::BURST_CLOCKS;
 
 /// Serves the request, whose row is open, in this cycle: a read copies the burst into its line, a write puts
 /// its enabled bytes over the burst's. Gives the completion, which is due once the data have passed.
-pub(crate) fn transfer(rows: &mut RowArray, config: &Config, now: u64, request: Req) -> Done
+fn transfer(rows: &mut RowArray, config: &Config, now: u64, request: Req) -> Done
     requires clock { now < CLOCK_STOP }
     requires bank { bank_number request.place < 2 ^ 32 }
     requires opened { open_row rows.old (bank_number request.place) ≡ Some request.place.row }
@@ -41,7 +40,7 @@ pub(crate) fn transfer(rows: &mut RowArray, config: &Config, now: u64, request: 
         mask,
         mut line,
     } = request;
-    let bank = bank_number(place);
+    let bank = bank_number(place.group, place.bank);
     let latency = match echo.kind {
         Kind::Read => {
             rows.read(bank, place.line, &mut *line);
@@ -59,5 +58,33 @@ pub(crate) fn transfer(rows: &mut RowArray, config: &Config, now: u64, request: 
         issued: now,
         due: now + u64::from(latency + BURST_CLOCKS),
         line,
+    }
+}
+
+/// Serves the request whose column command was chosen, if one was: it goes from the pending ones into flight.
+pub(crate) fn serve(
+    config: &Config,
+    now: u64,
+    choice: Choice,
+    pending: &mut Pending,
+    rows: &mut RowArray,
+    flight: &mut HeapCircularBuffer<Done>,
+)
+    requires clock { now < CLOCK_STOP }
+    requires may { MayServe choice pending.old.waiting rows.old }
+    requires room { IfSome (column_place_of choice) (λ _. length flight.old.items < flight.old.capacity) }
+    ensures holds { (s : State) → s.config ≡ config.now → s.now ≡ now → Holds s pending.old.waiting flight.old.items rows.old
+        → Holds (served_by choice s) pending.new.waiting flight.new.items rows.new }
+    ensures limits { (pending.new.read_limit ≡ pending.old.read_limit) × (pending.new.write_limit ≡ pending.old.write_limit) }
+    ensures capacity { flight.new.capacity ≡ flight.old.capacity }
+    ensures opened { (b : ℕ) → open_row rows.new b ≡ open_row rows.old b }
+    ensures shape { SameShape rows.old rows.new }
+{
+    let Choice::Column { place } = choice else {
+        return;
+    };
+    if let Some(request) = pending.remove(place) {
+        let done = transfer(rows, config, now, request);
+        push(flight, done);
     }
 }

@@ -1,27 +1,26 @@
 -- Admission is one call more, whether the queue is full or not.
-use Rattle.std.proofs.Common.{sym, ap, ◌∙◌, refl}
-use Rattle.std.proofs.lemmas.Bool.{false≢true}
-use Rattle.ddr_address_map.specs.Requests.{Request}
-use Rattle.ddr_channel.specs.Kept.{state_of}
-use Rattle.ddr_channel.specs.State.{is_queue_full}
-use Rattle.ddr_channel.proofs.ChannelLemmas.{told}
-use Rattle.ddr_channel.proofs.StandsLemmas.{stands_admitted, stands_refused}
+use Rattle.std.proofs.Common.{◌≡◌, ◌∷◌, ◌++◌, [], List, OnOk, sym, ap, subst, ◌∙◌}
+use Rattle.ddr_channel.specs.History.{Call, Admit}
+use Rattle.ddr_channel.specs.Kept.{Kept, state_of}
+use Rattle.ddr_channel.specs.Promise.{StandsFor}
+use Rattle.ddr_channel.specs.Sound.{IsServed}
+use Rattle.ddr_channel.specs.State.{after_admit}
+use Rattle.ddr_channel.specs.View.{kept_of}
+use Rattle.ddr_channel.proofs.ChannelLemmas.{whole_admit, state_admit, stands_admit}
 use Rattle.ddr_channel.proofs.channel.Channel.admit.Goals as goal
 
-pub returns-then-is_full-clause-stands : goal.returns-then-is_full-clause-stands
-returns-then-is_full-clause-stands c = λ calls stands.
-    let kind = ap (λ (r : Request). r.echo.kind) (sym c.request.view_is) in
-    let full = ap (is_queue_full (state_of c.args.self.now)) kind ∙ c.is_full.ensures.0 c.if-is_full.true in
-    stands_refused c.args.self.now c.args.self.now c.args.request calls stands c.requires full refl
+pub invariant_of-self : goal.invariant_of-self
+invariant_of-self c =
+    whole_admit c.self.inside c.admit.result c.admit.new.self c.args.request c.now-now.result c.self.invariant
+    (subst (λ (k : Kept). IsServed k.config c.args.request.place) (sym c.self.view_is) c.requires) c.now-now.ensures.value c.admit.ensures.ok c.admit.ensures.err
 
-pub returns-clause-full : goal.returns-clause-full
-returns-clause-full c =
-    let kind = ap (λ (r : Request). r.echo.kind) c.request.view_is in
-    let not_full = told c.is_full.result _ c.is_full.ensures c.if-is_full.false in
-    (λ e. absurd (false≢true e), λ full. absurd (false≢true (sym not_full ∙ ap (is_queue_full (state_of c.args.self.now)) kind ∙ full)))
+pub returns-clause-ok : goal.returns-clause-ok
+returns-clause-ok c =
+    subst (λ (k : Kept). OnOk c.admit.result (state_of (record (kept_of c.self.inside) { pending = c.admit.new.self.waiting }) ≡ after_admit c.args.request (state_of k))) c.self.view_is
+    (state_admit c.self.inside c.admit.result c.admit.new.self c.args.request c.now-now.result c.now-now.ensures.value c.admit.ensures.ok)
 
 pub returns-clause-stands : goal.returns-clause-stands
 returns-clause-stands c = λ calls stands.
-    let kind = ap (λ (r : Request). r.echo.kind) (sym c.request.view_is) in
-    let not_full = ap (is_queue_full (state_of c.args.self.now)) kind ∙ told c.is_full.result _ c.is_full.ensures c.if-is_full.false in
-    stands_admitted c.args.self.now c.enqueue.new.self c.args.request calls stands c.requires not_full c.enqueue.ensures.state
+    stands_admit c.self.inside c.admit.result c.admit.new.self c.args.request c.now-now.result calls c.self.invariant
+    (subst (λ (k : Kept). IsServed k.config c.args.request.place) (sym c.self.view_is) c.requires) c.now-now.ensures.value c.admit.ensures.ok c.admit.ensures.full c.admit.ensures.err
+    (subst (λ (k : Kept). StandsFor k calls) (sym c.self.view_is) stands)

@@ -1,27 +1,27 @@
--- Before the first cycle nothing is pending, in flight or done, and every bank is idle.
-use Rattle.std.proofs.Common.{◌≡◌, sym, ap, subst, ◌∙◌}
+-- A channel before its first cycle.
+use Rattle.std.proofs.Common.{sym, ap, subst, ◌∙◌}
 use Rattle.ddr_channel.specs.declared.channel.Channel.TheInside.{Inside}
 use Rattle.ddr_channel.specs.Kept.{state_of}
-use Rattle.ddr_channel.specs.State.{opened}
 use Rattle.ddr_channel.specs.View.{kept_of, IsWhole}
+use Rattle.ddr_channel.proofs.ChannelLemmas.{fields_are_open, state_open, whole_open}
 use Rattle.ddr_channel.proofs.StandsLemmas.{stands_opened}
-use Rattle.ddr_channel.proofs.WholeLemmas.{fields_at, fields_open, fields_are_open, state_open, whole_open}
 use Rattle.ddr_channel.proofs.channel.Channel.open.Goals as goal
-
-pub fields_are : (c : goal.In_ok-open-2) → fields_at c.args.config.now c.in_ok-open.field-0.spare c.in_ok-open-2.field-0 c.in_ok-with_capacity.field-0 c.in_ok-with_capacity-2.field-0 c.in_ok-with_capacity-3.field-0 c.in_ok-open.field-0.bus
-    ≡ fields_open c.args.config.now c.args.first_cycle c.in_ok-open.field-0.spare c.in_ok-open-2.field-0
-fields_are c =
-    fields_are_open c.args.config.now c.args.first_cycle c.in_ok-open.field-0.spare c.in_ok-open-2.field-0 c.in_ok-with_capacity.field-0 c.in_ok-with_capacity-2.field-0 c.in_ok-with_capacity-3.field-0 c.in_ok-open.field-0.bus
-    c.in_ok-with_capacity.ensures c.in_ok-with_capacity-2.ensures c.in_ok-with_capacity-3.ensures c.in_ok-open.ensures
 
 pub invariant_of-result : goal.invariant_of-result
 invariant_of-result c =
-    subst IsWhole (sym (fields_are c)) (whole_open c.args.config.now c.args.first_cycle c.in_ok-open.field-0.spare c.in_ok-open-2.field-0 c.requires c.in_ok-open-2.ensures)
+    subst IsWhole (sym (fields_are_open c.args.config.now c.args.first_cycle c.open.result c.open-2.result c.in_ok-with_capacity.field-0 c.in_ok-with_capacity-2.field-0 c.in_ok-open.field-0 c.in_ok-open-2.field-0
+    c.open.ensures c.open-2.ensures c.in_ok-with_capacity.ensures c.in_ok-with_capacity-2.ensures c.in_ok-open.ensures))
+    (whole_open c.args.config.now c.args.first_cycle c.in_ok-open.field-0.spare c.in_ok-open-2.field-0 c.requires c.in_ok-open-2.ensures)
 
 pub returns-clause-state : goal.returns-clause-state
 returns-clause-state c =
-    ap (λ (a : Inside). state_of (kept_of a)) (fields_are c)
+    ap (λ (a : Inside). state_of (kept_of a)) (fields_are_open c.args.config.now c.args.first_cycle c.open.result c.open-2.result c.in_ok-with_capacity.field-0 c.in_ok-with_capacity-2.field-0 c.in_ok-open.field-0 c.in_ok-open-2.field-0
+    c.open.ensures c.open-2.ensures c.in_ok-with_capacity.ensures c.in_ok-with_capacity-2.ensures c.in_ok-open.ensures)
     ∙ state_open c.args.config.now c.args.first_cycle c.in_ok-open.field-0.spare c.in_ok-open-2.field-0 c.in_ok-open-2.ensures
 
 pub returns-clause-stands : goal.returns-clause-stands
-returns-clause-stands c = stands_opened _ c.args.config.now c.args.first_cycle (returns-clause-state c)
+returns-clause-stands c =
+    stands_opened _ c.args.config.now c.args.first_cycle
+    (ap (λ (a : Inside). state_of (kept_of a)) (fields_are_open c.args.config.now c.args.first_cycle c.open.result c.open-2.result c.in_ok-with_capacity.field-0 c.in_ok-with_capacity-2.field-0 c.in_ok-open.field-0 c.in_ok-open-2.field-0
+    c.open.ensures c.open-2.ensures c.in_ok-with_capacity.ensures c.in_ok-with_capacity-2.ensures c.in_ok-open.ensures)
+    ∙ state_open c.args.config.now c.args.first_cycle c.in_ok-open.field-0.spare c.in_ok-open-2.field-0 c.in_ok-open-2.ensures)
