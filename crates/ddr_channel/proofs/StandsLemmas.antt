@@ -10,6 +10,7 @@ use Rattle.ddr_channel.specs.Choice.{choice_of}
 use Rattle.ddr_timing.specs.declared.units.TheConstants.{CLOCK_STOP}
 use Rattle.ddr_channel.specs.Cycle.{at_choice, recorded, issued, after_cycle}
 use Rattle.ddr_arbiter.specs.declared.choice.Choice.{Choice}
+use Rattle.ddr_arbiter.specs.declared.choice.Choice.TheVariants as choice
 use Rattle.ddr_arbiter.specs.Laws.{command_of}
 use Rattle.ddr_channel.specs.History.{Call, Admit, Cycle, Pop, History, begun, with_owner, after_call, run}
 use Rattle.ddr_channel.specs.Kept.{Kept, state_of}
@@ -104,3 +105,23 @@ issued_start c s = served_alike (λ t. t.start) (λ t place r. refl) c (recorded
 pub stands_after_cycle : (old new : Kept) (calls : List Call) → StandsFor old calls → (old.now ≡ CLOCK_STOP → ⊥) → state_of new ≡ after_cycle (state_of old) → StandsFor new (calls ++ Cycle ∷ [])
 stands_after_cycle old new calls stands clock is =
     stands_cycled old new calls stands clock is (issued_config (choice_of (at_choice (state_of old))) (at_choice (state_of old))) (issued_start (choice_of (at_choice (state_of old))) (at_choice (state_of old)))
+
+-- for who follows a channel: a cycle changes no first cycle, and no acceptance list
+
+pub cycle_start : (old new : Kept) → state_of new ≡ after_cycle (state_of old) → new.start ≡ old.start
+cycle_start old new made = ap (λ (s : State). s.start) made ∙ issued_start (choice_of (at_choice (state_of old))) (at_choice (state_of old))
+
+owner_accepted : (c : Choice) (h : History) → (with_owner c h).accepted ≡ h.accepted
+owner_accepted choice.Nothing h = refl
+owner_accepted choice.Refresh h = refl
+owner_accepted choice.PreAll h = refl
+owner_accepted (choice.Act place) h = refl
+owner_accepted (choice.Pre place) h = refl
+owner_accepted (choice.Column place) h = refl
+
+accepted_if : (b : Bool) (x y : History) → y.accepted ≡ x.accepted → (cond b x y).accepted ≡ x.accepted
+accepted_if true x y same = refl
+accepted_if false x y same = same
+
+pub cycle_accepted : (h : History) → (after_call h Cycle).accepted ≡ h.accepted
+cycle_accepted h = accepted_if (eqb h.state.now CLOCK_STOP) h (record (with_owner (choice_of (at_choice h.state)) h) { state = after_cycle h.state }) (owner_accepted (choice_of (at_choice h.state)) h)

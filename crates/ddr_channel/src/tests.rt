@@ -1,45 +1,102 @@
-//! Worked runs of a channel, with the cycles and the bytes worked out by hand.
-ghost use Rattle.std.specs.Prelude.{IfOk};
+//! Runs of a channel. Those of `rows`, `refreshes`, `drain` and `refusals` are worked out by hand, their cycles and
+//! their bytes; those of `chance` are compared with a flat map of bytes and with the checkers of a whole trace.
+ghost use Rattle.std.specs.Prelude.{◌≡◌, IfOk};
 ghost use Rattle.ddr_channel.specs.Sound.{IsServed};
 
 use crate::channel::{Channel, CycleError};
 use ddr_address_map::map::Map;
-use ddr_address_map::request::{Done, Echo, Kind, Req};
+use ddr_address_map::request::{Done, Echo, Kind, Line, Req};
 use ddr_timing::config::Config;
 use ddr_timing::profile::PROFILE_S;
 use ddr_trace::command::{Command, Entry};
-use std::alloc::Global;
+use ddr_trace::trace::Trace;
+use std::alloc::{AllocError, Global};
 use std::test::Fail;
 
-/// A request to the line of an address, with `fill` in each byte of its line.
-fn request(
-    alloc: Global,
-    config: &Config,
+mod chance;
+mod drain;
+mod refreshes;
+mod refusals;
+mod rows;
+
+/// The bytes of a line that was never written.
+const ZEROS: Line = [0; 64];
+
+/// Profile S with other lines: each pair is a key and what stands for its line.
+fn config_with(alloc: Global, lines: &[(&str, &str)]) -> Result<Config, Fail> {
+    let mut text = String::new(alloc);
+    for line in PROFILE_S.lines() {
+        push_line(&mut text, line, lines)?;
+        text.push('\n')?;
+    }
+    Ok(Config::read(alloc, text.as_str())?)
+}
+
+fn push_line(text: &mut String, line: &str, lines: &[(&str, &str)]) -> Result<(), AllocError> {
+    let name = line.split_once(' ').map_or(line, |(name, _)| name);
+    for (key, other) in lines {
+        if name == *key {
+            return text.push_str(other);
+        }
+    }
+    text.push_str(line)
+}
+
+/// What is asked of a line. All bytes of a write are the same.
+#[derive(Clone, Copy)]
+struct Access {
     kind: Kind,
     addr: u64,
     mask: u64,
     fill: u8,
-) -> Result<Req, Fail>
+}
+
+/// A read, whose line comes with other bytes than the memory has.
+fn read(addr: u64) -> Access {
+    Access {
+        kind: Kind::Read,
+        addr,
+        mask: 0,
+        fill: 0xee,
+    }
+}
+
+/// A write of the bytes whose bit in `mask` is set.
+fn write(addr: u64, mask: u64, fill: u8) -> Access {
+    Access {
+        kind: Kind::Write,
+        addr,
+        mask,
+        fill,
+    }
+}
+
+/// The request for an access, with its number.
+fn request(alloc: Global, config: &Config, number: u64, access: Access) -> Result<Req, Fail>
     ensures { IfOk result (λ r. IsServed config.now r.place) }
 {
-    let place = Map::new(config).place(addr).ok_or("outside the memory")?;
-    let line = Box::new(alloc, [fill; 64])?;
+    let place = Map::new(config)
+        .place(access.addr)
+        .ok_or("outside the memory")?;
+    let line = Box::new(alloc, [access.fill; 64])?;
     Ok(Req {
         port: 0,
-        number: 0,
+        number,
         echo: Echo {
-            kind,
-            addr,
+            kind: access.kind,
+            addr: access.addr,
             len: 64,
         },
         place,
-        mask,
+        mask: access.mask,
         line,
     })
 }
 
 /// Makes cycles until nothing is left, 100 at most, and takes the completions.
-fn finish(alloc: Global, channel: &mut Channel) -> Result<Vec<Done>, CycleError> {
+fn finish(alloc: Global, channel: &mut Channel) -> Result<Vec<Done>, CycleError>
+    ensures { channel.new.config ≡ channel.old.config }
+{
     let mut taken = Vec::new(alloc);
     for _ in 0..100 {
         if channel.is_empty() {
@@ -55,171 +112,110 @@ fn finish(alloc: Global, channel: &mut Channel) -> Result<Vec<Done>, CycleError>
     Ok(taken)
 }
 
-fn activate(cycle: u64, group: u32) -> Entry {
+/// The number of each request that came back, the cycle of its column command and that of its completion.
+fn times(alloc: Global, taken: &[Done]) -> Result<Vec<(u64, u64, u64)>, Fail> {
+    let mut times = Vec::new(alloc);
+    for done in taken {
+        times.push((done.number, done.issued, done.due))?;
+    }
+    Ok(times)
+}
+
+/// The line that came back with a number.
+fn line_of(taken: &[Done], number: u64) -> Option<Line> {
+    for done in taken {
+        if done.number == number {
+            return Some(*done.line);
+        }
+    }
+    None
+}
+
+/// What a channel made of requests that all stood before its first cycle.
+#[derive(Drop)]
+struct Run {
+    trace: Trace,
+    taken: Vec<Done>,
+}
+
+/// Admits a request for each access, with numbers from `first` on.
+fn admit_all(
+    alloc: Global,
+    config: &Config,
+    channel: &mut Channel,
+    first: u64,
+    accesses: &[Access],
+) -> Result<(), Fail>
+    requires { channel.old.config ≡ config.now }
+    ensures { channel.new.config ≡ config.now }
+{
+    for (number, access) in (first..).zip(accesses.iter()) {
+        let next = request(alloc, config, number, *access)?;
+        if channel.admit(next).is_err() {
+            return Err("the queue is full".into());
+        }
+    }
+    Ok(())
+}
+
+/// Admits requests for the accesses, numbered from 0, and makes cycles until nothing is left.
+fn serve(alloc: Global, config: &Config, accesses: &[Access]) -> Result<Run, Fail> {
+    let mut channel = Channel::open(alloc, config, 0)?;
+    admit_all(alloc, config, &mut channel, 0, accesses)?;
+    let taken = finish(alloc, &mut channel)?;
+    Ok(Run {
+        trace: channel.into_trace(),
+        taken,
+    })
+}
+
+fn act(cycle: u64, group: u32, bank: u32, row: u32) -> Entry {
     let command = Command::Act {
         rank: 0,
         group,
-        bank: 0,
-        row: 0,
-    };
-    Entry { cycle, command }
-}
-
-fn act(cycle: u64, row: u32) -> Entry {
-    let command = Command::Act {
-        rank: 0,
-        group: 0,
-        bank: 0,
+        bank,
         row,
     };
     Entry { cycle, command }
 }
 
-fn read(cycle: u64, row: u32) -> Entry {
+fn rd(cycle: u64, group: u32, bank: u32, row: u32, line: u32) -> Entry {
     let command = Command::Rd {
         rank: 0,
-        group: 0,
-        bank: 0,
+        group,
+        bank,
         row,
-        line: 0,
+        line,
     };
     Entry { cycle, command }
 }
 
-fn write(cycle: u64, row: u32) -> Entry {
+fn wr(cycle: u64, group: u32, bank: u32, row: u32, line: u32) -> Entry {
     let command = Command::Wr {
         rank: 0,
-        group: 0,
-        bank: 0,
+        group,
+        bank,
         row,
-        line: 0,
+        line,
     };
     Entry { cycle, command }
 }
 
-fn precharge(cycle: u64) -> Entry {
+fn pre(cycle: u64, group: u32, bank: u32) -> Entry {
     let command = Command::Pre {
         rank: 0,
-        group: 0,
-        bank: 0,
+        group,
+        bank,
     };
     Entry { cycle, command }
 }
 
-#[test]
-fn a_read_of_what_was_never_written(rt: HostRuntime) -> Result<(), Fail> {
-    let config = Config::read(rt.alloc(), PROFILE_S)?;
-    let mut channel = Channel::open(rt.alloc(), &config, 0)?;
-    let zeros = request(rt.alloc(), &config, Kind::Read, 0, 0, 255)?;
-    assert!(rt; channel.admit(zeros).is_ok());
-    let taken = finish(rt.alloc(), &mut channel)?;
-    assert_eq!(rt; channel.trace(), [act(0, 0), read(4, 0)].as_slice());
-    assert_eq!(rt; channel.now(), 13);
-    assert_eq!(rt; taken.len(), 1);
-    assert_eq!(rt; taken[0].issued, 4);
-    assert_eq!(rt; taken[0].due, 12);
-    assert_eq!(rt; *taken[0].line, [0; 64]);
-    Ok(())
+fn pre_all(cycle: u64) -> Entry {
+    let command = Command::PreAll { rank: 0 };
+    Entry { cycle, command }
 }
 
-#[test]
-fn a_read_of_what_was_written(rt: HostRuntime) -> Result<(), Fail> {
-    let config = Config::read(rt.alloc(), PROFILE_S)?;
-    let mut channel = Channel::open(rt.alloc(), &config, 0)?;
-    let first = request(rt.alloc(), &config, Kind::Write, 0, 0b1111, 0x11)?;
-    let second = request(rt.alloc(), &config, Kind::Write, 0, 0b111100, 0x22)?;
-    let third = request(rt.alloc(), &config, Kind::Read, 0, 0, 255)?;
-    assert!(rt; channel.admit(first).is_ok());
-    assert!(rt; channel.admit(second).is_ok());
-    assert!(rt; channel.admit(third).is_ok());
-    let taken = finish(rt.alloc(), &mut channel)?;
-    let commands = [act(0, 0), write(4, 0), write(9, 0), read(20, 0)];
-    assert_eq!(rt; channel.trace(), commands.as_slice());
-    assert_eq!(rt; channel.now(), 29);
-    assert_eq!(rt; taken.len(), 3);
-    assert_eq!(rt; taken[0].due, 11);
-    assert_eq!(rt; taken[2].due, 28);
-    assert_eq!(rt;
-        taken[2].line[..7],
-        [0x11, 0x11, 0x22, 0x22, 0x22, 0x22, 0][..]
-    );
-    Ok(())
-}
-
-#[test]
-fn another_row_is_opened(rt: HostRuntime) -> Result<(), Fail> {
-    let config = Config::read(rt.alloc(), PROFILE_S)?;
-    let mut channel = Channel::open(rt.alloc(), &config, 0)?;
-    let first = request(rt.alloc(), &config, Kind::Read, 0, 0, 0)?;
-    let second = request(rt.alloc(), &config, Kind::Read, 8192, 0, 0)?;
-    assert!(rt; channel.admit(first).is_ok());
-    assert!(rt; channel.admit(second).is_ok());
-    let taken = finish(rt.alloc(), &mut channel)?;
-    let commands = [
-        act(0, 0),
-        read(4, 0),
-        precharge(10),
-        act(14, 1),
-        read(18, 1),
-    ];
-    assert_eq!(rt; channel.trace(), commands.as_slice());
-    assert_eq!(rt; channel.now(), 27);
-    assert_eq!(rt; taken.len(), 2);
-    assert_eq!(rt; taken[1].due, 26);
-    let trace = channel.into_trace();
-    assert_eq!(rt; trace.start, 0);
-    assert_eq!(rt; trace.end, 27);
-    assert_eq!(rt; trace.entries.as_slice(), commands.as_slice());
-    Ok(())
-}
-
-/// The oldest request alone is served: the second bank's ACT comes once the first request is served, and its
-/// read CCD_S behind the first read at the soonest.
-#[test]
-fn a_request_to_another_bank(rt: HostRuntime) -> Result<(), Fail> {
-    let config = Config::read(rt.alloc(), PROFILE_S)?;
-    let mut channel = Channel::open(rt.alloc(), &config, 0)?;
-    let first = request(rt.alloc(), &config, Kind::Read, 0, 0, 0)?;
-    let second = request(rt.alloc(), &config, Kind::Read, 512, 0, 0)?;
-    assert!(rt; channel.admit(first).is_ok());
-    assert!(rt; channel.admit(second).is_ok());
-    let taken = finish(rt.alloc(), &mut channel)?;
-    assert_eq!(rt; taken.len(), 2);
-    assert_eq!(rt; channel.now(), 18);
-    let trace = channel.trace();
-    assert_eq!(rt; trace.len(), 4);
-    assert_eq!(rt; trace[0], activate(0, 0));
-    assert_eq!(rt; trace[1], read(4, 0));
-    assert_eq!(rt; trace[2], activate(5, 1));
-    assert_eq!(rt; trace[3].cycle, 9);
-    Ok(())
-}
-
-#[test]
-fn a_full_queue_hands_the_request_back(rt: HostRuntime) -> Result<(), Fail> {
-    let config = Config::read(rt.alloc(), PROFILE_S)?;
-    let mut channel = Channel::open(rt.alloc(), &config, 0)?;
-    for _ in 0..8 {
-        let next = request(rt.alloc(), &config, Kind::Read, 0, 0, 0)?;
-        assert!(rt; channel.room());
-        assert!(rt; channel.admit(next).is_ok());
-    }
-    assert!(rt; !channel.room());
-    let ninth = request(rt.alloc(), &config, Kind::Read, 0, 0, 0)?;
-    assert!(rt; channel.admit(ninth).is_err());
-    let writes = request(rt.alloc(), &config, Kind::Write, 0, 1, 0)?;
-    assert!(rt; channel.admit(writes).is_ok());
-    Ok(())
-}
-
-#[test]
-fn the_clock_is_spent(rt: HostRuntime) -> Result<(), Fail> {
-    let config = Config::read(rt.alloc(), PROFILE_S)?;
-    let mut channel = Channel::open(rt.alloc(), &config, (1 << 62) - 1)?;
-    assert_eq!(rt; channel.cycle(), Ok(()));
-    assert_eq!(rt; channel.now(), 1 << 62);
-    assert_eq!(rt; channel.cycle(), Err(CycleError::ClockSpent));
-    assert_eq!(rt; channel.now(), 1 << 62);
-    assert!(rt; channel.next_done().is_none());
-    Ok(())
+fn refresh(cycle: u64) -> Entry {
+    let command = Command::Refresh { rank: 0 };
+    Entry { cycle, command }
 }

@@ -7,30 +7,17 @@ use Rattle.std.proofs.lemmas.List.{length-append, take-append-le}
 use Rattle.std.proofs.lemmas.Option.{slice_get_within}
 use Rattle.ddr_timing.specs.declared.config.Config.{Config}
 use Rattle.ddr_address_map.specs.Requests.{Request, Completion}
-use Rattle.ddr_channel.specs.declared.choice.Choice.{Choice}
-use Rattle.ddr_channel.specs.declared.choice.Choice.TheVariants as choice
-use Rattle.ddr_channel.specs.Choice.{choice_of}
-use Rattle.ddr_channel.specs.declared.waiting.Waiting.{Waiting}
-use Rattle.ddr_channel.specs.Commands.{activate_at, precharge_at}
-use Rattle.ddr_timing.specs.declared.units.TheConstants.{CLOCK_STOP}
-use Rattle.ddr_channel.specs.Cycle.{after_cycle, completed, for_request, issued, recorded, served}
-use Rattle.ddr_channel.specs.History.{Call, Admit, Cycle, Pop, History, after_call, begun, run, with_owner}
+use Rattle.ddr_channel.specs.History.{Call, Admit, Cycle, Pop, History, after_call, begun, run}
 use Rattle.ddr_channel.specs.Kept.{Kept, state_of}
 use Rattle.ddr_channel.specs.Promise.{IsNextAnswer, StandsFor, answer_to}
-use Rattle.ddr_channel.specs.State.{State, is_queue_full}
+use Rattle.ddr_channel.specs.State.{is_queue_full}
+use Rattle.ddr_channel.proofs.StandsLemmas.{cycle_accepted}
 use Rattle.ddr_tool.specs.Progress.{Covers, IsHeld, admitted_by}
 use Rattle.ddr_tool.specs.Replies.{AreNumbered}
 
 -- one call more
 run_more : (config : Config) (start : ℕ) (calls : List Call) (call : Call) → run config start (calls ++ call ∷ []) ≡ after_call (run config start calls) call
 run_more config start calls call = fold-append after_call (begun config start) calls (call ∷ [])
-
--- an owner that is given changes no acceptance list
-owner_kept : (c : Choice) (h : History) → (with_owner c h).accepted ≡ h.accepted
-owner_kept choice.Nothing h = refl
-owner_kept (choice.Act place) h = refl
-owner_kept (choice.Pre place) h = refl
-owner_kept (choice.Column place) h = refl
 
 -- a channel of the same configuration and start, one call later
 pub record IsOneOn (old new : Kept) : Type 0 where
@@ -48,14 +35,9 @@ admission_adds old new calls r same stands room =
     one_on old new calls (Admit r) same ∙ rw not_full refl
 
 -- a cycle changes no acceptance list
-kept_by : (spent : Bool) (h after : History) → after.accepted ≡ h.accepted → (cond spent h after).accepted ≡ h.accepted
-kept_by true h after e = refl
-kept_by false h after e = e
-
 pub cycle_keeps : (old new : Kept) (calls : List Call) → IsOneOn old new → admitted_by new (calls ++ Cycle ∷ []) ≡ admitted_by old calls
 cycle_keeps old new calls same =
-    let h = run old.config old.start calls in
-    one_on old new calls Cycle same ∙ kept_by (h.state.now == CLOCK_STOP) h _ (owner_kept (choice_of (completed h.state)) h)
+    one_on old new calls Cycle same ∙ cycle_accepted (run old.config old.start calls)
 
 -- nor does a completion that is taken
 pub pop_keeps : (old new : Kept) (calls : List Call) → IsOneOn old new → admitted_by new (calls ++ Pop ∷ []) ≡ admitted_by old calls
@@ -147,20 +129,6 @@ front_taken held [] held_later done_later d first rest more = cc first
 front_taken held (e ∷ done) held_later done_later d first rest more =
     let same : d ≡ e = cc first in
     rw (more, rest, same) (append_assoc held (e ∷ []) done)
-
--- a cycle changes no first cycle
-for_request_start : (act : Request → State → State) → ((r : Request) (s : State) → (act r s).start ≡ s.start) → (w : Option Waiting) (s : State) → (for_request act w s).start ≡ s.start
-for_request_start act kept None s = refl
-for_request_start act kept (Some w) s = kept w.request s
-
-issued_start : (c : Choice) (s : State) → (issued c s).start ≡ s.start
-issued_start choice.Nothing s = refl
-issued_start (choice.Act place) s = for_request_start (λ r. recorded (activate_at r.place)) (λ r s. refl) (slice_get s.pending place) s
-issued_start (choice.Pre place) s = for_request_start (λ r. recorded (precharge_at r.place)) (λ r s. refl) (slice_get s.pending place) s
-issued_start (choice.Column place) s = for_request_start (served place) (λ r s. refl) (slice_get s.pending place) s
-
-pub cycle_start : (old new : Kept) → state_of new ≡ after_cycle (state_of old) → new.start ≡ old.start
-cycle_start old new made = ap (λ s. s.start) made ∙ issued_start (choice_of (completed (state_of old))) (completed (state_of old))
 
 -- what is held may be held while fewer wait
 pub held_later : (requests waiting later : List Request) (held : List Completion) → length later ≤ length waiting → AllByRecursion (IsHeld requests waiting) held → AllByRecursion (IsHeld requests later) held

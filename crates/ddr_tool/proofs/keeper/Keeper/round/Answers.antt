@@ -1,7 +1,8 @@
 -- The channel's requests stay those that the keeper was given, through its admissions, its cycle and its completions.
 use Rattle.std.proofs.Common.{arith, subst, sym}
 use Rattle.ddr_tool.specs.Progress.{Serves}
-use Rattle.ddr_tool.proofs.ServiceLemmas.{covers_cycled, cycle_start, held_later}
+use Rattle.ddr_channel.proofs.StandsLemmas.{cycle_start}
+use Rattle.ddr_tool.proofs.ServiceLemmas.{covers_cycled, held_later}
 use Rattle.ddr_tool.proofs.keeper.Keeper.round.Goals as goal
 
 pub returns-in_ok-collect_done-in-Ok-clause-serves : goal.returns-in_ok-collect_done-in-Ok-clause-serves
