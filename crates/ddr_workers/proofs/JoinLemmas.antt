@@ -55,7 +55,7 @@ module _ {S T : Type 0} where
   with_all_back-next (Put r) lists s = refl
   with_all_back-next (Take t) lists s = ap (λ l. Take (record t { back = l })) (append_assoc t.back lists (s.put ∷ []))
 
-module _ {S T : Type 0} (source : T → ℕ) (Proper : S → List T → Type 0) where
+module _ {S T : Type 0} (source : S → T → ℕ) (Proper : S → List T → Type 0) where
   -- A put side gives its pass back, after those of the lists
   gives_back_after : (pass : ℕ) (v₀ : View S T) (lists : List (List T)) (other : ℕ) (s : Putting S T) → IsAtWork v₀ → s.source ≡ length lists
       → Merges (Ruled source Proper) pass (with_all_back v₀ lists) other (Put s) (with_back (with_all_back v₀ lists) (Put s)) Gone
@@ -78,7 +78,7 @@ module _ {S T : Type 0} (source : T → ℕ) (Proper : S → List T → Type 0) 
 
   left_known : (v : View S T) (items : List T) → HasAllBack v → TellsTake source Proper v items → left_of v ≡ length items
   left_known (Take t) items h told =
-      let whole = total source t.back (t.took ++ items) (subst (λ n. All (λ x. source x < n) (t.took ++ items)) (sym h) told.made) told.back in
+      let whole = total (source t.purpose) t.back (t.took ++ items) (subst (λ n. All (λ x. source t.purpose x < n) (t.took ++ items)) (sym h) told.made) told.back in
       omega (arith, whole, length-append t.took items)
   left_known v items h told = absurd h
 
@@ -108,9 +108,9 @@ module _ {S T : Type 0} (source : T → ℕ) (Proper : S → List T → Type 0) 
   -- what a view tells of what is left, where all that was left is taken
   told_all : (v : View S T) (xs items : List T) → items ≡ [] → TellsTake source Proper (with_all_taken v xs) items → TellsTake source Proper v xs
   told_all (Take t) xs items none told = let whole : (t.took ++ xs) ++ items ≡ t.took ++ xs = ap (λ l. (t.took ++ xs) ++ l) none ∙ append-nil (t.took ++ xs) in record {
-    made = subst (All (λ x. source x < t.count)) whole told.made;
-    proper = λ p. subst (λ l. Proper t.purpose (of_source source Proper p l)) whole (told.proper p);
-    back = λ p h. ap (of_source source Proper p) (sym whole) ∙ told.back p h;
+    made = subst (All (λ x. source t.purpose x < t.count)) whole told.made;
+    proper = λ p. subst (λ l. Proper t.purpose (of_source source Proper t.purpose p l)) whole (told.proper p);
+    back = λ p h. ap (of_source source Proper t.purpose p) (sym whole) ∙ told.back p h;
   }
   told_all v xs items none told = tt
 

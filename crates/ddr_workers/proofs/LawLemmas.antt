@@ -36,12 +36,12 @@ at_back bs b p l = ⊎_elim (λ (h : p < length bs). inl (h, get_or-append bs (b
     (λ (h : length bs ≤ p). let e : p ≡ length bs = omega (arith, length-append bs (b ∷ [])) in inr (e, ap (λ k. get_or (bs ++ b ∷ []) k []) e ∙ get_or-append_seam bs b [] []))
     (cases_lt p (length bs))
 
-module _ {S T : Type 0} (source : T → ℕ) (Proper : S → List T → Type 0) where
-  one_own : (p : ℕ) (x : T) → source x ≡ p → of_source source Proper p (x ∷ []) ≡ x ∷ []
-  one_own p x e = rw (eq-eqb (source x) p e)
+module _ {S T : Type 0} (source : S → T → ℕ) (Proper : S → List T → Type 0) where
+  one_own : (c : S) (p : ℕ) (x : T) → source c x ≡ p → of_source source Proper c p (x ∷ []) ≡ x ∷ []
+  one_own c p x e = rw (eq-eqb (source c x) p e)
 
-  one_other : (p : ℕ) (x : T) → p ≢ source x → of_source source Proper p (x ∷ []) ≡ []
-  one_other p x n = rw (ne_eqb (source x) p (λ e. n (sym e)))
+  one_other : (c : S) (p : ℕ) (x : T) → p ≢ source c x → of_source source Proper c p (x ∷ []) ≡ []
+  one_other c p x n = rw (ne_eqb (source c x) p (λ e. n (sym e)))
 
   abbrev fresh_views : List (View S T)
   fresh_views = Unset ∷ []
@@ -121,89 +121,96 @@ module _ {S T : Type 0} (source : T → ℕ) (Proper : S → List T → Type 0) 
   -- A push: the list of its side grows by the item, and no other
   module _ (all : Shared S T) (x : T) where
     grown : Shared S T
-    grown = record all { put = λ p. all.put p ++ of_source source Proper p (x ∷ []) }
+    grown = record all { put = λ p. all.put p ++ of_source source Proper all.purpose p (x ∷ []) }
 
-    grown_other : (p : ℕ) → p ≢ source x → grown.put p ≡ all.put p
+    grown_other : (p : ℕ) → p ≢ source all.purpose x → grown.put p ≡ all.put p
     unfolding grown
-    grown_other p n = ap (λ l. all.put p ++ l) (one_other p x n) ∙ append-nil (all.put p)
+    grown_other p n = ap (λ l. all.put p ++ l) (one_other all.purpose p x n) ∙ append-nil (all.put p)
 
-    grown_own : (p : ℕ) → source x ≡ p → grown.put p ≡ all.put p ++ x ∷ []
+    grown_own : (p : ℕ) → source all.purpose x ≡ p → grown.put p ≡ all.put p ++ x ∷ []
     unfolding grown
-    grown_own p e = ap (λ l. all.put p ++ l) (one_own p x e)
+    grown_own p e = ap (λ l. all.put p ++ l) (one_own all.purpose p x e)
 
-    grown_proper : (p : ℕ) → (source x ≡ p → Proper all.purpose (all.put p ++ x ∷ [])) → Proper all.purpose (all.put p) → Proper all.purpose (grown.put p)
-    grown_proper p own before = ⊎_elim (λ (e : (eqb (source x) p ≡ true) × (source x ≡ p)). subst (Proper all.purpose) (sym (grown_own p e.1)) (own e.1))
-        (λ (e : (eqb (source x) p ≡ false) × (source x ≢ p)). subst (Proper all.purpose) (sym (grown_other p (λ q. e.1 (sym q)))) before) (eqb_tells (source x) p)
+    grown_proper : (p : ℕ) → (source all.purpose x ≡ p → Proper all.purpose (all.put p ++ x ∷ [])) → Proper all.purpose (all.put p) → Proper all.purpose (grown.put p)
+    grown_proper p own before = ⊎_elim (λ (e : (eqb (source all.purpose x) p ≡ true) × (source all.purpose x ≡ p)). subst (Proper all.purpose) (sym (grown_own p e.1)) (own e.1))
+        (λ (e : (eqb (source all.purpose x) p ≡ false) × (source all.purpose x ≢ p)). subst (Proper all.purpose) (sym (grown_other p (λ q. e.1 (sym q)))) before) (eqb_tells (source all.purpose x) p)
 
-    grown_fits : (pass : ℕ) (j : ℕ) (u : View S T) → all.putter (source x) ≡ some pass → j ≢ pass → Fits all j u → Fits grown j u
+    grown_fits : (pass : ℕ) (j : ℕ) (u : View S T) → all.putter (source all.purpose x) ≡ some pass → j ≢ pass → Fits all j u → Fits grown j u
     unfolding grown
     grown_fits pass j Unset seat apart f = f
     grown_fits pass j Gone seat apart f = f
     grown_fits pass j (Put s) seat apart f =
-        record { purpose = f.purpose; seat = f.seat; put = f.put ∙ sym (grown_other s.source (same_seat all.putter (source x) s.source pass j seat f.seat apart)) }
+        record { purpose = f.purpose; seat = f.seat; put = f.put ∙ sym (grown_other s.source (same_seat all.putter (source all.purpose x) s.source pass j seat f.seat apart)) }
     grown_fits pass j (Take t) seat apart f = record {
       purpose = f.purpose;
       seat = f.seat;
       took = f.took;
-      not_made = λ p h. ((f.not_made p h).0, grown_other p (taken_seat all.putter (source x) p pass seat (f.not_made p h).0) ∙ (f.not_made p h).1);
-      back = λ p h. ((f.back p h).0, (f.back p h).1 ∙ sym (grown_other p (taken_seat all.putter (source x) p pass seat (f.back p h).0)));
+      not_made = λ p h. ((f.not_made p h).0, grown_other p (taken_seat all.putter (source all.purpose x) p pass seat (f.not_made p h).0) ∙ (f.not_made p h).1);
+      back = λ p h. ((f.back p h).0, (f.back p h).1 ∙ sym (grown_other p (taken_seat all.putter (source all.purpose x) p pass seat (f.back p h).0)));
       back_made = f.back_made;
     }
 
-  pub pushes : (n pass : ℕ) (s : Putting S T) (x : T) → source x ≡ s.source → (Proper s.purpose s.put → Proper s.purpose (s.put ++ x ∷ []))
+  pub pushes : (n pass : ℕ) (s : Putting S T) (x : T) → source s.purpose x ≡ s.source → (Proper s.purpose s.put → Proper s.purpose (s.put ++ x ∷ []))
       → Pushes (Ruled source Proper) n pass (Put s) x (λ w. w ≡ with_put (Put s) x)
   unfolding grown
   pushes n pass s x own proper items views room h at =
       let k = told_put items views pass s h at in
       let mine : IsPutter k.all pass s = k.fits pass (Put s) at in
       let w : View S T = with_put (Put s) x in
-      let seat : k.all.putter (source x) ≡ some pass = ap k.all.putter own ∙ mine.seat in
-      let put : s.put ≡ k.all.put (source x) = mine.put ∙ ap k.all.put (sym own) in (
+      let here : source k.all.purpose x ≡ s.source = ap (λ c. source c x) (sym mine.purpose) ∙ own in
+      let seat : k.all.putter (source k.all.purpose x) ≡ some pass = ap k.all.putter here ∙ mine.seat in
+      let put : s.put ≡ k.all.put (source k.all.purpose x) = mine.put ∙ ap k.all.put (sym here) in (
         w,
         inr (record {
           all = grown k.all x;
-          order = λ p. ap (of_source source Proper p) (sym (append_assoc k.all.took items (x ∷ []))) ∙ filter-append (λ y. eqb (source y) p) (k.all.took ++ items) (x ∷ [])
-              ∙ ap (λ l. l ++ of_source source Proper p (x ∷ [])) (k.order p);
+          order = λ p. ap (of_source source Proper k.all.purpose p) (sym (append_assoc k.all.took items (x ∷ []))) ∙ filter-append (λ y. eqb (source k.all.purpose y) p) (k.all.took ++ items) (x ∷ [])
+              ∙ ap (λ l. l ++ of_source source Proper k.all.purpose p (x ∷ [])) (k.order p);
           proper = λ p. grown_proper k.all x p
               (λ e. subst (λ (y : S × List T). Proper y.0 (y.1 ++ x ∷ [])) (λ i. (mine.purpose i, (put ∙ ap k.all.put e) i))
               (proper (subst (λ (y : S × List T). Proper y.0 y.1) (λ i. (sym mine.purpose i, sym mine.put i)) (k.proper s.source))))
               (k.proper p);
           fits = each_set (Fits (grown k.all x)) views pass w
-              (record { purpose = mine.purpose; seat = mine.seat; put = ap (λ l. l ++ x ∷ []) mine.put ∙ sym (grown_own k.all x s.source own) })
+              (record { purpose = mine.purpose; seat = mine.seat; put = ap (λ l. l ++ x ∷ []) mine.put ∙ sym (grown_own k.all x s.source here) })
               (λ j u apart e. grown_fits k.all x pass j u seat apart (k.fits j u e));
         }),
         refl,
       )
 
   -- What the rule tells the sides
-  none_of : (x : T) (xs : List T) (p : ℕ) → of_source source Proper p (x ∷ xs) ≡ [] → of_source source Proper p xs ≡ []
-  none_of x xs p = none_behind (eqb (source x) p) where
-    none_behind : (b : Bool) → cond b (x ∷ of_source source Proper p xs) (of_source source Proper p xs) ≡ [] → of_source source Proper p xs ≡ []
+  none_of : (c : S) (x : T) (xs : List T) (p : ℕ) → of_source source Proper c p (x ∷ xs) ≡ [] → of_source source Proper c p xs ≡ []
+  none_of c x xs p = none_behind (eqb (source c x) p) where
+    none_behind : (b : Bool) → cond b (x ∷ of_source source Proper c p xs) (of_source source Proper c p xs) ≡ [] → of_source source Proper c p xs ≡ []
     none_behind true e = cc
     none_behind false e = e
 
-  some_of : (x : T) (xs : List T) (p : ℕ) → source x ≡ p → of_source source Proper p (x ∷ xs) ≢ []
-  some_of x xs p own = rw (eq-eqb (source x) p own) (λ e. cc)
+  pub some_of : (c : S) (x : T) (xs : List T) (p : ℕ) → source c x ≡ p → of_source source Proper c p (x ∷ xs) ≢ []
+  some_of c x xs p own = rw (eq-eqb (source c x) p own) (λ e. cc)
 
-  all_below : (count : ℕ) (xs : List T) → ((p : ℕ) → count ≤ p → of_source source Proper p xs ≡ []) → All (λ x. source x < count) xs
-  all_below count [] h = All-nil (λ x. source x < count)
-  all_below count (x ∷ xs) h = All-cons (λ x. source x < count) x xs
-      (⊎_elim (λ l. l) (λ (l : count ≤ source x). absurd (some_of x xs (source x) refl (h (source x) l))) (cases_lt (source x) count))
-      (all_below count xs (λ p m. none_of x xs p (h p m)))
+  all_below : (c : S) (count : ℕ) (xs : List T) → ((p : ℕ) → count ≤ p → of_source source Proper c p xs ≡ []) → All (λ x. source c x < count) xs
+  all_below c count [] h = All-nil (λ x. source c x < count)
+  all_below c count (x ∷ xs) h = All-cons (λ x. source c x < count) x xs
+      (⊎_elim (λ l. l) (λ (l : count ≤ source c x). absurd (some_of c x xs (source c x) refl (h (source c x) l))) (cases_lt (source c x) count))
+      (all_below c count xs (λ p m. none_of c x xs p (h p m)))
 
   tells_taker : (items : List T) (views : List (View S T)) (pass : ℕ) (t : Taking S T) → Kept source Proper items views → get_elem? views pass ≡ some (Take t) → Behind source Proper t items
-  tells_taker items views pass t k at = let mine : IsTaker k.all pass t = k.fits pass (Take t) at in let took = ap (λ l. l ++ items) mine.took in record {
-    made = all_below t.count (t.took ++ items) (λ p h. ap (of_source source Proper p) took ∙ k.order p ∙ (mine.not_made p h).1);
-    proper = λ p. subst (λ (y : S × List T). Proper y.0 y.1) (λ i. (sym mine.purpose i, (sym (k.order p) ∙ ap (of_source source Proper p) (sym took)) i)) (k.proper p);
-    back = λ p h. ap (of_source source Proper p) took ∙ k.order p ∙ sym (mine.back p h).1;
-  }
+  tells_taker items views pass t k at =
+      let mine : IsTaker k.all pass t = k.fits pass (Take t) at in
+      let put : (p : ℕ) → of_source source Proper t.purpose p (t.took ++ items) ≡ k.all.put p = λ p. (λ i. of_source source Proper (mine.purpose i) p (mine.took i ++ items)) ∙ k.order p in
+      record {
+        made = all_below t.purpose t.count (t.took ++ items) (λ p h. put p ∙ (mine.not_made p h).1);
+        proper = λ p. subst (λ (y : S × List T). Proper y.0 y.1) (λ i. (sym mine.purpose i, sym (put p) i)) (k.proper p);
+        back = λ p h. put p ∙ sym (mine.back p h).1;
+      }
 
   tells_putter : (items : List T) (views : List (View S T)) (pass : ℕ) (s : Putting S T) → Kept source Proper items views → get_elem? views pass ≡ some (Put s) → Before source Proper s items
-  tells_putter items views pass s k at = let mine : IsPutter k.all pass s = k.fits pass (Put s) at in record {
-    took = k.all.took;
-    own = k.order s.source ∙ sym mine.put;
-    proper = λ p. subst (λ (y : S × List T). Proper y.0 y.1) (λ i. (sym mine.purpose i, sym (k.order p) i)) (k.proper p);
-  }
+  tells_putter items views pass s k at =
+      let mine : IsPutter k.all pass s = k.fits pass (Put s) at in
+      let put : (p : ℕ) → of_source source Proper s.purpose p (k.all.took ++ items) ≡ k.all.put p = λ p. (λ i. of_source source Proper (mine.purpose i) p (k.all.took ++ items)) ∙ k.order p in
+      record {
+        took = k.all.took;
+        own = put s.source ∙ sym mine.put;
+        proper = λ p. subst (λ (y : S × List T). Proper y.0 y.1) (λ i. (sym mine.purpose i, sym (put p) i)) (k.proper p);
+      }
 
   pub learns_put : (pass : ℕ) (s : Putting S T) → Learns (Ruled source Proper) pass (Put s) (Before source Proper s)
   learns_put pass s items views h at = tells_putter items views pass s (told_put items views pass s h at) at
@@ -230,7 +237,7 @@ module _ {S T : Type 0} (source : T → ℕ) (Proper : S → List T → Type 0) 
         w,
         inr (record {
           all = after;
-          order = λ p. ap (of_source source Proper p) (append_assoc k.all.took (x ∷ []) items) ∙ k.order p;
+          order = λ p. ap (of_source source Proper k.all.purpose p) (append_assoc k.all.took (x ∷ []) items) ∙ k.order p;
           proper = k.proper;
           fits = each_set (Fits after) views pass w
               (record { purpose = mine.purpose; seat = mine.seat; took = ap (λ l. l ++ x ∷ []) mine.took; not_made = mine.not_made; back = mine.back; back_made = mine.back_made })

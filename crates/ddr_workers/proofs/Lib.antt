@@ -1,7 +1,8 @@
+pub mod ItemLemmas
 pub mod JoinLemmas
 pub mod LawLemmas
-pub mod LeftLemmas
 pub mod RequestLemmas
 pub mod SideLemmas
+pub mod StepLemmas
 pub mod TotalLemmas
-pub mod TwoPortLemmas
+pub mod TwoSideLemmas

@@ -105,15 +105,15 @@ Fits all pass (Take t) = IsTaker all pass t
 Fits all pass Gone = Unit {0}
 
 -- `source` tells from which put side an item is, and `Proper` is what each side keeps of its list
-module _ {S T : Type 0} (source : T → ℕ) (Proper : S → List T → Type 0) where
+module _ {S T : Type 0} (source : S → T → ℕ) (Proper : S → List T → Type 0) where
   -- the items of one put side, in order
-  abbrev pub of_source : ℕ → List T → List T
-  of_source p xs = filter (λ x. source x == p) xs
+  abbrev pub of_source : S → ℕ → List T → List T
+  of_source purpose p xs = filter (λ x. source purpose x == p) xs
 
   -- once a queue is told what it is for
   pub record Kept (items : List T) (views : List (View S T)) : Type 0 where
     pub all : Shared S T
-    pub order : (p : ℕ) → of_source p (all.took ++ items) ≡ all.put p
+    pub order : (p : ℕ) → of_source all.purpose p (all.took ++ items) ≡ all.put p
     pub proper : (p : ℕ) → Proper all.purpose (all.put p)
     pub fits : (pass : ℕ) (v : View S T) → get_elem? views pass ≡ some v → Fits all pass v
 
@@ -125,15 +125,15 @@ module _ {S T : Type 0} (source : T → ℕ) (Proper : S → List T → Type 0) 
   -- its own list, and proper lists of the others
   pub record Before (s : Putting S T) (items : List T) : Type 0 where
     pub took : List T
-    pub own : of_source s.source (took ++ items) ≡ s.put
-    pub proper : (p : ℕ) → Proper s.purpose (of_source p (took ++ items))
+    pub own : of_source s.purpose s.source (took ++ items) ≡ s.put
+    pub proper : (p : ℕ) → Proper s.purpose (of_source s.purpose p (took ++ items))
 
   -- What it tells the take side: with what was taken, they are of the sides that were made, whose lists are
   -- proper, and of those that came back they are all that was put
   pub record Behind (t : Taking S T) (items : List T) : Type 0 where
-    pub made : All (λ x. source x < t.count) (t.took ++ items)
-    pub proper : (p : ℕ) → Proper t.purpose (of_source p (t.took ++ items))
-    pub back : (p : ℕ) → p < length t.back → of_source p (t.took ++ items) ≡ slice_index_or t.back p []
+    pub made : All (λ x. source t.purpose x < t.count) (t.took ++ items)
+    pub proper : (p : ℕ) → Proper t.purpose (of_source t.purpose p (t.took ++ items))
+    pub back : (p : ℕ) → p < length t.back → of_source t.purpose p (t.took ++ items) ≡ slice_index_or t.back p []
 
   -- what a side learns at a push that finds full, and at a pop
   abbrev pub TellsPut : View S T → List T → Type 0

@@ -1,3 +1,3 @@
 pub mod Law
 pub mod Requests
-pub mod RequestSides
+pub mod Sides

@@ -1,13 +1,14 @@
 -- What goes through a request queue, and what the list of a port's items keeps.
-use Rattle.std.specs.Prelude.{◌≡◌, ℕ, ◌==◌, Bool, true, false, List, [], ◌∷◌, filter, All, Some}
+use Rattle.std.specs.Prelude.{◌≡◌, ℕ, ◌<◌, ◌==◌, Bool, true, false, List, [], ◌∷◌, filter, All, Some}
 use Rattle.std.specs.List.{list_any}
 use Rattle.ddr_address_map.specs.Map.{place_of}
 use Rattle.ddr_address_map.specs.Requests as records
+use Rattle.ddr_workers.specs.Sides as sides
 use Rattle.ddr_workers.specs.declared.requests.Item.{Item}
 use Rattle.ddr_workers.specs.declared.requests.Item.TheVariants.{Request, End}
-use Rattle.ddr_workers.specs.declared.requests.steps.Route.{Route}
+use Rattle.ddr_workers.specs.declared.requests.Route.{Route}
 
--- the port that an item is of
+-- the port that an item is of, which is the put side that it comes from
 abbrev pub port_of : Item → ℕ
 port_of (Request r) = r.port
 port_of (End p) = p
@@ -43,3 +44,21 @@ IsPlacedItem route (End p) = Unit {0}
 pub record IsProper (route : Route) (items : List Item) : Type 0 where
   pub ends : ends_last items ≡ true
   pub placed : All (IsPlacedItem route) items
+
+-- What a push that finds the queue full tells of its port, and a pop that finds it empty
+abbrev pub WasFull : sides.PutSide Route Item → Type 0
+WasFull s = sides.WasFull (λ _. port_of) IsProper s
+
+abbrev pub WasEmpty : sides.TakeSide Route Item → Type 0
+WasEmpty t = sides.WasEmpty (λ _. port_of) IsProper t
+
+-- An item that a pop gives is of one of the ports, its request stands at the right place, and its port has
+-- not ended before
+pub record IsNext (t : sides.TakeSide Route Item) (x : Item) : Type 0 where
+  pub port : port_of x < t.who.count
+  pub placed : IsPlacedItem t.who.queue.purpose x
+  pub before_end : has_end (of_port (port_of x) t.took) ≡ false
+
+-- What the queue held at its end, port by port
+abbrev pub IsLeft : List (sides.PutSide Route Item) → sides.TakeSide Route Item → List Item → Type 0
+IsLeft puts take left = sides.IsLeft (λ _. port_of) IsProper puts take left

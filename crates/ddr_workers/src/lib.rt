@@ -1,12 +1,15 @@
 //! Ports and channels in threads: the queues between them.
 //!
 //! Below stand the requests (`ddr_address_map`) and the configuration (`ddr_timing`). `requests` has the queue
-//! that leads from every port to one channel; `law` has what its sides know of each other, which the queue's
-//! rule speaks of.
+//! that leads from every port to one channel; `lane` is the queue with several put sides and one take side that it
+//! is made of, and `law` what the sides know of each other, which the queue's rule speaks of.
 #![tactic(auto)]
 
 mod error;
+mod lane;
 mod law;
 pub mod requests;
+#[cfg(test)]
+mod testing;
 
 pub use error::OpenError;

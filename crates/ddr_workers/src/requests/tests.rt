@@ -2,12 +2,12 @@
 ghost use Rattle.std.specs.Prelude.{◌≡◌, ◌<◌, ◌^◌, false, [], ◌∷◌, ◌++◌, IfOk, IfSome};
 ghost use Rattle.std.specs.Thread.{IsSync};
 ghost use Rattle.ddr_workers.specs.Requests.{has_end, IsPlaced};
-ghost use Rattle.ddr_workers.specs.RequestSides.{AreSides};
+ghost use Rattle.ddr_workers.specs.Sides.{AreSides};
 
 use super::*;
+use crate::testing::{TRIES, config_with};
 use ddr_address_map::map::Map;
 use ddr_address_map::request::{Echo, Kind};
-use ddr_timing::profile::PROFILE_S;
 use ddr_timing::units::LINE_BYTES;
 use std::alloc::AllocError;
 use std::test::Fail;
@@ -16,23 +16,6 @@ use std::thread::Threads;
 
 /// The requests that each port pushes.
 const REQUESTS: u64 = 100;
-
-/// How often a push or a pop is tried.
-const TRIES: u32 = 10_000_000;
-
-/// Profile S, which has two ports, with another intake.
-fn config_with(alloc: Global, intake: &str) -> Result<Config, Fail> {
-    let mut text = String::new(alloc);
-    for line in PROFILE_S.lines() {
-        if line.starts_with("intake ") {
-            text.push_str(intake)?;
-        } else {
-            text.push_str(line)?;
-        }
-        text.push('\n')?;
-    }
-    Ok(Config::read(alloc, text.as_str())?)
-}
 
 /// A read of the line with the request's number, which profile S has on channel 0.
 fn request(alloc: Global, config: &Config, port: u32, number: u64) -> Option<Req>
@@ -62,8 +45,8 @@ fn request(alloc: Global, config: &Config, port: u32, number: u64) -> Option<Req
 
 /// Pushes a request, in as many tries as there may be.
 fn push_in_time<R: Wait>(rt: &R, side: &mut RequestPut, mut request: Req) -> bool
-    requires own { request.port ≡ side.old.who.port }
-    requires placed { IsPlaced side.old.who.queue.route request }
+    requires own { request.port ≡ side.old.who.source }
+    requires placed { IsPlaced side.old.who.queue.purpose request }
     requires before_end { has_end side.old.put ≡ false }
     ensures who { side.new.who ≡ side.old.who }
     ensures before_end { has_end side.new.put ≡ false }
@@ -88,8 +71,8 @@ fn push_all<R: Wait>(
     port: u32,
     mut side: RequestPut,
 ) -> (RequestPut, bool)
-    requires port { side.who.port ≡ port }
-    requires route { side.who.queue.route ≡ record { geometry = config.now.geometry; channel = 0 } }
+    requires port { side.who.source ≡ port }
+    requires route { side.who.queue.purpose ≡ record { geometry = config.now.geometry; channel = 0 } }
     requires before_end { has_end side.put ≡ false }
     ensures { result.0.who ≡ side.who }
 {
@@ -148,23 +131,23 @@ fn push_both<R: Threads + Wait + Sync>(
     first: RequestPut,
     second: RequestPut,
 ) -> Pushed
-    requires ports { (first.who.port ≡ 0) × (second.who.port ≡ 1) }
-    requires first { first.who.queue.route ≡ record { geometry = config.now.geometry; channel = 0 } }
-    requires second { second.who.queue.route ≡ record { geometry = config.now.geometry; channel = 0 } }
+    requires ports { (first.who.source ≡ 0) × (second.who.source ≡ 1) }
+    requires first { first.who.queue.purpose ≡ record { geometry = config.now.geometry; channel = 0 } }
+    requires second { second.who.queue.purpose ≡ record { geometry = config.now.geometry; channel = 0 } }
     requires before_end { (has_end first.put ≡ false) × (has_end second.put ≡ false) }
     ensures { (result.0.0.who ≡ first.who) × (result.1.0.who ≡ second.who) }
 {
     thread::join(
         rt,
         move || -> (RequestPut, bool)
-            requires port { first.who.port ≡ 0 }
-            requires route { first.who.queue.route ≡ record { geometry = config.now.geometry; channel = 0 } }
+            requires port { first.who.source ≡ 0 }
+            requires route { first.who.queue.purpose ≡ record { geometry = config.now.geometry; channel = 0 } }
             requires before_end { has_end first.put ≡ false }
             ensures { result.0.who ≡ first.who }
         { push_all(rt, alloc, config, 0, first) },
         move || -> (RequestPut, bool)
-            requires port { second.who.port ≡ 1 }
-            requires route { second.who.queue.route ≡ record { geometry = config.now.geometry; channel = 0 } }
+            requires port { second.who.source ≡ 1 }
+            requires route { second.who.queue.purpose ≡ record { geometry = config.now.geometry; channel = 0 } }
             requires before_end { has_end second.put ≡ false }
             ensures { result.0.who ≡ second.who }
         { push_all(rt, alloc, config, 1, second) },
@@ -188,9 +171,9 @@ fn exchanged<R: Threads + Wait + Sync>(
     second: RequestPut,
     take: RequestTake,
 ) -> Result<Exchange, AllocError>
-    requires ports { (first.who.port ≡ 0) × (second.who.port ≡ 1) }
-    requires first { first.who.queue.route ≡ record { geometry = config.now.geometry; channel = 0 } }
-    requires second { second.who.queue.route ≡ record { geometry = config.now.geometry; channel = 0 } }
+    requires ports { (first.who.source ≡ 0) × (second.who.source ≡ 1) }
+    requires first { first.who.queue.purpose ≡ record { geometry = config.now.geometry; channel = 0 } }
+    requires second { second.who.queue.purpose ≡ record { geometry = config.now.geometry; channel = 0 } }
     requires before_end { (has_end first.put ≡ false) × (has_end second.put ≡ false) }
     requires sides { AreSides (first ∷ second ∷ []) take }
 {
@@ -200,9 +183,9 @@ fn exchanged<R: Threads + Wait + Sync>(
         rt,
         move || -> Pushed
             requires sync { IsSync R.row }
-            requires ports { (first.who.port ≡ 0) × (second.who.port ≡ 1) }
-            requires first { first.who.queue.route ≡ record { geometry = config.now.geometry; channel = 0 } }
-            requires second { second.who.queue.route ≡ record { geometry = config.now.geometry; channel = 0 } }
+            requires ports { (first.who.source ≡ 0) × (second.who.source ≡ 1) }
+            requires first { first.who.queue.purpose ≡ record { geometry = config.now.geometry; channel = 0 } }
+            requires second { second.who.queue.purpose ≡ record { geometry = config.now.geometry; channel = 0 } }
             requires before_end { (has_end first.put ≡ false) × (has_end second.put ≡ false) }
             ensures { (result.0.0.who ≡ first.who) × (result.1.0.who ≡ second.who) }
         { push_both(rt, alloc, config, first, second) },
@@ -226,9 +209,9 @@ type Sides = (RequestPut, RequestPut, RequestTake);
 
 /// Opens the queue to channel 0, of two ports.
 fn two_ports(alloc: Global, config: &Config) -> Result<Sides, Fail>
-    ensures ports { IfOk result (λ s. (s.0.who.port ≡ 0) × (s.1.who.port ≡ 1)) }
-    ensures first { IfOk result (λ s. s.0.who.queue.route ≡ record { geometry = config.now.geometry; channel = 0 }) }
-    ensures second { IfOk result (λ s. s.1.who.queue.route ≡ record { geometry = config.now.geometry; channel = 0 }) }
+    ensures ports { IfOk result (λ s. (s.0.who.source ≡ 0) × (s.1.who.source ≡ 1)) }
+    ensures first { IfOk result (λ s. s.0.who.queue.purpose ≡ record { geometry = config.now.geometry; channel = 0 }) }
+    ensures second { IfOk result (λ s. s.1.who.queue.purpose ≡ record { geometry = config.now.geometry; channel = 0 }) }
     ensures before_end { IfOk result (λ s. (has_end s.0.put ≡ false) × (has_end s.1.put ≡ false)) }
     ensures sides { IfOk result (λ s. AreSides (s.0 ∷ s.1 ∷ []) s.2) }
 {
@@ -268,8 +251,8 @@ fn offer<R: Wait>(
     number: u64,
 ) -> Result<Option<u64>, Fail>
     requires number { number < 2 ^ 32 }
-    requires port { side.old.who.port ≡ 0 }
-    requires route { side.old.who.queue.route ≡ record { geometry = config.now.geometry; channel = 0 } }
+    requires port { side.old.who.source ≡ 0 }
+    requires route { side.old.who.queue.purpose ≡ record { geometry = config.now.geometry; channel = 0 } }
     requires before_end { has_end side.old.put ≡ false }
     ensures who { side.new.who ≡ side.old.who }
     ensures before_end { has_end side.new.put ≡ false }
@@ -289,7 +272,7 @@ fn number_of(item: Item) -> Option<u64> {
 
 #[test]
 fn one_place_is_full_and_empty_again(rt: HostRuntime) -> Result<(), Fail> {
-    let config = config_with(rt.alloc(), "intake = 1")?;
+    let config = config_with(rt.alloc(), "intake ", "intake = 1")?;
     let (mut first, mut second, mut take) = two_ports(rt.alloc(), &config)?;
     let mut puts = Vec::with_capacity(rt.alloc(), 2)?;
     assert!(rt; take.pop(&rt).is_none());
@@ -308,7 +291,7 @@ fn one_place_is_full_and_empty_again(rt: HostRuntime) -> Result<(), Fail> {
 
 #[test]
 fn three_threads_hand_over_in_order(rt: HostRuntime) -> Result<(), Fail> {
-    let config = config_with(rt.alloc(), "intake = 1")?;
+    let config = config_with(rt.alloc(), "intake ", "intake = 1")?;
     let (first, second, take) = two_ports(rt.alloc(), &config)?;
     let exchange = exchanged(&rt, rt.alloc(), &config, first, second, take)?;
     assert!(rt; exchange.all_pushed);

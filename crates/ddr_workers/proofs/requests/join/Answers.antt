@@ -1,5 +1,5 @@
-use Rattle.ddr_workers.proofs.LeftLemmas.{is_left_at}
+use Rattle.ddr_workers.proofs.RequestLemmas.{nothing_left}
 use Rattle.ddr_workers.proofs.requests.join.Goals as goal
 
-pub returns : goal.returns
-returns g c = is_left_at _ _ _ _ _ _ c.requires c.take.view_is c.take.invariant.knows c.give_back.ensures.back c.drain.ensures
+pub returns-clause-ended : goal.returns-clause-ended
+returns-clause-ended g c = nothing_left c.args.take c.join.result.items c.join.ensures.proper

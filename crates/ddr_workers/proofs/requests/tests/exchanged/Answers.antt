@@ -1,5 +1,5 @@
 use Rattle.std.proofs.Common.{◌≡◌, rules, ◌∷◌, []}
-use Rattle.ddr_workers.proofs.TwoPortLemmas.{still_sides}
+use Rattle.ddr_workers.proofs.TwoSideLemmas.{still_sides}
 use Rattle.ddr_workers.proofs.requests.tests.exchanged.Goals as goal
 
 pub join-requires : goal.join-requires

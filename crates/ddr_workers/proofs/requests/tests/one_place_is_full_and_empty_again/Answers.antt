@@ -1,5 +1,5 @@
 use Rattle.std.proofs.Common.{◌≡◌, rules, ◌∷◌, [], ◌∙◌}
-use Rattle.ddr_workers.proofs.TwoPortLemmas.{still_sides}
+use Rattle.ddr_workers.proofs.TwoSideLemmas.{still_sides}
 use Rattle.ddr_workers.proofs.requests.tests.one_place_is_full_and_empty_again.Goals as goal
 
 pub join-left-requires : goal.join-left-requires

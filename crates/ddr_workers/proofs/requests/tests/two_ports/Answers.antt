@@ -1,16 +1,20 @@
-use Rattle.std.proofs.Common.{◌≡◌, rules, ◌∷◌, [], subst}
-use Rattle.ddr_workers.specs.RequestSides.{AreOpened}
-use Rattle.ddr_workers.proofs.TwoPortLemmas.{new_ports, new_first, new_second, no_ends}
+use Rattle.std.proofs.Common.{◌≡◌, rules, ◌∷◌, [], subst, ap}
+use Rattle.ddr_workers.specs.Requests.{has_end}
+use Rattle.ddr_workers.specs.declared.requests.Route.{Route}
+use Rattle.ddr_workers.specs.Sides.{AreOpened}
+use Rattle.ddr_workers.proofs.TwoSideLemmas.{new_sources, new_purposes, nothing_put}
 use Rattle.ddr_workers.proofs.requests.tests.two_ports.Goals as goal
 
 pub returns : goal.returns
 returns c =
     let items : c.in_ok-puts.puts.items ≡ c.in_ok-first.first ∷ c.in_ok-second.second ∷ [] = search rules in
-    let opened = subst (λ l. AreOpened c.args.config.now 0 l c.in_ok-puts.take) items c.in_ok-puts.ensures in
+    let config = c.args.config.now in
+    let opened = subst (λ l. AreOpened {S = Route} (record { geometry = config.geometry; channel = 0 }) config.limits.intake config.limits.ports l c.in_ok-puts.take) items c.in_ok-puts.ensures in
+    let put = nothing_put _ _ _ _ _ _ opened in
     record {
-      ports = new_ports _ _ _ _ _ opened;
-      first = new_first _ _ _ _ _ opened;
-      second = new_second _ _ _ _ _ opened;
-      before_end = no_ends _ _ _ _ _ opened;
+      ports = new_sources _ _ _ _ _ _ opened;
+      first = (new_purposes _ _ _ _ _ _ opened).0;
+      second = (new_purposes _ _ _ _ _ _ opened).1;
+      before_end = (ap has_end put.0, ap has_end put.1);
       sides = opened.sides;
     }
