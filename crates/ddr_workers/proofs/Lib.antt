@@ -1,3 +1,4 @@
+pub mod CompletionLemmas
 pub mod ItemLemmas
 pub mod JoinLemmas
 pub mod LawLemmas

@@ -1,3 +1,4 @@
+pub mod Completions
 pub mod Law
 pub mod Requests
 pub mod Sides
