@@ -1,8 +1,8 @@
 -- Every choice is lawful.
-use Rattle.std.proofs.Common.{◌≡◌, ℕ, ◌<◌, ◌≤◌, Bool, true, false, ◌&&◌, ◌||◌, not, cond, eqb, ltb, leb, List, [], ◌∷◌, length, Option, Some, None, refl, sym, ap, ◌∙◌, inl, inr, arith}
+use Rattle.std.proofs.Common.{◌≡◌, ℕ, ◌≤◌, Bool, true, false, ◌&&◌, not, cond, eqb, ltb, leb, List, [], ◌∷◌, length, Option, Some, None, refl, sym, ap, ◌∙◌, inl, inr, arith}
 use Rattle.std.specs.List.{filter, find, list_all, slice_get, range_with_len}
-use Rattle.std.specs.Option.{option_map_or, IfSome}
-use Rattle.std.proofs.lemmas.Bool.{and_parts, and_from, or_cases, not-true, ltb-true, leb-true, eqb-true, eq-eqb, cases_Bool, true≢false, false≢true}
+use Rattle.std.specs.Option.{option_map_or}
+use Rattle.std.proofs.lemmas.Bool.{and_parts, and_from, or_cases, not-true, ltb-true, leb-true, eqb-true, cases_Bool, false≢true}
 use Rattle.std.proofs.lemmas.Option.{slice_get_within}
 use Rattle.ddr_legality.specs.Bus.{is_legal_now}
 use Rattle.ddr_hazards.specs.declared.waiting.Waiting.{Waiting}
@@ -10,9 +10,9 @@ use Rattle.ddr_hazards.specs.Hazards.{is_blocked}
 use Rattle.ddr_refresh.specs.Refreshes.{Refreshes, debt_of, is_forced}
 use Rattle.ddr_arbiter.specs.declared.choice.Choice.{Choice}
 use Rattle.ddr_arbiter.specs.declared.choice.Choice.TheVariants as choice
-use Rattle.ddr_arbiter.specs.Choice.{passes_at, is_rank_forced, some_bank_active, refresh_choice, unblocked, is_oldest_capped, of_kind, served_kind, or_all, candidates_of, can_column, can_activate, can_precharge, row_choice_at, row_choice, is_something, column_place, access_choice, choice_of}
+use Rattle.ddr_arbiter.specs.Choice.{passes_at, is_rank_forced, some_bank_active, refresh_choice, unblocked, is_oldest_capped, of_kind, served_kind, or_all, candidates_of, can_column, can_activate, can_precharge, row_choice_at, row_choice, is_something, choice_of}
 use Rattle.ddr_arbiter.specs.Commands.{precharge_all, refresh}
-use Rattle.ddr_arbiter.specs.Laws.{place_of, column_place_of, IsLawful}
+use Rattle.ddr_arbiter.specs.Laws.{IsLawful}
 use Rattle.ddr_arbiter.specs.Situation.{Situation}
 
 -- what passes a test is in the list

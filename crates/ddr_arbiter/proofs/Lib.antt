@@ -4,3 +4,4 @@ pub mod CommandLemmas
 pub mod LawLemmas
 pub mod PlaceLemmas
 pub mod RefreshLemmas
+pub mod WantedLemmas

@@ -1,21 +1,12 @@
 -- Lemmas on places of a list that pass a test.
-use Rattle.std.proofs.Common.{◌≡◌, ◌↔◌, ℕ, zero, suc, ◌+◌, ◌<◌, ◌≤◌, Bool, true, false, ◌&&◌, ◌||◌, not, eqb, cond, List, [], ◌∷◌, ◌++◌, length, take, get_or, Option, Some, None, refl, sym, ap, ap₂, ◌∙◌, inl, inr, arith, add-one}
-use Rattle.std.specs.List.{filter, find, list_any, range_with_len, slice_get}
+use Rattle.std.proofs.Common.{◌≡◌, ℕ, zero, suc, ◌+◌, ◌<◌, ◌≤◌, Bool, true, false, cond, List, [], ◌∷◌, ◌++◌, length, take, get_or, Some, None, refl, sym, ap, ◌∙◌, arith, add-one}
+use Rattle.std.specs.List.{filter, find, range_with_len}
 use Rattle.std.specs.Option.{option_map_or}
-use Rattle.std.proofs.lemmas.Bool.{eq-eqb, ne_eqb, cases_eq, cases_Bool}
 use Rattle.std.proofs.lemmas.List.Elements.{filter-append, filter_more}
 use Rattle.std.proofs.lemmas.List.FromFn.{length-range_with_len}
-use Rattle.ddr_trace.specs.declared.command.Command.TheVariants.{Act}
-use Rattle.ddr_trace.specs.Rules.{is_row_open, IsOpenRow}
-use Rattle.ddr_legality.specs.Bus.{Bus, is_legal_now}
-use Rattle.ddr_address_map.specs.declared.place.Place.{Place}
-use Rattle.ddr_hazards.specs.declared.waiting.Waiting.{Waiting}
 use Rattle.ddr_arbiter.specs.declared.choice.Choice.{Choice}
 use Rattle.ddr_arbiter.specs.declared.choice.Choice.TheVariants as choice
-use Rattle.ddr_arbiter.specs.Choice.{passes_at, or_all, is_something, wants_open_row, is_open_row_wanted, can_precharge, is_on_other_row}
-use Rattle.ddr_arbiter.specs.Commands.{precharge_at}
-use Rattle.ddr_arbiter.specs.Rows.{is_in_row}
-use Rattle.ddr_arbiter.proofs.CommandLemmas.{on_row}
+use Rattle.ddr_arbiter.specs.Choice.{or_all, is_something}
 
 -- lists of places
 
@@ -79,13 +70,6 @@ pub or_all-some : (some all : List ℕ) → (some ≡ [] → ⊥) → some ≡ o
 or_all-some [] all there = absurd (there refl)
 or_all-some (x ∷ xs) all there = refl
 
--- a list is empty where its length is 0
-pub empty_length : {X : Type 0} (empty : Bool) (xs : List X) → (empty ≡ true) ↔ (xs ≡ []) → empty ≡ eqb (length xs) 0
-empty_length true [] is = refl
-empty_length false [] is = absurd (let wrong : false ≡ true = is.1 refl in cc)
-empty_length true (x ∷ xs) is = absurd (let wrong : x ∷ xs ≡ [] = is.0 refl in cc)
-empty_length false (x ∷ xs) is = sym (ne_eqb (length (x ∷ xs)) 0 (λ same. absurd (omega (arith, same))))
-
 -- the oldest choice
 
 settled : (test : ℕ → Bool) (x : ℕ) (xs : List ℕ) → (w : Bool) → test x ≡ w → find test (x ∷ xs) ≡ None → (test x ≡ false) × (find test xs ≡ None)
@@ -120,44 +104,3 @@ choice_here f xs i d within none here =
 
 pub choice_nowhere : (f : ℕ → Choice) (xs : List ℕ) → find (λ place. is_something (f place)) xs ≡ None → choice.Nothing ≡ first_choice f xs
 choice_nowhere f xs none = sym (ap (λ o. option_map_or f o choice.Nothing) none)
-
--- wanted rows
-
-passes_alike : (f g : Waiting → Bool) → ((w : Waiting) → f w ≡ g w) → (o : Option Waiting) → option_map_or f o false ≡ option_map_or g o false
-passes_alike f g same None = refl
-passes_alike f g same (Some w) = same w
-
-list_any-alike : (f g : ℕ → Bool) → ((x : ℕ) → f x ≡ g x) → (xs : List ℕ) → list_any f xs ≡ list_any g xs
-list_any-alike f g same [] = refl
-list_any-alike f g same (x ∷ xs) = ap₂ ◌||◌ (same x) (list_any-alike f g same xs)
-
--- a request wants the row that is open in a bank where its place is in that row
-wants_row : (b : Bus) (p q : Place) (row : ℕ) → IsOpenRow b.trace p.group p.bank (Some row) → is_in_row (record p { row = row }) q ≡ wants_open_row b p q
-wants_row b p q row is = elim (cases_eq q.group p.group) [
-  | inr other ↦ rw (ne_eqb q.group p.group other) refl
-  | inl group ↦ elim (cases_eq q.bank p.bank) [
-    | inr other ↦ rw (eq-eqb q.group p.group group, ne_eqb q.bank p.bank other) refl
-    | inl bank ↦
-        let opened : is_row_open b.trace (Act 0 q.group q.bank q.row) ≡ eqb q.row row = ap₂ (λ g k. is_row_open b.trace (Act 0 g k q.row)) group bank ∙ is q.row in
-        rw (eq-eqb q.group p.group group, eq-eqb q.bank p.bank bank) (sym opened)
-  ]
-]
-
-pub wanted_row : (b : Bus) (waiting : List Waiting) (places : List ℕ) (p : Place) (row : ℕ) → IsOpenRow b.trace p.group p.bank (Some row) →
-    list_any (passes_at (λ w. is_in_row (record p { row = row }) w.request.place) waiting) places ≡ is_open_row_wanted b waiting places p
-wanted_row b waiting places p row is =
-    list_any-alike _ _ (λ place. passes_alike _ _ (λ w. wants_row b p w.request.place row is) (slice_get waiting place)) places
-
-and_true : (x : Bool) → (x && true) ≡ x
-and_true true = refl
-and_true false = refl
-
--- where the open row is another one and PRE is legal, it depends on whether the row is wanted
-pub precharge_unwanted : (b : Bus) (waiting : List Waiting) (places : List ℕ) (p : Place) (row : ℕ) (wanted : Bool) → IsOpenRow b.trace p.group p.bank (Some row) →
-    eqb row p.row ≡ false → is_legal_now b (precharge_at p) ≡ true →
-    wanted ≡ list_any (passes_at (λ w. is_in_row (record p { row = row }) w.request.place) waiting) places →
-    not wanted ≡ can_precharge b waiting places p
-precharge_unwanted b waiting places p row wanted is other legal found =
-    let moved : is_on_other_row b p ≡ true = on_row b p row is ∙ ap not other in
-    let same : wanted ≡ is_open_row_wanted b waiting places p = found ∙ wanted_row b waiting places p row is in
-    rw (moved, legal, ← same) (sym (and_true (not wanted)))

@@ -1,7 +1,7 @@
 -- What a REF that is not legal says of the banks.
-use Rattle.std.proofs.Common.{◌≡◌, ◌≢◌, ℕ, ◌+◌, Bool, true, false, ◌&&◌, not, List, Option, Some, None, refl, sym, ap, ◌∙◌, inl, inr}
+use Rattle.std.proofs.Common.{◌≡◌, ◌≢◌, ◌+◌, true, false, Some, None, refl, sym, ap, ◌∙◌, inl, inr}
 use Rattle.std.specs.Option.{is_none}
-use Rattle.std.proofs.lemmas.Bool.{cases_Bool, true≢false}
+use Rattle.std.proofs.lemmas.Bool.{cases_Bool}
 use Rattle.ddr_trace.specs.declared.rule.Rule.{Rule}
 use Rattle.ddr_trace.specs.declared.rule.Rule.TheVariants as rule
 use Rattle.ddr_trace.specs.Commands.{entry}
@@ -9,7 +9,6 @@ use Rattle.ddr_trace.specs.Legality.{lowest_rule}
 use Rattle.ddr_trace.specs.Rules.{breaks_order}
 use Rattle.ddr_trace.proofs.LowestLemmas.{lowest_passes}
 use Rattle.ddr_legality.specs.Bus.{Bus, broken_now, is_legal_now}
-use Rattle.ddr_arbiter.specs.declared.choice.Choice.{Choice}
 use Rattle.ddr_arbiter.specs.declared.choice.Choice.TheVariants as choice
 use Rattle.ddr_arbiter.specs.Commands.{precharge_all, refresh}
 use Rattle.ddr_arbiter.specs.Choice.{some_bank_active, refresh_choice, precharge_all_choice}

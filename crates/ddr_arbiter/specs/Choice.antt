@@ -1,6 +1,6 @@
 -- The scheduler's choice of a cycle, step by step. A place is the position of a request in the order of admission, so
 -- the oldest pending request has place 0, and the first place of a list that passes a test is that of the oldest request.
-use Rattle.std.specs.Prelude.{ℕ, ◌-◌, Bool, true, false, ◌&&◌, ◌||◌, not, ◌==◌, nat_le, if◌then◌else◌, List, [], ◌∷◌, length, filter, find, slice_get, Option, Some, None}
+use Rattle.std.specs.Prelude.{ℕ, ◌-◌, Bool, true, false, ◌&&◌, not, ◌==◌, nat_le, if◌then◌else◌, List, [], ◌∷◌, length, filter, find, slice_get, Option, None}
 use Rattle.std.specs.List.{list_any, range_with_len}
 use Rattle.std.specs.Option.{option_map_or}
 use Rattle.ddr_trace.specs.Rules.{is_bank_active, is_row_open, is_rank_active}

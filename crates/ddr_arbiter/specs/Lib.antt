@@ -3,4 +3,4 @@ pub mod Commands
 pub mod Laws
 pub mod Mode
 pub mod Situation
-pub mod Rows
+pub mod Wanted

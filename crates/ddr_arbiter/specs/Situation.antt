@@ -1,5 +1,5 @@
 -- What the choice of a cycle looks at.
-use Rattle.std.specs.Prelude.{ℕ, Bool, List}
+use Rattle.std.specs.Prelude.{Bool, List}
 use Rattle.ddr_hazards.specs.declared.waiting.Waiting.{Waiting}
 use Rattle.ddr_hazards.specs.PendingList.{PendingList}
 use Rattle.ddr_legality.specs.Bus.{Bus}

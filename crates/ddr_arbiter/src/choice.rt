@@ -1,15 +1,17 @@
 //! What a channel does in a cycle: the scheduler's choice.
-ghost use Rattle.std.specs.Prelude.{◌≡◌, ◌≤◌, All, find};
-ghost use Rattle.std.specs.List.{list_any};
-ghost use Rattle.ddr_arbiter.specs.Choice.{choice_of, column_place, can_column, row_choice, row_choice_at, can_precharge, is_something, passes_at};
-ghost use Rattle.ddr_arbiter.specs.Rows.{is_in_row};
+ghost use Rattle.std.specs.Prelude.{◌≡◌, ◌≤◌, ℕ, List, All, find};
+ghost use Rattle.ddr_hazards.specs.declared.waiting.Waiting.{Waiting};
+ghost use Rattle.ddr_hazards.specs.PendingList.{IsInRank};
+ghost use Rattle.ddr_arbiter.specs.Choice.{choice_of, column_place, can_column, row_choice, row_choice_at, can_precharge, is_something};
 ghost use Rattle.ddr_arbiter.specs.Laws.{IsLawful};
 ghost use Rattle.ddr_arbiter.specs.Situation.{situation};
+ghost use Rattle.ddr_arbiter.specs.Wanted.{IsMarked};
 
 use crate::candidates::candidates;
 use crate::commands::{can_activate, can_column, may, precharge_at};
 use crate::policy::Policy;
 use crate::refresh::refresh_choice;
+use crate::wanted::{Marks, bank_number, wanted_rows};
 use ddr_address_map::place::Place;
 use ddr_hazards::pending::Pending;
 use ddr_legality::legality::Legality;
@@ -50,7 +52,8 @@ pub fn choose(
     ensures exact { result ≡ choice_of (situation pending.now legality.entry.now debt.now policy.now drain room) }
     ensures lawful { IsLawful (situation pending.now legality.entry.now debt.now policy.now drain room) result }
 {
-    if debt.forced(pending.is_empty()) {
+    let count = pending.len();
+    if debt.forced(count == 0) {
         return refresh_choice(legality);
     }
     let candidates = candidates(pending, legality.now(), policy.cap, drain);
@@ -93,10 +96,12 @@ fn can_column_at(pending: &Pending, legality: &Legality, place: usize) -> bool
 
 /// The ACT or PRE of the oldest of the places whose request needs one that may be issued now.
 fn row_choice(pending: &Pending, legality: &Legality, places: &[usize]) -> Choice
+    requires { All (λ w. IsInRank w.request.place) pending.now.waiting }
     ensures { result ≡ row_choice legality.entry.now.bus pending.now.waiting places.now }
 {
+    let wanted = wanted_rows(pending, legality, places);
     for place in places {
-        let choice = row_choice_at(pending, legality, places, *place);
+        let choice = row_choice_at(pending, legality, &wanted, *place);
         if is_something(choice) {
             return choice;
         }
@@ -114,15 +119,18 @@ fn is_something(choice: Choice) -> bool
     }
 }
 
-/// The ACT or PRE that the request at the place needs, if it may be issued now.
-fn row_choice_at(pending: &Pending, legality: &Legality, places: &[usize], place: usize) -> Choice
-    ensures { result ≡ row_choice_at legality.entry.now.bus pending.now.waiting places.now place }
+/// The ACT or PRE that the request at the place needs, if it may be issued now, where the marks tell which
+/// open rows are wanted.
+fn row_choice_at(pending: &Pending, legality: &Legality, wanted: &Marks, place: usize) -> Choice
+    requires { All (λ w. IsInRank w.request.place) pending.now.waiting }
+    ensures { (places : List ℕ) → IsMarked legality.entry.now.bus pending.now.waiting places wanted.now
+        → result ≡ row_choice_at legality.entry.now.bus pending.now.waiting places place }
 {
     match pending.get(place) {
         Some((request, _)) => {
             if can_activate(legality, request.place) {
                 Choice::Act { place }
-            } else if can_precharge(pending, legality, places, request.place) {
+            } else if can_precharge(legality, wanted, request.place) {
                 Choice::Pre { place }
             } else {
                 Choice::Nothing
@@ -132,37 +140,15 @@ fn row_choice_at(pending: &Pending, legality: &Legality, places: &[usize], place
     }
 }
 
-/// Whether the bank of the place is active with another row, which none of the places wants, and may be
+/// Whether the bank of the place is active with another row, which isn't marked as wanted, and may be
 /// precharged now.
-fn can_precharge(pending: &Pending, legality: &Legality, places: &[usize], at: Place) -> bool
-    ensures { result ≡ can_precharge legality.entry.now.bus pending.now.waiting places.now at }
+fn can_precharge(legality: &Legality, wanted: &Marks, at: Place) -> bool
+    requires { IsInRank at }
+    ensures { (waiting : List Waiting) (places : List ℕ) → IsMarked legality.entry.now.bus waiting places wanted.now
+        → result ≡ can_precharge legality.entry.now.bus waiting places at }
 {
     match legality.open_row(at.group, at.bank) {
-        Some(row) => {
-            row != at.row
-                && may(legality, precharge_at(at))
-                && !is_wanted(pending, places, Place { row, ..at })
-        }
-        None => false,
-    }
-}
-
-/// Whether one of the places holds a request to the row of `at`.
-fn is_wanted(pending: &Pending, places: &[usize], at: Place) -> bool
-    ensures { result ≡ list_any (passes_at (λ w. is_in_row at w.request.place) pending.now.waiting) places.now }
-{
-    places.iter().any(|place| is_in_row_at(pending, *place, at))
-}
-
-/// Whether the request at the place is to the row of `at`.
-fn is_in_row_at(pending: &Pending, place: usize, at: Place) -> bool
-    ensures { result ≡ passes_at (λ w. is_in_row at w.request.place) pending.now.waiting place }
-{
-    match pending.get(place) {
-        Some((request, _)) => {
-            let it = request.place;
-            it.group == at.group && it.bank == at.bank && it.row == at.row
-        }
+        Some(row) => row != at.row && !wanted[bank_number(at)] && may(legality, precharge_at(at)),
         None => false,
     }
 }

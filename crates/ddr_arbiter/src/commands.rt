@@ -96,7 +96,7 @@ pub(crate) fn may(legality: &Legality, command: Command) -> bool
 }
 
 /// Whether the place's row is open in its bank.
-fn is_row_open(legality: &Legality, place: Place) -> bool
+pub(crate) fn is_row_open(legality: &Legality, place: Place) -> bool
     ensures { result ≡ is_row_open legality.entry.now.bus.trace (activate_at place) }
 {
     match legality.open_row(place.group, place.bank) {

@@ -1,5 +1,5 @@
 -- What passes among the first places is no more than these.
-use Rattle.std.proofs.Common.{◌≡◌, ◌≤◌, ap, length, arith, lit<}
+use Rattle.std.proofs.Common.{ap, length, arith, lit<}
 use Rattle.ddr_hazards.specs.PendingList.{is_same_kind}
 use Rattle.ddr_arbiter.specs.Choice.{passes_at}
 use Rattle.ddr_arbiter.proofs.PlaceLemmas.{length-filter_taken}

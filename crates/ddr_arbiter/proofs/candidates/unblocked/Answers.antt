@@ -1,5 +1,5 @@
 -- One more place, of a request that is blocked or not.
-use Rattle.std.proofs.Common.{◌≡◌, ◌≤◌, ◌++◌, ◌∷◌, [], ℕ, List, not, sym, ◌∙◌, ap, length, arith, lit<}
+use Rattle.std.proofs.Common.{◌++◌, ◌∷◌, [], ℕ, List, not, sym, ◌∙◌, ap, length, arith, lit<}
 use Rattle.ddr_hazards.specs.Hazards.{is_blocked}
 use Rattle.ddr_arbiter.proofs.PlaceLemmas.{length-filter_first, filter_first_kept, filter_first_out}
 use Rattle.ddr_arbiter.proofs.candidates.unblocked.Goals as goal

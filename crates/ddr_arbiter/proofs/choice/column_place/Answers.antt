@@ -1,5 +1,5 @@
 -- The first place that passes is found.
-use Rattle.std.proofs.Common.{◌≡◌, None, sym, ◌∙◌, ap, take_all, take}
+use Rattle.std.proofs.Common.{◌≡◌, None, sym, ◌∙◌, ap, take_all}
 use Rattle.std.specs.List.{find}
 use Rattle.ddr_arbiter.specs.Choice.{can_column}
 use Rattle.ddr_arbiter.proofs.PlaceLemmas.{find_here, find_more}
