@@ -33,6 +33,8 @@ struct Scene {
     policy: Policy,
     drain: bool,
     room: bool,
+    /// A REF was issued.
+    refreshed: bool,
 }
 
 impl Scene {
@@ -46,6 +48,7 @@ impl Scene {
             policy: PROFILE_POLICY,
             drain: false,
             room: true,
+            refreshed: false,
         })
     }
 
@@ -103,6 +106,7 @@ impl Scene {
         match self.legality.may(command) {
             Ok(()) => {
                 self.legality.record(command);
+                self.refreshed |= command == Command::Refresh { rank: 0 };
                 Ok(())
             }
             Err(rule) => Err(rule.name().into()),
@@ -114,6 +118,9 @@ impl Scene {
         self.wait_until(u64::from(cycle));
         let mut debt = Debt::open(&self.config);
         tick_times(&mut debt, u64::from(cycle) + 1);
+        if self.refreshed && debt.debt() >= 1 {
+            debt.issued();
+        }
         if !are_admitted(&self.pending, self.legality.now()) {
             return Err("admitted in a later cycle".into());
         }
@@ -168,6 +175,14 @@ fn activate(group: u32, bank: u32, row: u32) -> Command {
     }
 }
 
+fn precharge(group: u32, bank: u32) -> Command {
+    Command::Pre {
+        rank: 0,
+        group,
+        bank,
+    }
+}
+
 fn read(group: u32, bank: u32, row: u32, line: u32) -> Command {
     Command::Rd {
         rank: 0,
@@ -194,6 +209,13 @@ fn younger_row_hit_first(rt: HostRuntime) -> Result<(), Fail> {
     // RTP holds the PRE up to cycle 12
     assert_eq!(rt; scene.choice(11)?, Choice::Nothing);
     assert_eq!(rt; scene.choice(12)?, Choice::Pre { place: 0 });
+    scene.issue(12, precharge(0, 0))?;
+    // RP holds the ACT up to cycle 16, and RCD the read up to 20
+    assert_eq!(rt; scene.choice(15)?, Choice::Nothing);
+    assert_eq!(rt; scene.choice(16)?, Choice::Act { place: 0 });
+    scene.issue(16, activate(0, 0, 1))?;
+    assert_eq!(rt; scene.choice(19)?, Choice::Nothing);
+    assert_eq!(rt; scene.choice(20)?, Choice::Column { place: 0 });
     Ok(())
 }
 
@@ -210,6 +232,40 @@ fn oldest_alone_from_the_cap_on(rt: HostRuntime) -> Result<(), Fail> {
     assert_eq!(rt; scene.choice(10)?, Choice::Pre { place: 0 });
     scene.policy.cap = 11;
     assert_eq!(rt; scene.choice(10)?, Choice::Column { place: 1 });
+    Ok(())
+}
+
+#[test]
+fn every_row_is_opened_anew_with_a_cap_of_one(rt: HostRuntime) -> Result<(), Fail> {
+    let alloc = rt.alloc();
+    let mut scene = Scene::open(alloc)?;
+    scene.policy.cap = 1;
+    scene.admit(alloc, Kind::Read, 0, 0, 0, 0)?;
+    scene.admit(alloc, Kind::Read, 0, 0, 1, 0)?;
+    scene.admit(alloc, Kind::Read, 0, 0, 0, 1)?;
+    assert_eq!(rt; scene.choice(0)?, Choice::Act { place: 0 });
+    scene.issue(0, activate(0, 0, 0))?;
+    assert_eq!(rt; scene.choice(4)?, Choice::Column { place: 0 });
+    scene.issue(4, read(0, 0, 0, 0))?;
+    assert!(rt; scene.pending.remove(0).is_some());
+    // the younger row hit waits, and RAS holds the PRE up to cycle 10
+    assert_eq!(rt; scene.choice(9)?, Choice::Nothing);
+    assert_eq!(rt; scene.choice(10)?, Choice::Pre { place: 0 });
+    scene.issue(10, precharge(0, 0))?;
+    // RP and RC hold the ACT up to cycle 14
+    assert_eq!(rt; scene.choice(13)?, Choice::Nothing);
+    assert_eq!(rt; scene.choice(14)?, Choice::Act { place: 0 });
+    scene.issue(14, activate(0, 0, 1))?;
+    assert_eq!(rt; scene.choice(18)?, Choice::Column { place: 0 });
+    scene.issue(18, read(0, 0, 1, 0))?;
+    assert!(rt; scene.pending.remove(0).is_some());
+    assert_eq!(rt; scene.choice(23)?, Choice::Nothing);
+    assert_eq!(rt; scene.choice(24)?, Choice::Pre { place: 0 });
+    scene.issue(24, precharge(0, 0))?;
+    assert_eq!(rt; scene.choice(28)?, Choice::Act { place: 0 });
+    scene.issue(28, activate(0, 0, 0))?;
+    assert_eq!(rt; scene.choice(31)?, Choice::Nothing);
+    assert_eq!(rt; scene.choice(32)?, Choice::Column { place: 0 });
     Ok(())
 }
 
@@ -265,6 +321,20 @@ fn refresh_is_put_off_twice_and_then_forced(rt: HostRuntime) -> Result<(), Fail>
     scene.issue(602, Command::PreAll { rank: 0 })?;
     assert_eq!(rt; scene.choice(605)?, Choice::Nothing);
     assert_eq!(rt; scene.choice(606)?, Choice::Refresh);
+    scene.issue(606, Command::Refresh { rank: 0 })?;
+    // two are owed, so the read goes on as soon as RFC is over
+    assert_eq!(rt; scene.choice(625)?, Choice::Nothing);
+    assert_eq!(rt; scene.choice(626)?, Choice::Act { place: 0 });
+    scene.issue(626, activate(0, 0, 0))?;
+    assert_eq!(rt; scene.choice(630)?, Choice::Column { place: 0 });
+    assert_eq!(rt; scene.choice(795)?, Choice::Column { place: 0 });
+    scene.issue(795, read(0, 0, 0, 0))?;
+    // the fourth falls due in cycle 800
+    assert_eq!(rt; scene.choice(799)?, Choice::Nothing);
+    assert_eq!(rt; scene.choice(800)?, Choice::PreAll);
+    scene.issue(800, Command::PreAll { rank: 0 })?;
+    assert_eq!(rt; scene.choice(803)?, Choice::Nothing);
+    assert_eq!(rt; scene.choice(804)?, Choice::Refresh);
     Ok(())
 }
 
@@ -284,6 +354,10 @@ fn read_goes_before_an_older_write_until_writes_drain(rt: HostRuntime) -> Result
     assert!(rt; scene.pending.remove(1).is_some());
     // no read is left, so the write may be served
     assert_eq!(rt; scene.choice(5)?, Choice::Act { place: 0 });
+    scene.issue(5, activate(0, 0, 0))?;
+    // RTW holds it up to cycle 11
+    assert_eq!(rt; scene.choice(10)?, Choice::Nothing);
+    assert_eq!(rt; scene.choice(11)?, Choice::Column { place: 0 });
     Ok(())
 }
 
