@@ -1,5 +1,6 @@
 //! Which of the pending requests may be served.
-ghost use Rattle.std.specs.Prelude.{◌≡◌, ◌≤◌, All, length};
+ghost use Rattle.std.specs.Prelude.{◌≡◌, ◌<◌, ◌≤◌, All, length, not};
+ghost use Rattle.ddr_hazards.specs.Hazards.{is_blocked};
 ghost use Rattle.ddr_hazards.specs.PendingList.{is_same_kind};
 ghost use Rattle.ddr_arbiter.specs.Choice.{passes_at, unblocked, is_oldest_capped, of_kind, served_kind, candidates};
 
@@ -46,11 +47,19 @@ fn unblocked(pending: &Pending) -> Places
 {
     let mut places = Places::new();
     for place in 0..pending.len() {
-        if !pending.blocked(place) {
+        if is_free(pending, place) {
             places.push(place);
         }
     }
     places
+}
+
+/// Whether no older request has the line of the request at the place.
+fn is_free(pending: &Pending, place: usize) -> bool
+    requires { place < length pending.now.waiting }
+    ensures { result ≡ not (is_blocked pending.now.waiting place) }
+{
+    !pending.blocked(place)
 }
 
 /// The kind of the requests that a mode serves first.

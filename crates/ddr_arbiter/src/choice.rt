@@ -1,7 +1,8 @@
 //! What a channel does in a cycle: the scheduler's choice.
-ghost use Rattle.std.specs.Prelude.{◌≡◌, ◌≤◌, ℕ, List, All, find};
+ghost use Rattle.std.specs.Prelude.{◌≡◌, ◌==◌, ◌≤◌, ℕ, List, All, find};
 ghost use Rattle.ddr_hazards.specs.declared.waiting.Waiting.{Waiting};
 ghost use Rattle.ddr_hazards.specs.PendingList.{IsInRank};
+ghost use Rattle.ddr_refresh.specs.Refreshes.{is_forced};
 ghost use Rattle.ddr_arbiter.specs.Choice.{choice_of, column_place, can_column, row_choice, row_choice_at, can_precharge, is_something};
 ghost use Rattle.ddr_arbiter.specs.Laws.{IsLawful};
 ghost use Rattle.ddr_arbiter.specs.Situation.{situation};
@@ -52,8 +53,7 @@ pub fn choose(
     ensures exact { result ≡ choice_of (situation pending.now legality.entry.now debt.now policy.now drain room) }
     ensures lawful { IsLawful (situation pending.now legality.entry.now debt.now policy.now drain room) result }
 {
-    let count = pending.len();
-    if debt.forced(count == 0) {
+    if is_rank_forced(pending.len(), debt) {
         return refresh_choice(legality);
     }
     let candidates = candidates(pending, legality.now(), policy.cap, drain);
@@ -62,6 +62,13 @@ pub fn choose(
         Some(place) => Choice::Column { place },
         None => row_choice(pending, legality, places),
     }
+}
+
+/// Whether the rank has to be refreshed, with so many requests pending.
+fn is_rank_forced(count: usize, debt: &Debt) -> bool
+    ensures { result ≡ is_forced (count == 0) debt.now }
+{
+    debt.forced(count == 0)
 }
 
 /// The oldest of the places whose request's column command is legal now, where there is room for it.

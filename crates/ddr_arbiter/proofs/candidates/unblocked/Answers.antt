@@ -3,7 +3,7 @@ use Rattle.std.proofs.Common.{◌++◌, ◌∷◌, [], ℕ, List, not, sym, ◌�
 use Rattle.ddr_hazards.specs.Hazards.{is_blocked}
 use Rattle.ddr_arbiter.proofs.PlaceLemmas.{length-filter_first, filter_first_kept, filter_first_out}
 use Rattle.ddr_arbiter.proofs.candidates.unblocked.Goals as goal
-use Rattle.ddr_arbiter.proofs.candidates.unblocked.Goals.{then-not-blocked, else-not-blocked}
+use Rattle.ddr_arbiter.proofs.candidates.unblocked.Goals.{then-is_free, else-is_free}
 
 pub push-requires : goal.push-requires
 push-requires c =
@@ -14,11 +14,11 @@ push-requires c =
 pub loop-place-preserved : goal.loop-place-preserved
 loop-place-preserved c =
     let test = λ (place : ℕ). not (is_blocked c.args.pending.now.waiting place) in
-    elim c.if-not-blocked.branch [
-      | then-not-blocked w ↦
+    elim c.if-is_free.branch [
+      | then-is_free w ↦
           ap (λ v. v.items) w.places-is ∙ w.push.ensures.items ∙ ap (λ (kept : List ℕ). kept ++ c.loop-place.place ∷ []) c.loop-place.invariant
-          ∙ sym (filter_first_kept test c.loop-place.place (ap not (sym w.if-not-blocked.ensures)))
-      | else-not-blocked w ↦
+          ∙ sym (filter_first_kept test c.loop-place.place (sym w.if-is_free.ensures))
+      | else-is_free w ↦
           ap (λ v. v.items) w.places-is ∙ c.loop-place.invariant
-          ∙ sym (filter_first_out test c.loop-place.place (ap not (sym w.if-not-blocked.ensures)))
+          ∙ sym (filter_first_out test c.loop-place.place (sym w.if-is_free.ensures))
     ]
