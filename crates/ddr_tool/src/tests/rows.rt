@@ -59,13 +59,49 @@ fn two_banks(rt: HostRuntime) -> Result<(), Fail> {
     let script = "read 0 0 1\nread 0 512 1\n";
     let replies = "0 0 read 0 00\n0 1 read 512 00\n";
     assert_eq!(rt; written(rt.alloc(), None, script)?.as_str(), replies);
-    // The oldest alone is served, so the second ACT stands behind the first read; its own read waits for RCD.
+    // The second ACT waits for RRD_S alone, and its read for CCD_S behind the first.
+    let trace = "cycle,cmd,rank,group,bank,row,col
+0,ACT,0,0,0,0,
+2,ACT,0,1,0,0,
+4,RD,0,0,0,0,0
+8,RD,0,1,0,0,0
+17,END,,,,,
+";
+    assert_eq!(rt; written(rt.alloc(), Some(0), script)?.as_str(), trace);
+    Ok(())
+}
+
+/// The third read finds its row open and passes the second, whose reply is still the second.
+#[test]
+fn younger_row_hit_first(rt: HostRuntime) -> Result<(), Fail> {
+    let script = "read 0 0 1\nread 0 8192 1\nread 0 64 1\n";
+    let replies = "0 0 read 0 00\n0 1 read 8192 00\n0 2 read 64 00\n";
+    assert_eq!(rt; written(rt.alloc(), None, script)?.as_str(), replies);
     let trace = "cycle,cmd,rank,group,bank,row,col
 0,ACT,0,0,0,0,
 4,RD,0,0,0,0,0
-5,ACT,0,1,0,0,
-9,RD,0,1,0,0,0
-18,END,,,,,
+9,RD,0,0,0,0,8
+12,PRE,0,0,0,,
+16,ACT,0,0,0,1,
+20,RD,0,0,0,1,0
+29,END,,,,,
+";
+    assert_eq!(rt; written(rt.alloc(), Some(0), script)?.as_str(), trace);
+    Ok(())
+}
+
+/// Reads come first while writes aren't drained.
+#[test]
+fn read_passes_older_write(rt: HostRuntime) -> Result<(), Fail> {
+    let script = "write 0 0 ff\nread 0 512 1\n";
+    let replies = "0 0 write 0\n0 1 read 512 00\n";
+    assert_eq!(rt; written(rt.alloc(), None, script)?.as_str(), replies);
+    let trace = "cycle,cmd,rank,group,bank,row,col
+0,ACT,0,1,0,0,
+4,RD,0,1,0,0,0
+5,ACT,0,0,0,0,
+11,WR,0,0,0,0,0
+19,END,,,,,
 ";
     assert_eq!(rt; written(rt.alloc(), Some(0), script)?.as_str(), trace);
     Ok(())
