@@ -11,9 +11,9 @@ use ddr_timing::profile::PROFILE_S;
 use ddr_trace::command::{Command, Entry};
 use ddr_trace::trace::Trace;
 use std::alloc::{AllocError, Global};
+use std::process::Abort;
 use std::test::Fail;
 
-mod chance;
 mod drain;
 mod refreshes;
 mod refusals;
@@ -167,6 +167,36 @@ fn serve(alloc: Global, config: &Config, accesses: &[Access]) -> Result<Run, Fai
         trace: channel.into_trace(),
         taken,
     })
+}
+
+/// Serves the accesses, and compares the trace, its end, and the number, command and completion of each request.
+fn check(
+    rt: &impl Abort,
+    alloc: Global,
+    config: &Config,
+    accesses: &[Access],
+    commands: &[Entry],
+    end: u64,
+    expected: &[(u64, u64, u64)],
+) -> Result<Run, Fail> {
+    let run = serve(alloc, config, accesses)?;
+    assert_eq!(rt; run.trace.entries.as_slice(), commands);
+    assert_eq!(rt; (run.trace.start, run.trace.end), (0, end));
+    let times = times(alloc, &run.taken)?;
+    assert_eq!(rt; times.as_slice(), expected);
+    Ok(run)
+}
+
+/// Compares the line that came back with a number.
+fn check_line(rt: &impl Abort, taken: &[Done], number: u64, line: Line) {
+    assert_eq!(rt; line_of(taken, number), Some(line));
+}
+
+/// Compares each line that came back with zeros.
+fn check_zeros(rt: &impl Abort, taken: &[Done]) {
+    for done in taken {
+        assert_eq!(rt; *done.line, ZEROS);
+    }
 }
 
 fn act(cycle: u64, group: u32, bank: u32, row: u32) -> Entry {

@@ -5,13 +5,18 @@ use super::*;
 #[test]
 fn drained_write_waits_for_an_older_read(rt: HostRuntime) -> Result<(), Fail> {
     let config = config_with(rt.alloc(), &[("low", "low = 0"), ("high", "high = 1")])?;
-    let run = serve(rt.alloc(), &config, &[read(0), write(0, 1, 0xff)])?;
     let commands = [act(0, 0, 0, 0), rd(4, 0, 0, 0, 0), wr(11, 0, 0, 0, 0)];
-    assert_eq!(rt; run.trace.entries.as_slice(), commands.as_slice());
-    assert_eq!(rt; run.trace.end, 19);
-    let times = times(rt.alloc(), &run.taken)?;
-    assert_eq!(rt; times.as_slice(), [(0, 4, 12), (1, 11, 18)].as_slice());
-    assert_eq!(rt; line_of(&run.taken, 0), Some(ZEROS));
+    let expected = [(0, 4, 12), (1, 11, 18)];
+    let run = check(
+        &rt,
+        rt.alloc(),
+        &config,
+        &[read(0), write(0, 1, 0xff)],
+        commands.as_slice(),
+        19,
+        expected.as_slice(),
+    )?;
+    check_line(&rt, &run.taken, 0, ZEROS);
     Ok(())
 }
 
@@ -21,7 +26,6 @@ fn drained_write_waits_for_an_older_read(rt: HostRuntime) -> Result<(), Fail> {
 fn drain_stays_on_above_the_low_mark(rt: HostRuntime) -> Result<(), Fail> {
     let config = config_with(rt.alloc(), &[("low", "low = 1"), ("high", "high = 3")])?;
     let accesses = [read(192), write(0, 1, 1), write(64, 1, 2), write(128, 1, 3)];
-    let run = serve(rt.alloc(), &config, &accesses)?;
     // CCD_L between the writes, WL + 4 + WTR_L up to the read, and RTW
     let commands = [
         act(0, 0, 0, 0),
@@ -30,12 +34,17 @@ fn drain_stays_on_above_the_low_mark(rt: HostRuntime) -> Result<(), Fail> {
         rd(20, 0, 0, 0, 3),
         wr(27, 0, 0, 0, 2),
     ];
-    assert_eq!(rt; run.trace.entries.as_slice(), commands.as_slice());
-    assert_eq!(rt; run.trace.end, 35);
-    let times = times(rt.alloc(), &run.taken)?;
     let expected = [(1, 4, 11), (2, 9, 16), (0, 20, 28), (3, 27, 34)];
-    assert_eq!(rt; times.as_slice(), expected.as_slice());
-    assert_eq!(rt; line_of(&run.taken, 0), Some(ZEROS));
+    let run = check(
+        &rt,
+        rt.alloc(),
+        &config,
+        &accesses,
+        commands.as_slice(),
+        35,
+        expected.as_slice(),
+    )?;
+    check_line(&rt, &run.taken, 0, ZEROS);
     Ok(())
 }
 
@@ -44,18 +53,22 @@ fn drain_stays_on_above_the_low_mark(rt: HostRuntime) -> Result<(), Fail> {
 fn drain_stays_off_below_the_high_mark(rt: HostRuntime) -> Result<(), Fail> {
     let config = config_with(rt.alloc(), &[("low", "low = 1"), ("high", "high = 3")])?;
     let accesses = [write(0, 1, 1), write(64, 1, 2), read(192)];
-    let run = serve(rt.alloc(), &config, &accesses)?;
     let commands = [
         act(0, 0, 0, 0),
         rd(4, 0, 0, 0, 3),
         wr(11, 0, 0, 0, 0),
         wr(16, 0, 0, 0, 1),
     ];
-    assert_eq!(rt; run.trace.entries.as_slice(), commands.as_slice());
-    assert_eq!(rt; run.trace.end, 24);
-    let times = times(rt.alloc(), &run.taken)?;
     let expected = [(2, 4, 12), (0, 11, 18), (1, 16, 23)];
-    assert_eq!(rt; times.as_slice(), expected.as_slice());
+    let run = check(
+        &rt,
+        rt.alloc(),
+        &config,
+        &accesses,
+        commands.as_slice(),
+        24,
+        expected.as_slice(),
+    )?;
     Ok(())
 }
 

@@ -3,7 +3,6 @@
 ghost use Rattle.std.specs.Prelude.{◌≡◌};
 
 use super::*;
-use std::process::Abort;
 
 #[test]
 fn an_idle_channel_refreshes(rt: HostRuntime) -> Result<(), Fail> {
@@ -55,8 +54,8 @@ fn a_refresh_closes_the_rows(rt: HostRuntime) -> Result<(), Fail> {
     let times = times(rt.alloc(), &taken)?;
     let expected = [(0, 4, 11), (1, 228, 236), (2, 242, 250)];
     assert_eq!(rt; times.as_slice(), expected.as_slice());
-    assert_eq!(rt; line_of(&taken, 1), Some(ZEROS));
-    assert_eq!(rt; line_of(&taken, 2), Some([0x55; 64]));
+    check_line(&rt, &taken, 1, ZEROS);
+    check_line(&rt, &taken, 2, [0x55; 64]);
     Ok(())
 }
 

@@ -5,37 +5,45 @@ use super::*;
 #[test]
 fn a_read_of_what_was_never_written(rt: HostRuntime) -> Result<(), Fail> {
     let config = Config::read(rt.alloc(), PROFILE_S)?;
-    let run = serve(rt.alloc(), &config, &[read(0)])?;
     let commands = [act(0, 0, 0, 0), rd(4, 0, 0, 0, 0)];
-    assert_eq!(rt; run.trace.entries.as_slice(), commands.as_slice());
-    assert_eq!(rt; run.trace.start, 0);
-    assert_eq!(rt; run.trace.end, 13);
-    let times = times(rt.alloc(), &run.taken)?;
-    assert_eq!(rt; times.as_slice(), [(0, 4, 12)].as_slice());
-    assert_eq!(rt; line_of(&run.taken, 0), Some(ZEROS));
+    let expected = [(0, 4, 12)];
+    let run = check(
+        &rt,
+        rt.alloc(),
+        &config,
+        &[read(0)],
+        commands.as_slice(),
+        13,
+        expected.as_slice(),
+    )?;
+    check_line(&rt, &run.taken, 0, ZEROS);
     Ok(())
 }
 
 #[test]
 fn a_read_behind_a_write(rt: HostRuntime) -> Result<(), Fail> {
     let config = Config::read(rt.alloc(), PROFILE_S)?;
-    let run = serve(rt.alloc(), &config, &[write(0, 0b1111, 0xab), read(0)])?;
     // WL + 4 + WTR_L behind the write
     let commands = [act(0, 0, 0, 0), wr(4, 0, 0, 0, 0), rd(15, 0, 0, 0, 0)];
-    assert_eq!(rt; run.trace.entries.as_slice(), commands.as_slice());
-    assert_eq!(rt; run.trace.end, 24);
-    let times = times(rt.alloc(), &run.taken)?;
-    assert_eq!(rt; times.as_slice(), [(0, 4, 11), (1, 15, 23)].as_slice());
+    let expected = [(0, 4, 11), (1, 15, 23)];
+    let run = check(
+        &rt,
+        rt.alloc(),
+        &config,
+        &[write(0, 0b1111, 0xab), read(0)],
+        commands.as_slice(),
+        24,
+        expected.as_slice(),
+    )?;
     let mut line = ZEROS;
     line[..4].copy_from_slice(&[0xab; 4]);
-    assert_eq!(rt; line_of(&run.taken, 1), Some(line));
+    check_line(&rt, &run.taken, 1, line);
     Ok(())
 }
 
 #[test]
 fn another_row_is_opened(rt: HostRuntime) -> Result<(), Fail> {
     let config = Config::read(rt.alloc(), PROFILE_S)?;
-    let run = serve(rt.alloc(), &config, &[read(0), read(8192)])?;
     // RAS, then RP and RC
     let commands = [
         act(0, 0, 0, 0),
@@ -44,19 +52,24 @@ fn another_row_is_opened(rt: HostRuntime) -> Result<(), Fail> {
         act(14, 0, 0, 1),
         rd(18, 0, 0, 1, 0),
     ];
-    assert_eq!(rt; run.trace.entries.as_slice(), commands.as_slice());
-    assert_eq!(rt; run.trace.end, 27);
-    let times = times(rt.alloc(), &run.taken)?;
-    assert_eq!(rt; times.as_slice(), [(0, 4, 12), (1, 18, 26)].as_slice());
-    assert_eq!(rt; line_of(&run.taken, 0), Some(ZEROS));
-    assert_eq!(rt; line_of(&run.taken, 1), Some(ZEROS));
+    let expected = [(0, 4, 12), (1, 18, 26)];
+    let run = check(
+        &rt,
+        rt.alloc(),
+        &config,
+        &[read(0), read(8192)],
+        commands.as_slice(),
+        27,
+        expected.as_slice(),
+    )?;
+    check_line(&rt, &run.taken, 0, ZEROS);
+    check_line(&rt, &run.taken, 1, ZEROS);
     Ok(())
 }
 
 #[test]
 fn reads_in_two_groups(rt: HostRuntime) -> Result<(), Fail> {
     let config = Config::read(rt.alloc(), PROFILE_S)?;
-    let run = serve(rt.alloc(), &config, &[read(0), read(512)])?;
     // RRD_S between the rows, CCD_S between the reads
     let commands = [
         act(0, 0, 0, 0),
@@ -64,12 +77,18 @@ fn reads_in_two_groups(rt: HostRuntime) -> Result<(), Fail> {
         rd(4, 0, 0, 0, 0),
         rd(8, 1, 0, 0, 0),
     ];
-    assert_eq!(rt; run.trace.entries.as_slice(), commands.as_slice());
-    assert_eq!(rt; run.trace.end, 17);
-    let times = times(rt.alloc(), &run.taken)?;
-    assert_eq!(rt; times.as_slice(), [(0, 4, 12), (1, 8, 16)].as_slice());
-    assert_eq!(rt; line_of(&run.taken, 0), Some(ZEROS));
-    assert_eq!(rt; line_of(&run.taken, 1), Some(ZEROS));
+    let expected = [(0, 4, 12), (1, 8, 16)];
+    let run = check(
+        &rt,
+        rt.alloc(),
+        &config,
+        &[read(0), read(512)],
+        commands.as_slice(),
+        17,
+        expected.as_slice(),
+    )?;
+    check_line(&rt, &run.taken, 0, ZEROS);
+    check_line(&rt, &run.taken, 1, ZEROS);
     Ok(())
 }
 
@@ -78,7 +97,6 @@ fn reads_in_two_groups(rt: HostRuntime) -> Result<(), Fail> {
 fn reads_in_five_banks(rt: HostRuntime) -> Result<(), Fail> {
     let config = Config::read(rt.alloc(), PROFILE_S)?;
     let reads = [read(0), read(512), read(1024), read(1536), read(2048)];
-    let run = serve(rt.alloc(), &config, &reads)?;
     let commands = [
         act(0, 0, 0, 0),
         act(2, 1, 0, 0),
@@ -91,9 +109,6 @@ fn reads_in_five_banks(rt: HostRuntime) -> Result<(), Fail> {
         rd(16, 3, 0, 0, 0),
         rd(20, 0, 1, 0, 0),
     ];
-    assert_eq!(rt; run.trace.entries.as_slice(), commands.as_slice());
-    assert_eq!(rt; run.trace.end, 29);
-    let times = times(rt.alloc(), &run.taken)?;
     let expected = [
         (0, 4, 12),
         (1, 8, 16),
@@ -101,17 +116,22 @@ fn reads_in_five_banks(rt: HostRuntime) -> Result<(), Fail> {
         (3, 16, 24),
         (4, 20, 28),
     ];
-    assert_eq!(rt; times.as_slice(), expected.as_slice());
-    for done in run.taken.iter() {
-        assert_eq!(rt; *done.line, ZEROS);
-    }
+    let run = check(
+        &rt,
+        rt.alloc(),
+        &config,
+        &reads,
+        commands.as_slice(),
+        29,
+        expected.as_slice(),
+    )?;
+    check_zeros(&rt, &run.taken);
     Ok(())
 }
 
 #[test]
 fn younger_row_hit_first(rt: HostRuntime) -> Result<(), Fail> {
     let config = Config::read(rt.alloc(), PROFILE_S)?;
-    let run = serve(rt.alloc(), &config, &[read(0), read(8192), read(64)])?;
     // CCD_L, and RTP behind the second read
     let commands = [
         act(0, 0, 0, 0),
@@ -121,14 +141,17 @@ fn younger_row_hit_first(rt: HostRuntime) -> Result<(), Fail> {
         act(16, 0, 0, 1),
         rd(20, 0, 0, 1, 0),
     ];
-    assert_eq!(rt; run.trace.entries.as_slice(), commands.as_slice());
-    assert_eq!(rt; run.trace.end, 29);
-    let times = times(rt.alloc(), &run.taken)?;
     let expected = [(0, 4, 12), (2, 9, 17), (1, 20, 28)];
-    assert_eq!(rt; times.as_slice(), expected.as_slice());
-    for done in run.taken.iter() {
-        assert_eq!(rt; *done.line, ZEROS);
-    }
+    let run = check(
+        &rt,
+        rt.alloc(),
+        &config,
+        &[read(0), read(8192), read(64)],
+        commands.as_slice(),
+        29,
+        expected.as_slice(),
+    )?;
+    check_zeros(&rt, &run.taken);
     Ok(())
 }
 
@@ -136,7 +159,6 @@ fn younger_row_hit_first(rt: HostRuntime) -> Result<(), Fail> {
 #[test]
 fn oldest_request_first_at_the_cap(rt: HostRuntime) -> Result<(), Fail> {
     let config = config_with(rt.alloc(), &[("cap", "cap = 1")])?;
-    let run = serve(rt.alloc(), &config, &[read(0), read(8192), read(64)])?;
     let commands = [
         act(0, 0, 0, 0),
         rd(4, 0, 0, 0, 0),
@@ -147,14 +169,17 @@ fn oldest_request_first_at_the_cap(rt: HostRuntime) -> Result<(), Fail> {
         act(28, 0, 0, 0),
         rd(32, 0, 0, 0, 1),
     ];
-    assert_eq!(rt; run.trace.entries.as_slice(), commands.as_slice());
-    assert_eq!(rt; run.trace.end, 41);
-    let times = times(rt.alloc(), &run.taken)?;
     let expected = [(0, 4, 12), (1, 18, 26), (2, 32, 40)];
-    assert_eq!(rt; times.as_slice(), expected.as_slice());
-    for done in run.taken.iter() {
-        assert_eq!(rt; *done.line, ZEROS);
-    }
+    let run = check(
+        &rt,
+        rt.alloc(),
+        &config,
+        &[read(0), read(8192), read(64)],
+        commands.as_slice(),
+        41,
+        expected.as_slice(),
+    )?;
+    check_zeros(&rt, &run.taken);
     Ok(())
 }
 
@@ -166,21 +191,25 @@ fn masked_writes_keep_the_other_bytes(rt: HostRuntime) -> Result<(), Fail> {
         write(0, 0b11_1100, 0x22),
         read(0),
     ];
-    let run = serve(rt.alloc(), &config, &accesses)?;
     let commands = [
         act(0, 0, 0, 0),
         wr(4, 0, 0, 0, 0),
         wr(9, 0, 0, 0, 0),
         rd(20, 0, 0, 0, 0),
     ];
-    assert_eq!(rt; run.trace.entries.as_slice(), commands.as_slice());
-    assert_eq!(rt; run.trace.end, 29);
-    let times = times(rt.alloc(), &run.taken)?;
     let expected = [(0, 4, 11), (1, 9, 16), (2, 20, 28)];
-    assert_eq!(rt; times.as_slice(), expected.as_slice());
+    let run = check(
+        &rt,
+        rt.alloc(),
+        &config,
+        &accesses,
+        commands.as_slice(),
+        29,
+        expected.as_slice(),
+    )?;
     let mut line = ZEROS;
     line[..6].copy_from_slice(&[0x11, 0x11, 0x22, 0x22, 0x22, 0x22]);
-    assert_eq!(rt; line_of(&run.taken, 2), Some(line));
+    check_line(&rt, &run.taken, 2, line);
     Ok(())
 }
 
@@ -212,7 +241,6 @@ fn a_read_of_another_port_behind_a_write(rt: HostRuntime) -> Result<(), Fail> {
 #[test]
 fn read_passes_older_write(rt: HostRuntime) -> Result<(), Fail> {
     let config = Config::read(rt.alloc(), PROFILE_S)?;
-    let run = serve(rt.alloc(), &config, &[write(0, 1, 0xff), read(512)])?;
     // RTW behind the read
     let commands = [
         act(0, 1, 0, 0),
@@ -220,10 +248,16 @@ fn read_passes_older_write(rt: HostRuntime) -> Result<(), Fail> {
         act(5, 0, 0, 0),
         wr(11, 0, 0, 0, 0),
     ];
-    assert_eq!(rt; run.trace.entries.as_slice(), commands.as_slice());
-    assert_eq!(rt; run.trace.end, 19);
-    let times = times(rt.alloc(), &run.taken)?;
-    assert_eq!(rt; times.as_slice(), [(1, 4, 12), (0, 11, 18)].as_slice());
-    assert_eq!(rt; line_of(&run.taken, 1), Some(ZEROS));
+    let expected = [(1, 4, 12), (0, 11, 18)];
+    let run = check(
+        &rt,
+        rt.alloc(),
+        &config,
+        &[write(0, 1, 0xff), read(512)],
+        commands.as_slice(),
+        19,
+        expected.as_slice(),
+    )?;
+    check_line(&rt, &run.taken, 1, ZEROS);
     Ok(())
 }

@@ -3,4 +3,4 @@ use Rattle.ddr_channel.proofs.tests.finish.Given as goal
 
 -- the configuration stays
 abbrev pub invariant-loop : goal.invariant-loop
-invariant-loop g l = l.channel.config ≡ l.fn.channel.config
+invariant-loop l = l.channel.config ≡ l.initial.channel.config

@@ -1,6 +1,6 @@
 -- The channel's requests stay those that the keeper was given, through its admissions, its cycle and its completions.
-use Rattle.std.proofs.Common.{arith, subst, sym}
-use Rattle.ddr_tool.specs.Progress.{Serves}
+use Rattle.std.proofs.Common.{ap, arith, subst, sym, ◌∙◌}
+use Rattle.ddr_tool.specs.Progress.{Progress, Serves}
 use Rattle.ddr_channel.proofs.StandsLemmas.{cycle_start}
 use Rattle.ddr_tool.proofs.ServiceLemmas.{covers_cycled, held_later}
 use Rattle.ddr_tool.proofs.keeper.Keeper.round.Goals as goal
@@ -18,3 +18,17 @@ returns-in_ok-collect_done-in-Ok-clause-serves c = λ requests serves.
       held = c.in_ok-collect_done-in-Ok.ensures.right c.admit_waiting.new.waiting.items requests old.numbered cycled held;
       reached = omega (arith, old.reached, c.admit_waiting.ensures.shorter);
     }
+
+pub returns-in_err-collect_done-in-Ok-clause-kept : goal.returns-in_err-collect_done-in-Ok-clause-kept
+returns-in_err-collect_done-in-Ok-clause-kept c = record {
+  config = c.collect_done.ensures.config ∙ c.cycle.ensures.config ∙ c.admit_waiting.ensures.config ∙ ap (λ (p : Progress). p.channel.config) c.self.view_is;
+  start = c.collect_done.ensures.start ∙ cycle_start c.admit_waiting.new.channel c.cycle.new.self c.in-Ok.ensures.ok ∙ c.admit_waiting.ensures.start ∙ ap (λ (p : Progress). p.channel.start) c.self.view_is;
+  count = ap (λ (p : Progress). p.count) c.self.view_is;
+}
+
+pub returns-in_ok-collect_done-in-Ok-clause-kept : goal.returns-in_ok-collect_done-in-Ok-clause-kept
+returns-in_ok-collect_done-in-Ok-clause-kept c = record {
+  config = c.collect_done.ensures.config ∙ c.cycle.ensures.config ∙ c.admit_waiting.ensures.config ∙ ap (λ (p : Progress). p.channel.config) c.self.view_is;
+  start = c.collect_done.ensures.start ∙ cycle_start c.admit_waiting.new.channel c.cycle.new.self c.in-Ok.ensures.ok ∙ c.admit_waiting.ensures.start ∙ ap (λ (p : Progress). p.channel.start) c.self.view_is;
+  count = ap (λ (p : Progress). p.count) c.self.view_is;
+}
