@@ -1,0 +1,5 @@
+mod SideLemmas
+mod StepLemmas
+mod StandsLemmas
+mod WholeLemmas
+mod OpenLemmas

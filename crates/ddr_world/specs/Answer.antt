@@ -1,0 +1,19 @@
+-- What the core answers to an event.
+use Rattle.std.specs.Prelude.{◌≡◌, Result, Err, IfOk, IfErr, OnErr}
+use Rattle.ddr_world.specs.declared.event.Outcome.{Outcome}
+use Rattle.ddr_world.specs.declared.event.Refusal.{Refusal}
+use Rattle.ddr_world.specs.Events.{Event, Cycle}
+use Rattle.ddr_world.specs.Kept.{Kept, state_of}
+use Rattle.ddr_world.specs.Step.{Step, IsRefusedFor, made, step}
+
+-- refused by the name that the step gives; a cycle also for want of memory
+abbrev pub IsRefused : Refusal → Event → Step → Type 0
+IsRefused cause (Cycle c) s = IsRefusedFor cause s
+IsRefused cause _ s = s ≡ Err cause
+
+-- the event was made as the step says, or refused and the state is the same
+pub record IsAnswered (before after : Kept) (event : Event) (answer : Result Outcome Refusal) : Type 0 where
+  pub ok : IfOk answer (λ o. step (state_of before) event ≡ made (state_of after) o)
+  pub refused : IfErr answer (λ cause. IsRefused cause event (step (state_of before) event))
+  pub err : OnErr answer (state_of after ≡ state_of before)
+  pub config : after.config ≡ before.config

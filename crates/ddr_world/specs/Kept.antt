@@ -1,0 +1,23 @@
+-- What contracts see of the core: its state, with what is kept of each channel in place of the channel's state.
+use Rattle.std.specs.Prelude.{Bool, List, map}
+use Rattle.ddr_timing.specs.declared.config.Config.{Config}
+use Rattle.ddr_channel.specs.Kept as channel_kept
+use Rattle.ddr_world.specs.declared.item.Item.{Item}
+use Rattle.ddr_world.specs.State.{PortSide, ChannelSide, State}
+
+pub record KeptSide : Type 0 where
+  pub channel : channel_kept.Kept
+  pub requests : List Item
+  pub noted : List Bool
+
+pub record Kept : Type 0 where
+  pub config : Config
+  pub ports : List PortSide
+  pub channels : List KeptSide
+
+abbrev pub side_of : KeptSide → ChannelSide
+side_of k = record { channel = channel_kept.state_of k.channel; requests = k.requests; noted = k.noted }
+
+-- the state that the core is in
+abbrev pub state_of : Kept → State
+state_of k = record { ports = k.ports; channels = map side_of k.channels }

@@ -1,0 +1,10 @@
+pub mod Events
+pub mod Refusals
+pub mod State
+pub mod Step
+pub mod Kept
+pub mod Answer
+pub mod History
+pub mod Record
+pub mod Close
+pub mod View

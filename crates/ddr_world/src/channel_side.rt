@@ -1,0 +1,155 @@
+//! A channel with its request queue.
+ghost use Rattle.std.specs.Prelude.{◌≡◌, ◌≢◌, ◌+◌, ◌<◌, ◌≤◌, ◌==◌, ◌||◌, ◌∷◌, ◌++◌, ◌↔◌, [], true, false, length, drop, slice_get, slice_set, IfErr, IfNone, IfOk, IfSome, IsErrOf, IsTrue, OnErr, OnOk, OnSome, Some, None, Ok, Err};
+ghost use Rattle.std.specs.Option.{option_map};
+ghost use Rattle.ddr_address_map.specs.declared.request.Kind.TheVariants.{Read, Write};
+ghost use Rattle.ddr_timing.specs.declared.units.TheConstants.{CLOCK_STOP};
+ghost use Rattle.ddr_channel.specs.Cycle.{after_cycle};
+ghost use Rattle.ddr_channel.specs.Kept as kept;
+ghost use Rattle.ddr_channel.specs.State.{after_pop, is_queue_full};
+ghost use Rattle.ddr_world.specs.Close.{trace_of};
+ghost use Rattle.ddr_world.specs.Kept.{side_of};
+ghost use Rattle.ddr_world.specs.State.{IsChannelDrained, is_busy, opened_channel};
+ghost use Rattle.ddr_world.specs.Step.{IsRefusedFor, cycled, queued, sent, taken};
+ghost use Rattle.ddr_world.specs.View.{IsServedItem};
+
+use crate::event::Refusal;
+use crate::item::Item;
+use circular_buffer::HeapCircularBuffer;
+use ddr_address_map::request::Done;
+use ddr_channel::channel::Channel;
+use ddr_timing::config::Config;
+use ddr_timing::units::CLOCK_STOP;
+use ddr_trace::trace::Trace;
+use std::alloc::{AllocError, Global};
+use std::marker::Model;
+
+/// A channel, and what was pushed on its request queue and not taken.
+#[derive(Drop)]
+pub(crate) struct ChannelSide {
+    channel: Channel,
+    requests: HeapCircularBuffer<Item>,
+    /// Of each port, whether its End was taken.
+    noted: Vec<bool>,
+}
+
+impl Model for ChannelSide {
+    ghost use Rattle.ddr_world.specs.Kept.{KeptSide};
+
+    ghost Value = { KeptSide };
+
+    ghost use Rattle.ddr_world.specs.View.{channel_of, IsChannelWhole};
+
+    ghost view = { channel_of };
+
+    ghost invariant = { IsChannelWhole };
+}
+
+impl ChannelSide {
+    /// A channel that has made no cycle, with an empty queue.
+    pub(crate) fn open(
+        alloc: Global,
+        config: &Config,
+        first_cycle: u64,
+    ) -> Result<ChannelSide, AllocError>
+        requires { first_cycle ≤ CLOCK_STOP }
+        ensures state { IfOk result (λ side. side_of side ≡ opened_channel config.now first_cycle) }
+        ensures config { IfOk result (λ side. side.channel.config ≡ config.now) }
+    {
+        Ok(ChannelSide {
+            channel: Channel::open(alloc, config, first_cycle)?,
+            requests: HeapCircularBuffer::with_capacity(alloc, config.limits.intake as usize)?,
+            noted: vec![in alloc; false; config.limits.ports as usize]?,
+        })
+    }
+
+    /// Whether the request queue holds as many items as it may.
+    pub(crate) fn is_busy(&self) -> bool
+        ensures { result ≡ is_busy (side_of self.now) }
+    {
+        self.requests.is_full()
+    }
+
+    /// Adds an item to the request queue, which has a free place.
+    pub(crate) fn push(&mut self, item: Item)
+        requires free { is_busy (side_of self.old) ≡ false }
+        requires served { IsServedItem self.old.channel.config item }
+        ensures state { side_of self.new ≡ queued item (side_of self.old) }
+        ensures config { self.new.channel.config ≡ self.old.channel.config }
+    {
+        let _ = self.requests.try_push_back(item);
+    }
+
+    /// Pops an item, where both queues of the channel have a free place: admits a request, notes an End.
+    pub(crate) fn take(&mut self) -> Result<(), Refusal>
+        ensures ok { OnOk result (taken (side_of self.old) ≡ Ok (side_of self.new)) }
+        ensures refused { IfErr result (λ cause. taken (side_of self.old) ≡ Err cause) }
+        ensures err { OnErr result (self.new ≡ self.old) }
+        ensures config { self.new.channel.config ≡ self.old.channel.config }
+    {
+        if self.requests.is_empty() {
+            return Err(Refusal::Nothing);
+        }
+        if !self.channel.room() {
+            return Err(Refusal::QueueFull);
+        }
+        match self.requests.pop_front().unwrap() {
+            Item::Request(request) => self.channel.admit(request).unwrap(),
+            Item::End(port) => self.noted[port as usize] = true,
+        }
+        Ok(())
+    }
+
+    /// Makes a cycle. A refusal leaves the side in the state that it was in.
+    pub(crate) fn cycle(&mut self) -> Result<(), Refusal>
+        ensures ok { OnOk result (cycled (side_of self.old) ≡ Ok (side_of self.new)) }
+        ensures refused { IfErr result (λ cause. IsRefusedFor cause (cycled (side_of self.old))) }
+        ensures err { OnErr result (side_of self.new ≡ side_of self.old) }
+        ensures config { self.new.channel.config ≡ self.old.channel.config }
+    {
+        self.channel.cycle()?;
+        Ok(())
+    }
+
+    /// The port that the oldest completion is for, if one is done.
+    pub(crate) fn next_port(&self) -> Option<u32>
+        ensures { result ≡ option_map (λ d. d.port) (slice_get self.now.channel.done 0) }
+    {
+        let done = self.channel.next_done()?;
+        Some(done.port)
+    }
+
+    /// Takes the completion that was done first.
+    pub(crate) fn pop_done(&mut self) -> Option<Done>
+        ensures first { result ≡ slice_get self.old.channel.done 0 }
+        ensures rest { side_of self.new ≡ sent (side_of self.old) }
+        ensures config { self.new.channel.config ≡ self.old.channel.config }
+    {
+        self.channel.pop_done()
+    }
+
+    /// Whether nothing is left in the queue or in the channel, and every End was taken.
+    pub(crate) fn is_drained(&self) -> bool
+        ensures { IsTrue result ↔ IsChannelDrained (side_of self.now) }
+    {
+        self.requests.is_empty() && self.channel.is_empty() && self.noted.iter().all(|ended| *ended)
+    }
+
+    /// The channel itself.
+    pub(crate) fn channel(&self) -> &Channel
+        ensures { result.now ≡ self.now.channel }
+    {
+        &self.channel
+    }
+
+    /// The commands of the channel. The side is given up.
+    pub(crate) fn into_trace(self) -> Trace
+        ensures { result ≡ trace_of self }
+    {
+        let ChannelSide {
+            channel,
+            requests: _,
+            noted: _,
+        } = self;
+        channel.into_trace()
+    }
+}

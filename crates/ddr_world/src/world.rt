@@ -1,0 +1,382 @@
+//! The core: its ports and channels, and one event after another.
+ghost use Rattle.std.specs.Prelude.{◌≡◌, ◌+◌, ◌<◌, ◌≤◌, ◌↔◌, length, map, replicate, List, [], ◌∷◌, ◌++◌, slice_get, All, IfErr, IfOk, IsOk, IsTrue, Some};
+ghost use Rattle.std.specs.List.{range_with_len};
+ghost use Rattle.std.specs.Option.{option_copied, option_map};
+ghost use Rattle.ddr_timing.specs.declared.units.TheConstants.{CLOCK_STOP};
+ghost use Rattle.ddr_reorder.specs.Replies.{said};
+ghost use Rattle.ddr_ports.specs.Asked.{asked_of};
+ghost use Rattle.ddr_world.specs.Answer.{IsAnswered};
+ghost use Rattle.ddr_world.specs.Close.{IsLeftOf, trace_of};
+ghost use Rattle.ddr_world.specs.Events as events;
+ghost use Rattle.ddr_world.specs.Events.{event_of};
+ghost use Rattle.ddr_world.specs.History.{Answered, Opening, front_of};
+ghost use Rattle.ddr_world.specs.Kept.{side_of, state_of};
+ghost use Rattle.ddr_world.specs.Record.{RunsTo, StandsFor};
+ghost use Rattle.ddr_world.specs.State.{IsChannelDrained, IsDrained, IsPortDrained, opened, opened_channel, opened_port};
+
+use crate::channel_side::ChannelSide;
+use crate::event::{Event, Outcome, Refusal};
+use crate::item::Item;
+use crate::port_side::PortSide;
+use arrayvec::ArrayVec;
+use ddr_channel::channel::Channel;
+use ddr_ports::request::Request;
+use ddr_reorder::reply::Reply;
+use ddr_timing::config::Config;
+use ddr_timing::units::CLOCK_STOP;
+use ddr_trace::trace::Trace;
+use std::alloc::{AllocError, Global};
+use std::marker::Model;
+
+/// The most ports of a configuration.
+pub const MOST_PORTS: usize = 8;
+
+/// The most channels of a configuration.
+pub const MOST_CHANNELS: usize = 4;
+
+/// The core of the controller. Contracts see the state that it is in.
+#[derive(Drop)]
+pub struct World {
+    config: Config,
+    ports: Vec<PortSide>,
+    channels: Vec<ChannelSide>,
+}
+
+impl Model for World {
+    ghost use Rattle.ddr_world.specs.Kept.{Kept};
+
+    ghost Value = { Kept };
+
+    ghost use Rattle.ddr_world.specs.View.{kept_of, IsWhole};
+
+    ghost view = { kept_of };
+
+    ghost invariant = { IsWhole };
+}
+
+/// How many events of a list were made, and how many were refused.
+#[derive(Clone, Copy, Debug, PartialEq, Eq)]
+pub struct RunReport {
+    pub made: usize,
+    pub refused: usize,
+}
+
+/// Some port or channel still has something to do, so the core is not closed.
+#[derive(Clone, Copy, Debug, PartialEq, Eq)]
+pub struct NotDrained;
+
+/// What is left of a core that was closed.
+#[derive(Drop)]
+pub struct Closed {
+    /// How many requests each port had accepted.
+    pub accepted: ArrayVec<u64, MOST_PORTS>,
+    /// How many replies each port gave up.
+    pub taken: ArrayVec<u64, MOST_PORTS>,
+    /// The commands of each channel. Each is there: a trace has no blank, which the vector needs.
+    pub traces: ArrayVec<Option<Trace>, MOST_CHANNELS>,
+}
+
+impl World {
+    /// A core before its first event, whose clocks and numbers begin at 0.
+    pub fn open(alloc: Global, config: &Config) -> Result<World, AllocError>
+        ensures state { IfOk result (λ w. state_of w ≡ opened config.now 0 0) }
+        ensures stands { IfOk result (λ w. StandsFor w (record { config = config.now; cycle = 0; number = 0 }) []) }
+    {
+        World::open_at(alloc, config, 0, 0)
+    }
+
+    /// A core before its first event. Each channel's first cycle is `first_cycle`, and the first number of
+    /// each port `first_number`. All that its queues hold has room from here on.
+    pub fn open_at(
+        alloc: Global,
+        config: &Config,
+        first_cycle: u64,
+        first_number: u64,
+    ) -> Result<World, AllocError>
+        requires cycle { first_cycle ≤ CLOCK_STOP }
+        requires number { first_number ≤ CLOCK_STOP }
+        ensures state { IfOk result (λ w. state_of w ≡ opened config.now first_cycle first_number) }
+        ensures stands { IfOk result (λ w. StandsFor w (record { config = config.now; cycle = first_cycle; number = first_number }) []) }
+    {
+        Ok(World {
+            config: *config,
+            ports: open_ports(alloc, config, first_number)?,
+            channels: open_channels(alloc, config, first_cycle)?,
+        })
+    }
+
+    /// Makes an event, or says why not. Memory is asked for in `Cycle` alone.
+    pub fn step(&mut self, event: Event<'_>) -> Result<Outcome, Refusal>
+        ensures answer { IsAnswered self.old self.new (event_of event.entry) result }
+        ensures stands { (opening : Opening) (earlier : List Answered) → StandsFor self.old opening earlier
+            → StandsFor self.new opening (earlier ++ record { event = event_of event.entry; answer = result } ∷ []) }
+    {
+        match event {
+            Event::Submit(port, request) => self.submit(port, request),
+            Event::Take(channel) => self.take(channel),
+            Event::Cycle(channel) => self.cycle(channel),
+            Event::Deliver(channel) => self.deliver(channel),
+            Event::Collect(port) => self.collect(port),
+            Event::Release(port) => self.release(port),
+            Event::End(port, channel) => self.end(port, channel),
+        }
+    }
+
+    /// Makes every event in turn, and goes on after a refusal.
+    pub fn run(&mut self, events: &[Event<'_>]) -> RunReport
+        ensures count { result.made + result.refused ≡ length events.now }
+        ensures runs { RunsTo self.old self.new (map event_of events.now) result.made result.refused }
+    {
+        let mut report = RunReport {
+            made: 0,
+            refused: 0,
+        };
+        for event in events {
+            match self.step(*event) {
+                Ok(_) => report.made += 1,
+                Err(_) => report.refused += 1,
+            }
+        }
+        report
+    }
+
+    fn has_port(&self, port: u32) -> bool
+        ensures { IsTrue result ↔ (port < length self.now.ports) }
+    {
+        (port as usize) < self.ports.len()
+    }
+
+    fn has_channel(&self, channel: u32) -> bool
+        ensures { IsTrue result ↔ (channel < length self.now.channels) }
+    {
+        (channel as usize) < self.channels.len()
+    }
+
+    /// The port prepares the request and pushes it on the queue of its channel.
+    fn submit(&mut self, port: u32, request: Request<'_>) -> Result<Outcome, Refusal>
+        ensures { IsAnswered self.old self.new (events.Submit port (asked_of request.entry)) result }
+    {
+        if !self.has_port(port) {
+            return Err(Refusal::NoSuch);
+        }
+        let side = &mut self.ports[port as usize];
+        let made = side.submit(request)?;
+        let number = made.number;
+        let channel = made.place.channel;
+        if self.channels[channel as usize].is_busy() {
+            side.retract(made);
+            return Err(Refusal::Busy { channel });
+        }
+        self.channels[channel as usize].push(Item::Request(made));
+        Ok(Outcome::Accepted { number })
+    }
+
+    /// The channel pops an item of its queue.
+    fn take(&mut self, channel: u32) -> Result<Outcome, Refusal>
+        ensures { IsAnswered self.old self.new (events.Take channel) result }
+    {
+        if !self.has_channel(channel) {
+            return Err(Refusal::NoSuch);
+        }
+        self.channels[channel as usize].take()?;
+        Ok(Outcome::Taken)
+    }
+
+    /// The channel makes a cycle.
+    fn cycle(&mut self, channel: u32) -> Result<Outcome, Refusal>
+        ensures { IsAnswered self.old self.new (events.Cycle channel) result }
+    {
+        if !self.has_channel(channel) {
+            return Err(Refusal::NoSuch);
+        }
+        self.channels[channel as usize].cycle()?;
+        Ok(Outcome::Cycled)
+    }
+
+    /// The channel pushes its oldest completion on the queue of the port that it is for.
+    fn deliver(&mut self, channel: u32) -> Result<Outcome, Refusal>
+        ensures { IsAnswered self.old self.new (events.Deliver channel) result }
+    {
+        if !self.has_channel(channel) {
+            return Err(Refusal::NoSuch);
+        }
+        let Some(port) = self.channels[channel as usize].next_port() else {
+            return Err(Refusal::Nothing);
+        };
+        if !self.has_port(port) || self.ports[port as usize].is_full() {
+            return Err(Refusal::QueueFull);
+        }
+        let done = self.channels[channel as usize].pop_done().unwrap();
+        self.ports[port as usize].deliver(done);
+        Ok(Outcome::Delivered)
+    }
+
+    /// The port pops a completion and puts its line in its place.
+    fn collect(&mut self, port: u32) -> Result<Outcome, Refusal>
+        ensures { IsAnswered self.old self.new (events.Collect port) result }
+    {
+        if !self.has_port(port) {
+            return Err(Refusal::NoSuch);
+        }
+        let Some(number) = self.ports[port as usize].collect() else {
+            return Err(Refusal::Nothing);
+        };
+        Ok(Outcome::Collected { number })
+    }
+
+    /// The port gives up its oldest reply.
+    fn release(&mut self, port: u32) -> Result<Outcome, Refusal>
+        ensures { IsAnswered self.old self.new (events.Release port) result }
+    {
+        if !self.has_port(port) {
+            return Err(Refusal::NoSuch);
+        }
+        let Some(number) = self.ports[port as usize].release() else {
+            return Err(Refusal::Nothing);
+        };
+        Ok(Outcome::Released { number })
+    }
+
+    /// The port pushes its End on the queue of the channel, and is finished.
+    fn end(&mut self, port: u32, channel: u32) -> Result<Outcome, Refusal>
+        ensures { IsAnswered self.old self.new (events.End port channel) result }
+    {
+        if !self.has_port(port) || !self.has_channel(channel) {
+            return Err(Refusal::NoSuch);
+        }
+        if self.ports[port as usize].has_outstanding() {
+            return Err(Refusal::NotEmpty);
+        }
+        if self.ports[port as usize].has_ended(channel) {
+            return Err(Refusal::Finished);
+        }
+        if self.channels[channel as usize].is_busy() {
+            return Err(Refusal::Busy { channel });
+        }
+        self.ports[port as usize].end(channel);
+        self.channels[channel as usize].push(Item::End(port));
+        Ok(Outcome::Ended)
+    }
+
+    /// The oldest reply of the port, where it is ready. `None` also where there is no such port.
+    pub fn front(&self, port: u32) -> Option<Reply<'_>>
+        ensures { option_map said result ≡ front_of (state_of self.now) port }
+    {
+        if !self.has_port(port) {
+            return None;
+        }
+        self.ports[port as usize].front()
+    }
+
+    /// The channel of that number, if there is one.
+    pub fn channel(&self, channel: u32) -> Option<&Channel>
+        ensures { option_copied result ≡ option_map (λ side. side.channel) (slice_get self.now.channels channel) }
+    {
+        if !self.has_channel(channel) {
+            return None;
+        }
+        Some(self.channels[channel as usize].channel())
+    }
+
+    /// Whether nothing is outstanding and nothing is left in a queue or in a channel, and every End was pushed
+    /// and taken.
+    fn is_drained(&self) -> bool
+        ensures { IsTrue result ↔ IsDrained (state_of self.now) }
+    {
+        self.are_ports_drained() && self.are_channels_drained()
+    }
+
+    fn are_ports_drained(&self) -> bool
+        ensures { IsTrue result ↔ All IsPortDrained self.now.ports }
+    {
+        self.ports.iter().all(|side| side.is_drained())
+    }
+
+    fn are_channels_drained(&self) -> bool
+        ensures { IsTrue result ↔ All (λ side. IsChannelDrained (side_of side)) self.now.channels }
+    {
+        self.channels.iter().all(|side| side.is_drained())
+    }
+
+    /// Gives up the core where it is drained, and tells what each port did and the commands of each channel.
+    pub fn close(self) -> Result<Closed, (World, NotDrained)>
+        ensures drained { IsOk result ↔ IsDrained (state_of self) }
+        ensures ok { IfOk result (IsLeftOf self) }
+        ensures err { IfErr result (λ back. back.0 ≡ self) }
+    {
+        if !self.is_drained() {
+            return Err((self, NotDrained));
+        }
+        let World {
+            config: _,
+            ports,
+            channels,
+        } = self;
+        Ok(Closed {
+            accepted: accepted_by(&ports),
+            taken: taken_by(&ports),
+            traces: traces_of(channels),
+        })
+    }
+}
+
+/// The ports of a core, in order.
+fn open_ports(alloc: Global, config: &Config, first: u64) -> Result<Vec<PortSide>, AllocError>
+    requires { first ≤ CLOCK_STOP }
+    ensures { IfOk result (λ v. v.items ≡ map (opened_port config.now first) (range_with_len 0 config.now.limits.ports)) }
+{
+    let mut ports = Vec::new(alloc);
+    for port in 0..config.limits.ports {
+        ports.push(PortSide::open(alloc, config, port, first)?)?;
+    }
+    Ok(ports)
+}
+
+/// The channels of a core, in order.
+fn open_channels(alloc: Global, config: &Config, first: u64) -> Result<Vec<ChannelSide>, AllocError>
+    requires { first ≤ CLOCK_STOP }
+    ensures state { IfOk result (λ v. map side_of v.items ≡ replicate config.now.geometry.channels (opened_channel config.now first)) }
+    ensures config { IfOk result (λ v. All (λ side. side.channel.config ≡ config.now) v.items) }
+{
+    let mut channels = Vec::new(alloc);
+    for _ in 0..config.geometry.channels {
+        channels.push(ChannelSide::open(alloc, config, first)?)?;
+    }
+    Ok(channels)
+}
+
+/// How many requests each port had accepted.
+fn accepted_by(ports: &[PortSide]) -> ArrayVec<u64, MOST_PORTS>
+    requires { length ports.now ≤ MOST_PORTS }
+    ensures { result.items ≡ map (λ side. side.accepted) ports.now }
+{
+    let mut counts = ArrayVec::new();
+    for side in ports {
+        counts.push(side.accepted());
+    }
+    counts
+}
+
+/// How many replies each port gave up.
+fn taken_by(ports: &[PortSide]) -> ArrayVec<u64, MOST_PORTS>
+    requires { length ports.now ≤ MOST_PORTS }
+    ensures { result.items ≡ map (λ side. side.taken) ports.now }
+{
+    let mut counts = ArrayVec::new();
+    for side in ports {
+        counts.push(side.taken());
+    }
+    counts
+}
+
+/// The commands of each channel. The channels are given up.
+fn traces_of(channels: Vec<ChannelSide>) -> ArrayVec<Option<Trace>, MOST_CHANNELS>
+    requires { length channels.items ≤ MOST_CHANNELS }
+    ensures { result.items ≡ map (λ side. Some (trace_of side)) channels.items }
+{
+    let mut traces = ArrayVec::new();
+    for side in channels {
+        traces.push(Some(side.into_trace()));
+    }
+    traces
+}
