@@ -3,4 +3,4 @@ use Rattle.ddr_channel.proofs.tests.refreshes.reads_postpone_refreshes.Given as 
 
 -- the channel is of the configuration
 abbrev pub invariant-loop-cycle : goal.invariant-loop-cycle
-invariant-loop-cycle l = l.channel.config ≡ l.config
+invariant-loop-cycle g l = l.channel.config ≡ l.config

@@ -1,6 +1,6 @@
 use Rattle.std.proofs.Common.{◌≡◌}
 use Rattle.ddr_channel.proofs.tests.refusals.a_full_queue_hands_the_request_back.Given as goal
 
--- the channel is of the configuration
+-- the configuration stays
 abbrev pub invariant-loop-cycle : goal.invariant-loop-cycle
-invariant-loop-cycle l = l.channel.config ≡ l.config
+invariant-loop-cycle g l = l.channel.config ≡ l.initial.channel.config
