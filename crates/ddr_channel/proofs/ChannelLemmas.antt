@@ -1,5 +1,5 @@
 -- What opening, admission and the look at a cycle's situation make of a channel's fields.
-use Rattle.std.proofs.Common.{◌≡◌, ◌↔◌, IsTrue, ℕ, ◌+◌, ◌-◌, ◌*◌, ◌<◌, ◌≤◌, Bool, true, false, not, eqb, ltb, leb, List, [], ◌∷◌, ◌++◌, Result, Ok, Err, IsErr, OnOk, IfErr, None, All, length, replicate, refl, sym, ap, ap₂, subst, ◌∙◌, arith}
+use Rattle.std.proofs.Common.{◌≡◌, ◌↔◌, IsTrue, ℕ, ◌+◌, ◌-◌, ◌*◌, ◌≤◌, Bool, true, false, eqb, ltb, leb, List, [], ◌∷◌, ◌++◌, Result, Ok, Err, IsErr, OnOk, IfErr, length, replicate, refl, sym, ap, subst, ◌∙◌, arith}
 use Rattle.std.proofs.Math.Path.{fun_ext}
 use Rattle.std.specs.List.{filter}
 use Rattle.std.proofs.lemmas.Bool.{false≢true}
@@ -21,12 +21,12 @@ use Rattle.ddr_refresh.specs.Refreshes as refreshes
 use Rattle.ddr_row_array.specs.Rows.{Rows, cells}
 use Rattle.ddr_row_array.specs.Changes.{IsFresh}
 use Rattle.ddr_arbiter.specs.declared.policy.Policy.{Policy}
-use Rattle.ddr_arbiter.specs.Situation.{Situation, situation}
+use Rattle.ddr_arbiter.specs.Situation.{situation}
 use Rattle.ddr_channel.specs.declared.channel.Channel.TheInside.{Inside}
 use Rattle.ddr_channel.specs.Choice.{policy_of, has_room, refreshes_of, situation_of}
 use Rattle.ddr_channel.specs.Cycle.{completed}
 use Rattle.ddr_channel.specs.History.{Call, Admit}
-use Rattle.ddr_channel.specs.Kept.{Kept, state_of}
+use Rattle.ddr_channel.specs.Kept.{state_of}
 use Rattle.ddr_channel.specs.Memory.{LineAddress}
 use Rattle.ddr_channel.specs.Promise.{StandsFor}
 use Rattle.ddr_channel.specs.Sound.{IsServed, IsSound}

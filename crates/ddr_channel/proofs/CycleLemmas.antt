@@ -1,10 +1,9 @@
 -- What a cycle makes of a channel's fields.
-use Rattle.std.proofs.Common.{◌≡◌, ℕ, ◌+◌, ◌-◌, ◌*◌, ◌^◌, ◌<◌, ◌≤◌, Bool, true, false, ◌&&◌, not, cond, eqb, List, [], ◌∷◌, ◌++◌, Option, Some, None, All, length, refl, sym, ap, ap₂, subst, ◌∙◌, inl, inr, arith}
+use Rattle.std.proofs.Common.{◌≡◌, ℕ, ◌+◌, ◌-◌, ◌*◌, ◌<◌, ◌≤◌, Bool, true, false, ◌&&◌, not, cond, List, [], ◌∷◌, ◌++◌, Option, Some, None, All, length, refl, sym, ap, subst, ◌∙◌, inl, inr, arith}
 use Rattle.std.proofs.Math.Path.{fun_ext}
 use Rattle.std.specs.List.{slice_get}
 use Rattle.std.specs.Option.{option_map, IfSome}
-use Rattle.std.proofs.lemmas.Bool.{and_parts, not-false, eqb-true, eq-eqb, ltb-true, cases_Bool, false≢true, true≢false}
-use Rattle.std.proofs.lemmas.List.{length-append}
+use Rattle.std.proofs.lemmas.Bool.{not-false, eqb-true, eq-eqb, ltb-true, cases_Bool, false≢true, true≢false}
 use Rattle.std.proofs.lemmas.List.Sums.{sum_by_push}
 use Rattle.circular_buffer.specs.Buffer.{Buffer}
 use Rattle.ddr_timing.specs.declared.config.Config.{Config}
@@ -15,7 +14,7 @@ use Rattle.ddr_trace.specs.declared.command.Command.TheVariants.{Act}
 use Rattle.ddr_trace.specs.declared.command.Entry.{Entry}
 use Rattle.ddr_trace.specs.declared.rule.Rule.TheVariants as rule
 use Rattle.ddr_trace.specs.Commands.{entry, is_refresh, is_same_rank, rank_of}
-use Rattle.ddr_trace.specs.Rules.{breaks, is_row_open, refresh_count}
+use Rattle.ddr_trace.specs.Rules.{is_row_open, refresh_count}
 use Rattle.ddr_rank.specs.Breaks.{is_open}
 use Rattle.ddr_rank.proofs.OpenLemmas.{row_told}
 use Rattle.ddr_rank.proofs.PlaceLemmas.{rank_in}
@@ -25,12 +24,12 @@ use Rattle.ddr_legality.specs.Kept as legality
 use Rattle.ddr_address_map.specs.declared.place.Place.{Place}
 use Rattle.ddr_address_map.specs.declared.request.Kind.{Kind}
 use Rattle.ddr_address_map.specs.declared.request.Kind.TheVariants.{Read, Write}
-use Rattle.ddr_address_map.specs.Requests.{Request, Completion}
+use Rattle.ddr_address_map.specs.Requests.{Completion}
 use Rattle.ddr_address_map.proofs.MapLemmas.{IsInRange-test}
 use Rattle.ddr_hazards.specs.declared.waiting.Waiting.{Waiting}
 use Rattle.ddr_hazards.specs.PendingList.{PendingList}
 use Rattle.ddr_refresh.specs.Refreshes.{Refreshes, after_tick, debt_of}
-use Rattle.ddr_row_array.specs.Rows.{Rows, line_count, open_row, cells}
+use Rattle.ddr_row_array.specs.Rows.{Rows, open_row, cells}
 use Rattle.ddr_row_array.specs.Changes.{SameShape}
 use Rattle.ddr_arbiter.specs.declared.choice.Choice.{Choice}
 use Rattle.ddr_arbiter.specs.declared.choice.Choice.TheVariants as choice
@@ -41,9 +40,9 @@ use Rattle.ddr_arbiter.proofs.LawLemmas.{lawful_where}
 use Rattle.ddr_channel.specs.declared.channel.Channel.TheInside.{Inside}
 use Rattle.ddr_channel.specs.Choice.{bus_of, has_room, refreshes_of, situation_of, choice_of}
 use Rattle.ddr_channel.specs.Cycle.{at_choice, with_command, recorded, served_by, issued, ticked, after_cycle}
-use Rattle.ddr_channel.specs.Issue.{bus_with, row_after, row_with, refreshes_after, refreshes_with}
-use Rattle.ddr_channel.specs.Kept.{Kept, state_of, AgreesWith}
-use Rattle.ddr_channel.specs.Memory.{LineAddress, bank_number}
+use Rattle.ddr_channel.specs.Issue.{bus_with, row_after, row_with, refreshes_with}
+use Rattle.ddr_channel.specs.Kept.{state_of, AgreesWith}
+use Rattle.ddr_channel.specs.Memory.{bank_number}
 use Rattle.ddr_channel.specs.Served.{CanServe, MayServe, Holds}
 use Rattle.ddr_channel.specs.Sound.{IsServed, IsSound}
 use Rattle.ddr_channel.specs.State.{State}

@@ -2,9 +2,9 @@
 use Rattle.std.proofs.Common.{◌≡◌, ℕ, zero, suc, ◌+◌, ◌<◌, ◌≤◌, Bool, true, false, ◌&&◌, not, cond, eqb, List, [], ◌∷◌, ◌++◌, Option, Some, None, All, map, length, take, drop, get_or, refl, sym, ap, ap₂, subst, ◌∙◌, ◌⊎◌, inl, inr, arith}
 use Rattle.std.specs.List.{AllByRecursion, AllPairs, filter, list_any, slice_get, remove, range_with_len, fold}
 use Rattle.std.specs.List.Sorted.{IsPermutation}
-use Rattle.std.specs.Option.{option_map, option_map_or, IfSome}
+use Rattle.std.specs.Option.{option_map, option_map_or}
 use Rattle.std.proofs.lemmas.Bool.{cases_eq, cases_Bool, cases_order, true≢false, eq-eqb, eqb-true, and_parts}
-use Rattle.std.proofs.lemmas.List.{append_assoc, append-nil, length-append, length_push, length-map, map-append, take_at, take-append-le, take-append-drop, take-map, take_all}
+use Rattle.std.proofs.lemmas.List.{append_assoc, append-nil, length_push, length-map, map-append, take_at, take-append-le, take-append-drop, take-map}
 use Rattle.std.proofs.lemmas.List.Elements.{All-take, All-tail, filter-append}
 use Rattle.std.proofs.lemmas.List.Quantifiers.{all_pairs_remove, all_pairs_push}
 use Rattle.std.proofs.lemmas.List.Sorted.{IsPermutation-refl, IsPermutation-more, IsPermutation-append_left}
@@ -28,16 +28,16 @@ use Rattle.ddr_arbiter.specs.declared.choice.Choice.TheVariants as choice
 use Rattle.ddr_arbiter.specs.Commands.{activate_at, precharge_at, column_at, column_of}
 use Rattle.ddr_arbiter.specs.Laws.{command_of, IsLawful}
 use Rattle.ddr_arbiter.proofs.LawLemmas.{choice_lawful}
-use Rattle.ddr_channel.specs.Choice.{bus_of, has_room, situation_of, choice_of}
-use Rattle.ddr_channel.specs.Cycle.{completed, at_choice, recorded, completion_at, completion_of, cells_after, served, served_at, served_by, issued, ticked, after_cycle}
+use Rattle.ddr_channel.specs.Choice.{situation_of, choice_of}
+use Rattle.ddr_channel.specs.Cycle.{at_choice, recorded, completion_at, completion_of, cells_after, served, served_at, served_by, issued, ticked, after_cycle}
 use Rattle.ddr_channel.specs.History.{Call, Admit, Cycle, Pop, Owner, History, begun, with_owner, after_call, run}
 use Rattle.ddr_channel.specs.Memory.{LineAddress, bank_number, line_of, is_same_line, line_over, line_after}
 use Rattle.ddr_channel.specs.Promise.{answer_to, right_answer, owned_entry, requests_of, completions_of, MayCall, AreCalls}
 use Rattle.ddr_channel.specs.Sound.{IsServed, AreDue, IsSound}
 use Rattle.ddr_channel.specs.State.{State, after_admit, after_pop, is_queue_full}
-use Rattle.ddr_channel.proofs.ListLemmas.{slice_get-remove_before, slice_get-remove_behind, get_or-remove_before, get_or-remove_behind, take-remove_before, TakesBoth, takes_both, split_at, map-remove, All-at, All-implies, All-last, All-taken, at_recursion, at_map, mapped_at, list_any-none_at, neither}
+use Rattle.ddr_channel.proofs.ListLemmas.{slice_get-remove_before, slice_get-remove_behind, get_or-remove_before, get_or-remove_behind, take-remove_before, takes_both, split_at, map-remove, All-at, All-implies, All-last, All-taken, at_map, mapped_at, list_any-none_at, neither}
 use Rattle.ddr_channel.proofs.MemoryLemmas.{line_over-append, line_over-line_after, serve_line, line_kept, IsFormed, formed_after, NoneTo}
-use Rattle.ddr_channel.proofs.SoundLemmas.{IsSound-opened, IsSound-at_choice, IsSound-after_cycle, IsSound-after_admit, IsSound-after_pop, sound_issued, due_now, due_later, due_after, none_due, AreDue-append}
+use Rattle.ddr_channel.proofs.SoundLemmas.{IsSound-opened, IsSound-at_choice, IsSound-after_cycle, IsSound-after_admit, IsSound-after_pop, due_now, due_later, due_after, none_due, AreDue-append}
 
 -- what a pending request would read is what the requests that were admitted before it leave
 abbrev pub PromisesAt : History → ℕ → Request → Type 0

@@ -1,5 +1,5 @@
 -- What a command that is legal now needs, and what the rows are after it.
-use Rattle.std.proofs.Common.{◌≡◌, ℕ, zero, suc, ◌+◌, ◌*◌, ◌^◌, ◌<◌, ◌≤◌, Bool, true, false, ◌&&◌, not, cond, eqb, ltb, List, [], ◌∷◌, ◌++◌, Option, Some, None, length, get_or, refl, sym, ap, ap₂, subst, ◌∙◌, inl, inr, arith}
+use Rattle.std.proofs.Common.{◌≡◌, ℕ, zero, suc, ◌+◌, ◌*◌, ◌^◌, ◌<◌, ◌≤◌, Bool, true, false, ◌&&◌, cond, eqb, ltb, List, [], ◌∷◌, ◌++◌, Option, Some, None, length, refl, sym, ap, ap₂, subst, ◌∙◌, inl, inr, arith}
 use Rattle.std.specs.List.{slice_index_or}
 use Rattle.std.proofs.lemmas.Bool.{and_parts, not-false, eqb-true, eq-eqb, ne_eqb, ltb-true, lt-ltb, cases_eq, cases_order, true≢false, false≢true}
 use Rattle.std.proofs.lemmas.Bool.Decides.{nat_tests}
@@ -10,15 +10,15 @@ use Rattle.ddr_trace.specs.declared.command.Command.{Command}
 use Rattle.ddr_trace.specs.declared.command.Command.TheVariants.{Act, Rd, Wr, Pre, PreAll, Refresh}
 use Rattle.ddr_trace.specs.declared.command.Entry.{Entry}
 use Rattle.ddr_trace.specs.declared.rule.Rule.TheVariants as rule
-use Rattle.ddr_trace.specs.Commands.{entry, is_activate, is_same_bank, rank_of}
+use Rattle.ddr_trace.specs.Commands.{entry, is_activate, is_same_bank}
 use Rattle.ddr_trace.specs.Rules.{IsOpenRow, is_bank_active, is_in, is_bank_in}
 use Rattle.ddr_legality.specs.Bus.{Bus, broken_now}
 use Rattle.ddr_legality.proofs.LegalLemmas.{keeps_from_none}
 use Rattle.ddr_rank.proofs.OpenLemmas.{open_after, active_told}
 use Rattle.ddr_rank.proofs.PlaceLemmas.{rank_in, group_in, bank_in}
-use Rattle.ddr_row_array.specs.Changes.{SameBytes, SameShape}
+use Rattle.ddr_row_array.specs.Changes.{SameShape}
 use Rattle.ddr_row_array.specs.Rows.{Rows, bank_count, row_count, open_row}
-use Rattle.ddr_channel.specs.Issue.{IsReadyFor, IsStoredFor, MayFollow, row_after, refreshes_after}
+use Rattle.ddr_channel.specs.Issue.{IsReadyFor, MayFollow, row_after, refreshes_after}
 use Rattle.ddr_refresh.specs.Refreshes.{Refreshes}
 use Rattle.ddr_channel.specs.Kept.{AgreesWith}
 

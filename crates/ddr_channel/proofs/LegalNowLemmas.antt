@@ -1,19 +1,14 @@
 -- How far apart legal column commands are.
-use Rattle.std.proofs.Common.{◌≡◌, ℕ, zero, suc, ◌+◌, ◌-◌, ◌<◌, ◌≤◌, Bool, true, false, ◌&&◌, ◌||◌, not, eqb, ltb, leb, List, [], ◌∷◌, Option, Some, None, refl, sym, ap, ◌∙◌, inl, inr, arith}
-use Rattle.std.specs.List.{list_any, slice_get}
-use Rattle.std.specs.Option.{is_none}
-use Rattle.std.proofs.lemmas.Bool.{and_parts, and_from, not-true, ltb-false, leb-true, cases_Bool, true≢false}
-use Rattle.ddr_trace.specs.declared.command.Command.{Command}
-use Rattle.ddr_trace.specs.declared.rule.Rule.{Rule}
+use Rattle.std.proofs.Common.{◌≡◌, ℕ, ◌+◌, ◌<◌, ◌≤◌, Bool, true, false, ◌&&◌, not, eqb, ltb, Some, refl, arith}
+use Rattle.std.specs.List.{slice_get}
+use Rattle.std.proofs.lemmas.Bool.{ltb-false}
 use Rattle.ddr_trace.specs.declared.rule.Rule.TheVariants as rule
 use Rattle.ddr_trace.specs.Rules.{is_too_close, spacing_of}
-use Rattle.ddr_trace.specs.Legality.{KeepsRules}
 use Rattle.ddr_address_map.specs.declared.place.Place.{Place}
 use Rattle.ddr_address_map.specs.declared.request.Kind.{Kind}
 use Rattle.ddr_address_map.specs.declared.request.Kind.TheVariants.{Read, Write}
 use Rattle.ddr_trace.specs.Commands.{entry}
-use Rattle.ddr_legality.specs.Bus.{Bus, broken_now, is_legal_now}
-use Rattle.ddr_legality.proofs.LegalLemmas.{keeps_from_none}
+use Rattle.ddr_legality.specs.Bus.{Bus, is_legal_now}
 use Rattle.ddr_arbiter.specs.Commands.{column_at}
 use Rattle.ddr_arbiter.proofs.CommandLemmas.{legal_keeps}
 use Rattle.ddr_channel.specs.Cycle.{service_time}

@@ -2,7 +2,7 @@
 use Rattle.std.proofs.Common.{◌≡◌, ℕ, List, Option, Some, None, refl, sym, ap, subst, ◌∙◌}
 use Rattle.std.specs.List.{slice_get, remove}
 use Rattle.std.specs.Option.{option_map}
-use Rattle.ddr_address_map.specs.Requests.{Request, Completion}
+use Rattle.ddr_address_map.specs.Requests.{Completion}
 use Rattle.ddr_row_array.specs.Rows.{Rows}
 use Rattle.ddr_hazards.specs.declared.waiting.Waiting.{Waiting}
 use Rattle.ddr_arbiter.specs.declared.choice.Choice.{Choice}

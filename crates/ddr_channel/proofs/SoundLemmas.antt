@@ -1,5 +1,5 @@
 -- Each call keeps what every state of a channel keeps.
-use Rattle.std.proofs.Common.{◌≡◌, ℕ, suc, ◌+◌, ◌<◌, ◌≤◌, Bool, true, false, not, cond, eqb, List, [], ◌∷◌, ◌++◌, Option, Some, None, All, length, refl, sym, ap, ap₂, subst, ◌∙◌, inl, inr, arith}
+use Rattle.std.proofs.Common.{◌≡◌, ℕ, suc, ◌+◌, ◌<◌, ◌≤◌, Bool, true, false, not, cond, eqb, List, [], ◌∷◌, ◌++◌, Option, Some, None, length, refl, sym, ap, subst, ◌∙◌, inl, inr, arith}
 use Rattle.std.specs.List.{AllByRecursion, filter, slice_get}
 use Rattle.std.specs.Option.{option_map, IfSome}
 use Rattle.std.proofs.lemmas.Bool.{ltb-true, and_right, cases_eq, eq-eqb, ne_eqb}
@@ -25,7 +25,7 @@ use Rattle.ddr_arbiter.specs.Laws.{command_of, IsLawful}
 use Rattle.ddr_arbiter.proofs.CommandLemmas.{legal_keeps}
 use Rattle.ddr_arbiter.proofs.LawLemmas.{choice_lawful}
 use Rattle.ddr_channel.specs.Choice.{bus_of, has_room, situation_of, choice_of}
-use Rattle.ddr_channel.specs.Cycle.{completed, at_choice, recorded, service_time, completion_of, served, served_at, served_by, issued, ticked, after_cycle}
+use Rattle.ddr_channel.specs.Cycle.{completed, at_choice, recorded, service_time, completion_of, served, served_at, issued, ticked, after_cycle}
 use Rattle.ddr_channel.specs.Sound.{IsServed, IsTraced, AreDue, IsSound}
 use Rattle.ddr_channel.specs.State.{State, opened, after_admit, after_pop}
 use Rattle.ddr_channel.proofs.LegalNowLemmas.{later_due}

@@ -1,5 +1,5 @@
 -- What the channel does in a cycle: the scheduler's choice, in the situation that the channel is in.
-use Rattle.std.specs.Prelude.{ℕ, ◌+◌, ◌-◌, Bool, nat_lt, length}
+use Rattle.std.specs.Prelude.{◌+◌, ◌-◌, Bool, nat_lt, length}
 use Rattle.ddr_timing.specs.declared.config.Config.{Config}
 use Rattle.ddr_trace.specs.Rules.{refresh_count}
 use Rattle.ddr_legality.specs.Bus.{Bus}

@@ -1,5 +1,5 @@
 -- One cycle of a channel.
-use Rattle.std.specs.Prelude.{ℕ, ◌+◌, ◌^◌, not, ◌==◌, if◌then◌else◌, List, [], ◌∷◌, ◌++◌, filter, remove, Option, Some, None, slice_get}
+use Rattle.std.specs.Prelude.{ℕ, ◌+◌, not, ◌==◌, if◌then◌else◌, List, [], ◌∷◌, ◌++◌, filter, remove, Option, Some, None, slice_get}
 use Rattle.ddr_timing.specs.declared.config.Config.{Config}
 use Rattle.ddr_timing.specs.declared.units.TheConstants.{BURST_CLOCKS}
 use Rattle.ddr_trace.specs.declared.command.Command.{Command}

@@ -1,8 +1,8 @@
 -- The command of a cycle: what it needs, and what it makes of the open rows and of the refreshes.
-use Rattle.std.specs.Prelude.{◌≡◌, ℕ, ◌+◌, ◌*◌, ◌≤◌, ◌<◌, Bool, ◌&&◌, if◌then◌else◌, Option, Some, None, IsTrue}
+use Rattle.std.specs.Prelude.{◌≡◌, ℕ, ◌+◌, ◌*◌, ◌≤◌, ◌<◌, ◌&&◌, if◌then◌else◌, Option, Some, None, IsTrue}
 use Rattle.ddr_timing.specs.declared.units.TheConstants.{GROUP_BANKS}
 use Rattle.ddr_trace.specs.declared.command.Command.{Command}
-use Rattle.ddr_trace.specs.declared.command.Command.TheVariants.{Act, Rd, Wr, Pre, PreAll, Refresh}
+use Rattle.ddr_trace.specs.declared.command.Command.TheVariants.{Act, Pre}
 use Rattle.ddr_trace.specs.Commands.{is_activate, is_precharge, is_refresh, is_same_bank, rank_of, row_of}
 use Rattle.ddr_legality.specs.Bus.{Bus}
 use Rattle.ddr_row_array.specs.Rows.{Rows, bank_count, row_count, open_row, is_stored}

@@ -1,6 +1,5 @@
 -- The rows follow the command, and agree with the trace as before.
-use Rattle.std.proofs.Common.{◌≡◌, List, refl, sym, ap, subst, ◌∙◌}
-use Rattle.ddr_trace.specs.declared.command.Entry.{Entry}
+use Rattle.std.proofs.Common.{sym, subst}
 use Rattle.ddr_legality.specs.Bus.{Bus}
 use Rattle.ddr_channel.specs.Kept.{AgreesWith}
 use Rattle.ddr_channel.proofs.IssueLemmas.{may_follow, agrees_after, no_refresh}

@@ -1,5 +1,5 @@
 -- A legal ACT is of a bank and a row that are there.
-use Rattle.std.proofs.Common.{◌≡◌, true, ap, subst, ◌∙◌, arith}
+use Rattle.std.proofs.Common.{◌≡◌, true, subst, arith}
 use Rattle.ddr_timing.specs.declared.config.Config.{Config}
 use Rattle.ddr_trace.specs.declared.command.Command.{Command}
 use Rattle.ddr_trace.specs.Rules.{is_in}

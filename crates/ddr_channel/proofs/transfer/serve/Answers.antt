@@ -1,5 +1,5 @@
 -- Nothing is served at a place that isn't there.
-use Rattle.std.proofs.Common.{◌≡◌, sym, ap, ◌∙◌}
+use Rattle.std.proofs.Common.{sym, ap, ◌∙◌}
 use Rattle.ddr_hazards.specs.PendingList.{PendingList}
 use Rattle.ddr_channel.proofs.ServeLemmas.{nothing_served}
 use Rattle.ddr_channel.proofs.transfer.serve.Goals as goal

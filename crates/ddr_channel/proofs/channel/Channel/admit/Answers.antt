@@ -1,6 +1,5 @@
 -- Admission is one call more, whether the queue is full or not.
-use Rattle.std.proofs.Common.{◌≡◌, ◌∷◌, ◌++◌, [], List, OnOk, sym, ap, subst, ◌∙◌}
-use Rattle.ddr_channel.specs.History.{Call, Admit}
+use Rattle.std.proofs.Common.{◌≡◌, OnOk, sym, subst}
 use Rattle.ddr_channel.specs.Kept.{Kept, state_of}
 use Rattle.ddr_channel.specs.Promise.{StandsFor}
 use Rattle.ddr_channel.specs.Sound.{IsServed}

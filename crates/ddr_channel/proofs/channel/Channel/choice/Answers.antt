@@ -1,5 +1,5 @@
 -- The scheduler finds the situation that the state is in.
-use Rattle.std.proofs.Common.{◌≡◌, ◌+◌, refl, sym, ap, ap₂, ltb, ◌∙◌}
+use Rattle.std.proofs.Common.{◌+◌, sym, ap, ap₂, ltb, ◌∙◌}
 use Rattle.ddr_arbiter.specs.Choice as arbiter
 use Rattle.ddr_refresh.specs.Refreshes.{after_tick}
 use Rattle.ddr_channel.specs.Choice.{choice_of, refreshes_of}

@@ -1,17 +1,14 @@
 -- The five steps of a cycle: what is due completes, the debt and the mode go on, the choice is issued, and the clock.
-use Rattle.std.proofs.Common.{◌≡◌, ◌++◌, List, Option, None, Result, Ok, Err, OnErr, IfSome, not, eqb, refl, sym, ap, ap₂, subst, ◌∙◌, arith}
+use Rattle.std.proofs.Common.{◌≡◌, ◌++◌, None, Result, Ok, Err, OnErr, IfSome, not, eqb, refl, sym, ap, subst, ◌∙◌, arith}
 use Rattle.std.specs.List.{filter}
 use Rattle.circular_buffer.specs.Buffer.{Buffer}
-use Rattle.ddr_trace.specs.declared.command.Command.{Command}
 use Rattle.ddr_legality.specs.Bus.{Bus, broken_now, ticked}
 use Rattle.ddr_address_map.specs.Requests.{Completion}
-use Rattle.ddr_arbiter.specs.declared.choice.Choice.{Choice}
 use Rattle.ddr_channel.specs.Choice.{choice_of}
 use Rattle.ddr_channel.specs.Cycle.{at_choice, recorded, after_cycle}
 use Rattle.ddr_channel.specs.Issue.{bus_with, refreshes_with}
 use Rattle.ddr_channel.specs.Kept.{Kept, state_of, AgreesWith}
-use Rattle.ddr_channel.specs.View.{kept_of}
-use Rattle.ddr_channel.proofs.CycleLemmas.{choosing, chosen_legal, chosen_due, chosen_room, chosen_served, after, Made, state_after, whole_after, state_refused, whole_refused}
+use Rattle.ddr_channel.proofs.CycleLemmas.{choosing, chosen_legal, chosen_due, chosen_room, chosen_served, Made, state_after, whole_after, state_refused}
 use Rattle.ddr_channel.proofs.IssueLemmas.{agrees_ready}
 use Rattle.ddr_channel.proofs.channel.Channel.make_cycle.Goals as goal
 
