@@ -3,3 +3,4 @@ mod StepLemmas
 mod StandsLemmas
 mod WholeLemmas
 mod OpenLemmas
+pub mod LineBytes

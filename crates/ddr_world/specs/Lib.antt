@@ -6,5 +6,6 @@ pub mod Kept
 pub mod Answer
 pub mod History
 pub mod Record
+pub mod Promise
 pub mod Close
 pub mod View
