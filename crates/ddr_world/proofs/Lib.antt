@@ -4,3 +4,6 @@ mod StandsLemmas
 mod WholeLemmas
 mod OpenLemmas
 pub mod LineBytes
+pub mod CoreKeeps
+pub mod CoreCounts
+pub mod CoreFrames
