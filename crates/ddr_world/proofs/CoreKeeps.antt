@@ -121,6 +121,10 @@ pub grown : {X : Type 0} (xs more : List X) → Grows xs (xs ++ more)
 unfolding Grows
 grown xs more = (more, refl)
 
+pub grows_by : {X : Type 0} (xs ys more : List X) → ys ≡ xs ++ more → Grows xs ys
+unfolding Grows
+grows_by xs ys more is = (more, is)
+
 pub grows_none : {X : Type 0} (xs ys : List X) → ys ≡ xs → Grows xs ys
 unfolding Grows
 grows_none xs ys same = ([], same ∙ sym (append-nil xs))

@@ -7,3 +7,4 @@ pub mod LineBytes
 pub mod CoreKeeps
 pub mod CoreCounts
 pub mod CoreFrames
+pub mod CoreReplies
