@@ -8,3 +8,5 @@ pub mod CoreKeeps
 pub mod CoreCounts
 pub mod CoreFrames
 pub mod CoreReplies
+pub mod PlaceLemmas
+pub mod CoreEvents

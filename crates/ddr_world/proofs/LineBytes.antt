@@ -3,17 +3,17 @@ use Rattle.std.proofs.Common.{◌≡◌, ℕ, zero, suc, ◌+◌, ◌-◌, ◌*�
 use Rattle.std.specs.List.{fold, range_with_len, AllByRecursion, slice_index, slice_range}
 use Rattle.std.specs.Int.{bit_at}
 use Rattle.std.proofs.lemmas.Bool.{eqb-true, eq-eqb, and_parts}
-use Rattle.circular_buffer.proofs.Places.{below_or_not}
 use Rattle.ddr_timing.specs.declared.geometry.Digit.{Digit}
 use Rattle.ddr_timing.specs.declared.geometry.Digit.TheVariants.{Channel, Group, Bank, Column, Row}
 use Rattle.ddr_timing.specs.declared.geometry.Geometry.{Geometry}
 use Rattle.ddr_address_map.specs.declared.place.Place.{Place}
 use Rattle.ddr_address_map.specs.Map.{size_of, capacity_of, digit_of, number_of, digit_in, place_with, with_bank_xor, in_range, place_of, address_of}
 use Rattle.ddr_address_map.specs.Requests.{Request}
-use Rattle.ddr_address_map.proofs.MapLemmas.{IsInRange, IsInRange-test, digits_at, place_of-below, place_of-past, address_of-inside, place-in_range, address_of-place}
+use Rattle.ddr_address_map.proofs.MapLemmas.{IsInRange, IsInRange-test, digits_at, address_of-inside, place-in_range, address_of-place}
 use Rattle.ddr_address_map.proofs.Radix.{number_of-same}
 use Rattle.ddr_channel.specs.Memory.{LineAddress, line_of, is_same_line, is_write_kind, writes_byte, byte_over, line_after}
 use Rattle.ddr_reorder.specs.State.{IsWithinLine}
+use Rattle.ddr_world.proofs.PlaceLemmas.{Stands, stands}
 use Rattle.ddr_world.specs.Promise.{writes, byte_after, bytes_after}
 
 -- the request stands at its address's place, on this channel, and what it asks for lies in one line
@@ -21,17 +21,6 @@ pub record IsPlaced (shape : Geometry) (c : ℕ) (r : Request) : Type 0 where
   pub placed : place_of shape r.echo.addr ≡ Some r.place
   pub channel : r.place.channel ≡ c
   pub within : IsWithinLine r.echo
-
--- an address and its place
-
-record Stands (shape : Geometry) (addr : ℕ) (q : Place) : Type 0 where
-  low : addr < capacity_of shape
-  is : q ≡ with_bank_xor shape (digits_at shape addr)
-
-stands : (shape : Geometry) (addr : ℕ) (q : Place) → place_of shape addr ≡ Some q → Stands shape addr q
-stands shape addr q placed = elim (below_or_not addr (capacity_of shape)) [
-    inl low ↦ (let here = place_of-below shape addr low in let same : q ≡ with_bank_xor shape (digits_at shape addr) = cc in record { low = low; is = same })
-  | inr past ↦ absurd (let none = place_of-past shape addr past in cc) ]
 
 -- the line's number, by the digits of a place
 abbrev number : Geometry → Place → ℕ
