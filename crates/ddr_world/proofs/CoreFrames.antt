@@ -128,7 +128,7 @@ ports_after o h accepted sent taken p old new k was grows others keeps i side is
         subst (λ (xs : List Whereabouts). PortKeeps o accepted xs (taken i) i side) (sym lists.0)
         (subst (λ (xs : List Answer). PortKeeps o accepted (h.sent i) xs i side) (sym lists.1) here)) ]
 
-past_other : {X : Type 0} (xs : List X) (c i : ℕ) (x : X) → slice_get xs c ≡ Some x → length xs ≤ i → i ≢ c
+pub past_other : {X : Type 0} (xs : List X) (c i : ℕ) (x : X) → slice_get xs c ≡ Some x → length xs ≤ i → i ≢ c
 past_other xs c i x is past = λ same. absurd (omega (arith, slice_get_within xs c x is, past, same))
 
 pub channel_changed : (o : Opening) (h : History) (admitted : ℕ → List Request) (c : ℕ) (old new : ChannelSide) → CoreKeeps o h → slice_get h.state.channels c ≡ Some old

@@ -137,6 +137,10 @@ pub before_still : {X : Type 0} (xs ys : List X) (i : ℕ) (x : X) → Grows xs 
 unfolding Grows
 before_still xs ys i x grows is = ap (take i) grows.1 ∙ take-append-le i xs grows.0 (omega (arith, slice_get_within xs i x is))
 
+pub take_still : {X : Type 0} (xs ys : List X) (n : ℕ) → Grows xs ys → n ≤ length xs → take n ys ≡ take n xs
+unfolding Grows
+take_still xs ys n grows within = ap (take n) grows.1 ∙ take-append-le n xs grows.0 within
+
 -- what is said of a request stays, as the acceptance lists grow
 
 pub settled_still : (old new : ℕ → List Request) (w : Whereabouts) (e : Outstanding) → ((c : ℕ) → Grows (old c) (new c)) → Settled old w e → Settled new w e

@@ -39,7 +39,7 @@ first_of_both : {X : Type 0} (xs ys : List X) (x : X) → slice_get xs 0 ≡ Som
 first_of_both [] ys x is = cc
 first_of_both (z ∷ zs) ys x is = is
 
-some_of_map : {X Y : Type 0} (f : X → Y) (o : Option X) (y : Y) → option_map f o ≡ Some y → (x : X) × (o ≡ Some x) × (f x ≡ y)
+pub some_of_map : {X Y : Type 0} (f : X → Y) (o : Option X) (y : Y) → option_map f o ≡ Some y → (x : X) × (o ≡ Some x) × (f x ≡ y)
 some_of_map f None y is = cc
 some_of_map f (Some x) y is = (x, refl, (let same : f x ≡ y = cc in same))
 

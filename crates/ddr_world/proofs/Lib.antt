@@ -10,3 +10,4 @@ pub mod CoreFrames
 pub mod CoreReplies
 pub mod PlaceLemmas
 pub mod CoreEvents
+pub mod CoreSubmit
