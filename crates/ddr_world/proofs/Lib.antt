@@ -11,3 +11,4 @@ pub mod CoreReplies
 pub mod PlaceLemmas
 pub mod CoreEvents
 pub mod CoreSubmit
+pub mod CoreRuns
