@@ -82,6 +82,8 @@ delivered_keeps o h d port k right = record {
   accepted_are = k.accepted_are;
   taken_are = k.taken_are;
   counted = k.counted;
+  ends = k.ends;
+  ended = k.ended;
   settled = k.settled;
   right = λ j x is. elim (before_or_last port.completions d x j is) [
       inl before ↦ k.right j x before
@@ -109,6 +111,7 @@ deliver_keeps o h c side d port k was done there =
               ap (λ (s : PortSide). sum_by (held_in f p) (set h.state.channels c (sent side)) + delivered_in f s) here.1 ∙ new ∙ ap (waiting_in f) (sym here.1))
         | inr other ↦ (let weighs : weight f p d.port d.number ≡ 0 = ap (λ b. cond b (f d.number) 0) (ne_eqb d.port p (λ same. other.0 (sym same))) in
               omega (arith, after f p, weighs, k.held f p x other.1)) ];
+      channels_are = length-set h.state.channels c (sent side) ∙ k.channels_are;
       no_port = λ p past. k.no_port p (omega (arith, past, length-set h.state.ports d.port (after_deliver d port)));
       no_channel = λ i past. k.no_channel i (omega (arith, past, length-set h.state.channels c (sent side)));
     }
@@ -160,6 +163,8 @@ collected_keeps o h p port d k right =
       accepted_are = k.accepted_are;
       taken_are = k.taken_are;
       counted = omega (arith, k.counted, same_length);
+      ends = k.ends;
+      ended = k.ended;
       settled = λ j e is.
           let found = at_map (filled d.number d.line) xs j e is in
           let number = number_at (o.number + length (h.taken p)) xs j found.0 k.numbers found.1 in
@@ -207,6 +212,8 @@ released_keeps o h p port a k front =
       accepted_are = k.accepted_are;
       taken_are = omega (arith, k.taken_are, more);
       counted = omega (arith, k.counted, less, more);
+      ends = k.ends;
+      ended = k.ended;
       settled = λ j e is. subst (λ n. IsSettledAt h.accepted (h.sent p) n e) (omega (arith, more)) (k.settled (suc j) e (sym (slice_get-drop 1 xs j (suc j) (omega arith)) ∙ is));
       right = k.right;
     }
@@ -243,6 +250,8 @@ ended_keeps o h p c port k = record {
   accepted_are = k.accepted_are;
   taken_are = k.taken_are;
   counted = k.counted;
+  ends = length-set port.pushed c true ∙ k.ends;
+  ended = λ i is. refl;
   settled = k.settled;
   right = k.right;
 }

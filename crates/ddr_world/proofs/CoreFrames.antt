@@ -141,6 +141,7 @@ channel_changed o h admitted c old new k was others keeps same = record {
   sent = k.sent;
   taken = k.taken;
   held = λ f p side is. ap (λ n. n + delivered_in f side) (sum_same f p h.state.channels c old new was (same f p)) ∙ k.held f p side is;
+  channels_are = length-set h.state.channels c new ∙ k.channels_are;
   no_port = k.no_port;
   no_channel = λ i past.
       let past' : length h.state.channels ≤ i = omega (arith, past, length-set h.state.channels c new) in
@@ -165,6 +166,7 @@ port_changed o h taken p old new k was others keeps prefix same = record {
           let after : sum_by (held_in f p) h.state.channels + delivered_in f new ≡ waiting_in f new = omega (arith, before, same f) in
           ap₂ (λ (n : ℕ) (s : PortSide). sum_by (held_in f n) h.state.channels + delivered_in f s) here.0 here.1 ∙ after ∙ ap (waiting_in f) (sym here.1))
     | inr there ↦ k.held f i side there.1 ];
+  channels_are = k.channels_are;
   no_port = λ i past.
       let past' : length h.state.ports ≤ i = omega (arith, past, length-set h.state.ports p new) in
       let none = k.no_port i past' in

@@ -67,6 +67,8 @@ pub record PortKeeps (o : Opening) (accepted : ℕ → List Request) (sent : Lis
   pub accepted_are : side.accepted ≡ length sent
   pub taken_are : side.taken ≡ length taken
   pub counted : length taken + length side.core.reorder.outstanding ≡ length sent
+  pub ends : length side.pushed ≡ o.config.geometry.channels
+  pub ended : (c : ℕ) → slice_get side.pushed c ≡ Some true → side.core.finished ≡ true
   pub settled : (j : ℕ) (e : Outstanding) → slice_get side.core.reorder.outstanding j ≡ Some e → IsSettledAt accepted sent (length taken + j) e
   pub right : (j : ℕ) (d : Completion) → slice_get side.completions j ≡ Some d → Right o.number accepted sent d
 
@@ -109,6 +111,7 @@ pub record CoreKeeps (o : Opening) (h : History) : Type 0 where
   pub taken : (p : ℕ) → map Some (h.taken p) ≡ take (length (h.taken p)) (replies_of_port h p)
   -- each number whose line has not come back is held in one place
   pub held : (f : ℕ → ℕ) (p : ℕ) (side : PortSide) → slice_get h.state.ports p ≡ Some side → sum_by (held_in f p) h.state.channels + delivered_in f side ≡ waiting_in f side
+  pub channels_are : length h.state.channels ≡ o.config.geometry.channels
   pub no_port : (p : ℕ) → length h.state.ports ≤ p → (h.sent p ≡ []) × (h.taken p ≡ [])
   pub no_channel : (c : ℕ) → length h.state.channels ≤ c → (h.accepted c ≡ []) × (h.admitted c ≡ [])
 
@@ -181,6 +184,8 @@ port_still o old new sent taken p side grows k = record {
   accepted_are = k.accepted_are;
   taken_are = k.taken_are;
   counted = k.counted;
+  ends = k.ends;
+  ended = k.ended;
   settled = λ j e is. settled_at_still old new sent sent (length taken + j) e grows (grows_none sent sent refl) (k.settled j e is);
   right = λ j d is. right_still o.number old new sent sent d grows (grows_none sent sent refl) (k.right j d is);
 }

@@ -2,6 +2,7 @@
 use Rattle.std.proofs.Common.{◌≡◌, ◌≢◌, ℕ, zero, suc, ◌+◌, ◌*◌, ◌<◌, ◌≤◌, ◌||◌, Bool, true, false, not, cond, eqb, List, [], ◌∷◌, ◌++◌, Option, Some, None, Result, Ok, Err, map, take, drop, length, replicate, refl, sym, ap, ap₂, subst, ◌∙◌, arith}
 use Rattle.std.specs.List.{sum_by, slice_get, range_with_len, fold}
 use Rattle.std.specs.Option.{option_map, option_map_or, option_and_then, unwrap_or}
+use Rattle.std.proofs.lemmas.List.{length-replicate}
 use Rattle.std.proofs.lemmas.List.Folds.{sum_by-replicate}
 use Rattle.ddr_timing.specs.declared.units.TheConstants.{CLOCK_STOP}
 use Rattle.ddr_timing.specs.declared.config.Config.{Config}
@@ -53,6 +54,8 @@ opened_keeps o p = record {
   accepted_are = refl;
   taken_are = refl;
   counted = refl;
+  ends = length-replicate o.config.geometry.channels false;
+  ended = λ c is. absurd (let same : true ≡ false = at_replicate o.config.geometry.channels c false true is in cc);
   settled = λ j e is. cc;
   right = λ j d is. cc;
 }
@@ -76,6 +79,7 @@ begun_keeps o = record {
       let none : sum_by (held_in f p) (begun o).state.channels ≡ 0 = sum_by-replicate (held_in f p) o.config.geometry.channels (opened_channel o.config o.cycle) ∙ omega arith in
       ap (λ (s : PortSide). sum_by (held_in f p) (begun o).state.channels + delivered_in f s) (opened_side o p side is)
       ∙ (let left : sum_by (held_in f p) (begun o).state.channels + 0 ≡ 0 = omega (arith, none) in left) ∙ ap (waiting_in f) (sym (opened_side o p side is));
+  channels_are = length-replicate o.config.geometry.channels (opened_channel o.config o.cycle);
   no_port = λ p past. (refl, refl);
   no_channel = λ c past. (refl, refl);
 }

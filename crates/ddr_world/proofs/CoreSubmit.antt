@@ -129,6 +129,8 @@ submitted_keeps o h p port asked r k made =
       accepted_are = omega (arith, k.accepted_are, more);
       taken_are = k.taken_are;
       counted = omega (arith, k.counted, longer, more);
+      ends = k.ends;
+      ended = k.ended;
       settled = λ j x is. elim (before_or_last xs e x j is) [
           inl before ↦ settled_at_still h.accepted now (h.sent p) sent (taken + j) x grows sent_grows (k.settled j x before)
         | inr at_end ↦ subst (λ (y : Outstanding). IsSettledAt now sent (taken + j) y) (sym at_end.1) (subst (λ n. IsSettledAt now sent (taken + n) e) (sym at_end.0) last) ];
@@ -245,6 +247,7 @@ submit_keeps o h p port asked r side k was free request there =
               ap (λ (s : PortSide). sum_by (held_in f i) (set h.state.channels c new) + delivered_in f s) here.1 ∙ both ∙ ap (waiting_in f) (sym here.1))
         | inr other ↦ (let weighs : weight f i r.port r.number ≡ 0 = ap (λ b. cond b (f r.number) 0) (ne_eqb r.port i (λ same. other.0 (sym same ∙ made.of_port))) in
               omega (arith, after f i, weighs, k.held f i x other.1)) ];
+      channels_are = length-set h.state.channels c new ∙ k.channels_are;
       no_port = λ i past.
           let past' : length h.state.ports ≤ i = omega (arith, past, length-set h.state.ports p (after_submit asked port)) in
           let none = k.no_port i past' in

@@ -12,3 +12,4 @@ pub mod PlaceLemmas
 pub mod CoreEvents
 pub mod CoreSubmit
 pub mod CoreRuns
+pub mod CorePromise

@@ -1,6 +1,6 @@
 -- The core's promise, over every record of events: which replies each port has a right to, and that it takes
 -- the first of them, in order.
-use Rattle.std.specs.Prelude.{◌≡◌, ◌≢◌, ℕ, ◌+◌, ◌/◌, ◌%◌, Bool, true, ◌&&◌, ◌==◌, List, [], length, take, map, fold, if◌then◌else◌, slice_get, slice_index, Option, Some, Err, IfSome}
+use Rattle.std.specs.Prelude.{◌≡◌, ◌≢◌, ℕ, ◌+◌, ◌/◌, ◌%◌, Bool, true, ◌&&◌, ◌==◌, List, [], length, take, map, fold, if◌then◌else◌, slice_get, slice_index, Option, Some, Err, IfSome, IsErr}
 use Rattle.std.specs.List.{range_with_len}
 use Rattle.std.specs.Int.{bit_at}
 use Rattle.std.specs.Option.{option_map, option_and_then}
@@ -14,9 +14,9 @@ use Rattle.ddr_channel.specs.Memory.{is_write_kind}
 use Rattle.ddr_reorder.specs.Replies.{Answer}
 use Rattle.ddr_reorder.specs.State.{awaits}
 use Rattle.ddr_world.specs.declared.event.Refusal.TheVariants.{QueueFull}
-use Rattle.ddr_world.specs.Events.{Deliver}
+use Rattle.ddr_world.specs.Events.{Event, Cycle, Deliver}
 use Rattle.ddr_world.specs.History.{Opening, Whereabouts, History, front_of}
-use Rattle.ddr_world.specs.State.{PortSide, ChannelSide}
+use Rattle.ddr_world.specs.State.{PortSide, ChannelSide, State, IsDrained}
 use Rattle.ddr_world.specs.Step.{step}
 
 -- the request writes the byte of this address: it writes to the address's line, and the bit of its data mask is set
@@ -58,6 +58,17 @@ pub record IsCounted (h : History) (p : ℕ) (side : PortSide) : Type 0 where
   pub taken : side.taken ≡ length (h.taken p)
   pub outstanding : length (h.taken p) + length side.core.reorder.outstanding ≡ length (h.sent p)
 
+-- the event is refused, whatever it asks for; a channel may still make cycles
+abbrev pub IsOver : State → Event → Type 0
+IsOver s (Cycle c) = Unit {0}
+IsOver s event = IsErr (step s event)
+
+-- after orderly close: each port took all its replies, each channel admitted all that was accepted, and nothing more comes
+pub record IsFinished (h : History) : Type 0 where
+  pub taken : (p : ℕ) → map Some (h.taken p) ≡ replies_of_port h p
+  pub admitted : (c : ℕ) → h.admitted c ≡ h.accepted c
+  pub over : (event : Event) → IsOver h.state event
+
 pub record KeepsPromise (o : Opening) (h : History) : Type 0 where
   -- the port's requests have the numbers from the first one on, in the order of acceptance
   pub numbered : (p : ℕ) → map (option_map (λ a. a.number)) (replies_of_port h p) ≡ map Some (range_with_len o.number (length (h.sent p)))
@@ -80,3 +91,5 @@ pub record KeepsPromise (o : Opening) (h : History) : Type 0 where
   -- and the port waits for it
   pub awaited : (p : ℕ) (side : PortSide) (d : Completion) → slice_get h.state.ports p ≡ Some side → slice_get side.completions 0 ≡ Some d
       → awaits side.core.reorder d.number d.echo ≡ true
+  -- where nothing is outstanding, queued or in a channel, and every End was taken, all is done
+  pub finished : IsDrained h.state → IsFinished h
