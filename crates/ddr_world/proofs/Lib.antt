@@ -13,3 +13,4 @@ pub mod CoreEvents
 pub mod CoreSubmit
 pub mod CoreRuns
 pub mod CorePromise
+mod RecordLemmas
