@@ -39,20 +39,20 @@ take_request_keeps o h c side r rest k was items free =
     let keeps = k.channels c side was in
     let list : h.admitted c ++ (r ∷ requests_in rest) ≡ h.accepted c = ap (λ (its : List Item). h.admitted c ++ requests_in its) (sym items) ∙ keeps.accepted_are in
     let here : slice_get (h.accepted c) (length (h.admitted c)) ≡ Some r =
-        ap (λ (rs : List Request). slice_get rs (length (h.admitted c))) (sym list) ∙ slice_get-append_right (h.admitted c) (r ∷ requests_in rest) (length (h.admitted c)) 0 (omega arith) in
+    ap (λ (rs : List Request). slice_get rs (length (h.admitted c))) (sym list) ∙ slice_get-append_right (h.admitted c) (r ∷ requests_in rest) (length (h.admitted c)) 0 (omega arith) in
     let back = k.accepted c (length (h.admitted c)) r here in
     let served = placed_in_range o.config.geometry r.echo.addr r.place back.placed.placed in
     channel_changed o h (with_next h.admitted c r) c side (after_take (item.Request r) side) k was (λ i other. with_next_other h.admitted c r i other)
     (subst (λ (xs : List Request). ChannelKeeps o xs (h.accepted c) (after_take (item.Request r) side)) (sym (with_next_same h.admitted c r))
     (admitted_keeps o (h.admitted c) (h.accepted c) side r rest items free served keeps))
     (λ f p.
-        let queue : sum_by (weigh_request (weight f p)) (requests_in (drop 1 side.requests)) + weight f p r.port r.number ≡ sum_by (weigh_request (weight f p)) (requests_in side.requests) =
-            ap (λ (its : List Item). sum_by (weigh_request (weight f p)) (requests_in (drop 1 its)) + weight f p r.port r.number) items
-            ∙ (let sum = sum_by-cons (weigh_request (weight f p)) r (requests_in rest) in omega (arith, sum))
-            ∙ ap (λ (its : List Item). sum_by (weigh_request (weight f p)) (requests_in its)) (sym items) in
-        let pending = ap (sum_by (weigh_request (weight f p))) (map-append (λ w. w.request) side.channel.pending (record { request = r; admitted = side.channel.now } ∷ [])) in
-        let last = sum_last (weigh_request (weight f p)) (requests_of side.channel.pending) r in
-        omega (arith, queue, pending, last))
+    let queue : sum_by (weigh_request (weight f p)) (requests_in (drop 1 side.requests)) + weight f p r.port r.number ≡ sum_by (weigh_request (weight f p)) (requests_in side.requests) =
+    ap (λ (its : List Item). sum_by (weigh_request (weight f p)) (requests_in (drop 1 its)) + weight f p r.port r.number) items
+    ∙ (let sum = sum_by-cons (weigh_request (weight f p)) r (requests_in rest) in omega (arith, sum))
+    ∙ ap (λ (its : List Item). sum_by (weigh_request (weight f p)) (requests_in its)) (sym items) in
+    let pending = ap (sum_by (weigh_request (weight f p))) (map-append (λ w. w.request) side.channel.pending (record { request = r; admitted = side.channel.now } ∷ [])) in
+    let last = sum_last (weigh_request (weight f p)) (requests_of side.channel.pending) r in
+    omega (arith, queue, pending, last))
 
 pub take_end_keeps : (o : Opening) (h : History) (c : ℕ) (side : ChannelSide) (p : ℕ) (rest : List Item) → CoreKeeps o h → slice_get h.state.channels c ≡ Some side
     → side.requests ≡ item.End p ∷ rest → CoreKeeps o (record h { state = with_channel c (after_take (item.End p) side) h.state })
@@ -86,8 +86,9 @@ delivered_keeps o h d port k right = record {
   ended = k.ended;
   settled = k.settled;
   right = λ j x is. elim (before_or_last port.completions d x j is) [
-      inl before ↦ k.right j x before
-    | inr last ↦ subst (λ (y : Completion). Right o.number h.accepted (h.sent d.port) y) (sym last.1) right ];
+    | inl before ↦ k.right j x before
+    | inr last ↦ subst (λ (y : Completion). Right o.number h.accepted (h.sent d.port) y) (sym last.1) right
+  ];
 }
 
 pub deliver_keeps : (o : Opening) (h : History) (c : ℕ) (side : ChannelSide) (d : Completion) (port : PortSide) → CoreKeeps o h → slice_get h.state.channels c ≡ Some side → slice_get side.channel.done 0 ≡ Some d
@@ -95,7 +96,7 @@ pub deliver_keeps : (o : Opening) (h : History) (c : ℕ) (side : ChannelSide) (
 deliver_keeps o h c side d port k was done there =
     let right = done_right o h c side d k was done in
     let after : (f : ℕ → ℕ) (p : ℕ) → sum_by (held_in f p) (set h.state.channels c (sent side)) + weight f p d.port d.number ≡ sum_by (held_in f p) h.state.channels =
-        λ f p. omega (arith, sum_replaced (held_in f p) h.state.channels c side (sent side) was, sum_dropped (weigh_done (weight f p)) side.channel.done d done) in
+    λ f p. omega (arith, sum_replaced (held_in f p) h.state.channels c side (sent side) was, sum_dropped (weigh_done (weight f p)) side.channel.done d done) in
     record {
       channels = channels_after o h h.admitted h.accepted c side (sent side) k was (λ i other. (refl, refl)) (popped_keeps o (h.admitted c) (h.accepted c) side (k.channels c side was));
       ports = ports_after o h h.accepted h.sent h.taken d.port port (after_deliver d port) k there (λ i. grows_none (h.accepted i) (h.accepted i) refl) (λ i other. (refl, refl))
@@ -104,13 +105,14 @@ deliver_keeps o h c side d port k was done there =
       sent = k.sent;
       taken = k.taken;
       held = λ f p x is. elim (replaced_at h.state.ports d.port p port (after_deliver d port) x there is) [
-          inl here ↦ (let weighs : weight f p d.port d.number ≡ f d.number = ap (λ b. cond b (f d.number) 0) (eq-eqb d.port p (sym here.0)) in
-              let old : sum_by (held_in f p) h.state.channels + delivered_in f port ≡ waiting_in f port = k.held f p port (ap (slice_get h.state.ports) here.0 ∙ there) in
-              let new : sum_by (held_in f p) (set h.state.channels c (sent side)) + delivered_in f (after_deliver d port) ≡ waiting_in f port =
-                  omega (arith, after f p, weighs, old, sum_last (λ (y : Completion). f y.number) port.completions d) in
-              ap (λ (s : PortSide). sum_by (held_in f p) (set h.state.channels c (sent side)) + delivered_in f s) here.1 ∙ new ∙ ap (waiting_in f) (sym here.1))
+        | inl here ↦ (let weighs : weight f p d.port d.number ≡ f d.number = ap (λ b. cond b (f d.number) 0) (eq-eqb d.port p (sym here.0)) in
+            let old : sum_by (held_in f p) h.state.channels + delivered_in f port ≡ waiting_in f port = k.held f p port (ap (slice_get h.state.ports) here.0 ∙ there) in
+            let new : sum_by (held_in f p) (set h.state.channels c (sent side)) + delivered_in f (after_deliver d port) ≡ waiting_in f port =
+            omega (arith, after f p, weighs, old, sum_last (λ (y : Completion). f y.number) port.completions d) in
+            ap (λ (s : PortSide). sum_by (held_in f p) (set h.state.channels c (sent side)) + delivered_in f s) here.1 ∙ new ∙ ap (waiting_in f) (sym here.1))
         | inr other ↦ (let weighs : weight f p d.port d.number ≡ 0 = ap (λ b. cond b (f d.number) 0) (ne_eqb d.port p (λ same. other.0 (sym same))) in
-              omega (arith, after f p, weighs, k.held f p x other.1)) ];
+            omega (arith, after f p, weighs, k.held f p x other.1))
+      ];
       channels_are = length-set h.state.channels c (sent side) ∙ k.channels_are;
       no_port = λ p past. k.no_port p (omega (arith, past, length-set h.state.ports d.port (after_deliver d port)));
       no_channel = λ i past. k.no_channel i (omega (arith, past, length-set h.state.channels c (sent side)));
@@ -181,8 +183,11 @@ collect_keeps o h p port d k was first =
     let new : PortSide = record port { core = after_fill d port.core; completions = drop 1 port.completions } in
     subst (λ (s : PortSide). CoreKeeps o (record h { state = with_port p s h.state })) (sym (collected_core d port (awaited_test o h p port d waits)))
     (port_changed o h h.taken p port new k was (λ i other. refl) (collected_keeps o h p port d keeps waits.right) (k.taken p)
-    (λ f. omega (arith, sum_dropped (λ (x : Completion). f x.number) port.completions d first,
-        sum_filled f d.number d.line (o.number + length (h.taken p)) port.core.reorder.outstanding waits.index waits.entry keeps.numbers waits.there waits.number waits.line)))
+    (λ f. omega (
+      arith,
+      sum_dropped (λ (x : Completion). f x.number) port.completions d first,
+      sum_filled f d.number d.line (o.number + length (h.taken p)) port.core.reorder.outstanding waits.index waits.entry keeps.numbers waits.there waits.number waits.line,
+    )))
 
 -- Release
 
@@ -227,16 +232,16 @@ release_keeps o h p port a k was is =
     let n = length (h.taken p) in
     let replies = replies_of_port h p in
     let longer : map Some (h.taken p ++ a ∷ []) ≡ take (length (h.taken p ++ a ∷ [])) replies =
-        map-append Some (h.taken p) (a ∷ []) ∙ ap (λ (xs : List (Option Answer)). xs ++ Some a ∷ []) (k.taken p)
-        ∙ ap (λ x. take n replies ++ x ∷ []) (sym (get_or_from_slice_get replies n (Some a) None next))
-        ∙ sym (take_more replies n None (slice_get_within replies n (Some a) next)) ∙ ap (λ m. take m replies) (sym (length-append (h.taken p) (a ∷ []))) in
+    map-append Some (h.taken p) (a ∷ []) ∙ ap (λ (xs : List (Option Answer)). xs ++ Some a ∷ []) (k.taken p)
+    ∙ ap (λ x. take n replies ++ x ∷ []) (sym (get_or_from_slice_get replies n (Some a) None next))
+    ∙ sym (take_more replies n None (slice_get_within replies n (Some a) next)) ∙ ap (λ m. take m replies) (sym (length-append (h.taken p) (a ∷ []))) in
     let list = with_next_same h.taken p a in
     port_changed o h (with_next h.taken p a) p port (after_release port) k was (λ i other. with_next_other h.taken p a i other)
     (subst (λ (xs : List Answer). PortKeeps o h.accepted (h.sent p) xs p (after_release port)) (sym list) (released_keeps o h p port a keeps front))
     (subst (λ (xs : List Answer). map Some xs ≡ take (length xs) replies) (sym list) longer)
     (λ f.
-        let none : weigh_waiting f front.entry ≡ 0 = ap (λ (l : Option (List ℕ)). cond (is_none l) (f front.entry.number) 0) front.filled in
-        omega (arith, none, sum_dropped (weigh_waiting f) port.core.reorder.outstanding front.entry front.there))
+    let none : weigh_waiting f front.entry ≡ 0 = ap (λ (l : Option (List ℕ)). cond (is_none l) (f front.entry.number) 0) front.filled in
+    omega (arith, none, sum_dropped (weigh_waiting f) port.core.reorder.outstanding front.entry front.there))
 
 -- End
 

@@ -111,22 +111,24 @@ pub channels_after : (o : Opening) (h : History) (admitted accepted : ℕ → Li
     → ((i : ℕ) → i ≢ c → (admitted i ≡ h.admitted i) × (accepted i ≡ h.accepted i)) → ChannelKeeps o (admitted c) (accepted c) new
     → (i : ℕ) (side : ChannelSide) → slice_get (set h.state.channels c new) i ≡ Some side → ChannelKeeps o (admitted i) (accepted i) side
 channels_after o h admitted accepted c old new k was others keeps i side is = elim (replaced_at h.state.channels c i old new side was is) [
-    inl same ↦ (let here : ChannelKeeps o (admitted i) (accepted i) new = subst (λ n. ChannelKeeps o (admitted n) (accepted n) new) (sym same.0) keeps in
-        subst (λ (s : ChannelSide). ChannelKeeps o (admitted i) (accepted i) s) (sym same.1) here)
+  | inl same ↦ (let here : ChannelKeeps o (admitted i) (accepted i) new = subst (λ n. ChannelKeeps o (admitted n) (accepted n) new) (sym same.0) keeps in
+      subst (λ (s : ChannelSide). ChannelKeeps o (admitted i) (accepted i) s) (sym same.1) here)
   | inr other ↦ (let lists = others i other.0 in
-        subst (λ (xs : List Request). ChannelKeeps o xs (accepted i) side) (sym lists.0)
-        (subst (λ (xs : List Request). ChannelKeeps o (h.admitted i) xs side) (sym lists.1) (k.channels i side other.1))) ]
+      subst (λ (xs : List Request). ChannelKeeps o xs (accepted i) side) (sym lists.0)
+      (subst (λ (xs : List Request). ChannelKeeps o (h.admitted i) xs side) (sym lists.1) (k.channels i side other.1)))
+]
 
 pub ports_after : (o : Opening) (h : History) (accepted : ℕ → List Request) (sent : ℕ → List Whereabouts) (taken : ℕ → List Answer) (p : ℕ) (old new : PortSide) → CoreKeeps o h → slice_get h.state.ports p ≡ Some old
     → ((c : ℕ) → Grows (h.accepted c) (accepted c)) → ((i : ℕ) → i ≢ p → (sent i ≡ h.sent i) × (taken i ≡ h.taken i)) → PortKeeps o accepted (sent p) (taken p) p new
     → (i : ℕ) (side : PortSide) → slice_get (set h.state.ports p new) i ≡ Some side → PortKeeps o accepted (sent i) (taken i) i side
 ports_after o h accepted sent taken p old new k was grows others keeps i side is = elim (replaced_at h.state.ports p i old new side was is) [
-    inl same ↦ (let here : PortKeeps o accepted (sent i) (taken i) i new = subst (λ n. PortKeeps o accepted (sent n) (taken n) n new) (sym same.0) keeps in
-        subst (λ (s : PortSide). PortKeeps o accepted (sent i) (taken i) i s) (sym same.1) here)
+  | inl same ↦ (let here : PortKeeps o accepted (sent i) (taken i) i new = subst (λ n. PortKeeps o accepted (sent n) (taken n) n new) (sym same.0) keeps in
+      subst (λ (s : PortSide). PortKeeps o accepted (sent i) (taken i) i s) (sym same.1) here)
   | inr other ↦ (let lists = others i other.0 in
-        let here = port_still o h.accepted accepted (h.sent i) (h.taken i) i side grows (k.ports i side other.1) in
-        subst (λ (xs : List Whereabouts). PortKeeps o accepted xs (taken i) i side) (sym lists.0)
-        (subst (λ (xs : List Answer). PortKeeps o accepted (h.sent i) xs i side) (sym lists.1) here)) ]
+      let here = port_still o h.accepted accepted (h.sent i) (h.taken i) i side grows (k.ports i side other.1) in
+      subst (λ (xs : List Whereabouts). PortKeeps o accepted xs (taken i) i side) (sym lists.0)
+      (subst (λ (xs : List Answer). PortKeeps o accepted (h.sent i) xs i side) (sym lists.1) here))
+]
 
 pub past_other : {X : Type 0} (xs : List X) (c i : ℕ) (x : X) → slice_get xs c ≡ Some x → length xs ≤ i → i ≢ c
 past_other xs c i x is past = λ same. absurd (omega (arith, slice_get_within xs c x is, past, same))
@@ -162,10 +164,11 @@ port_changed o h taken p old new k was others keeps prefix same = record {
   sent = k.sent;
   taken = λ i. by_port i (eqb i p) refl;
   held = λ f i side is. elim (replaced_at h.state.ports p i old new side was is) [
-      inl here ↦ (let before = k.held f p old was in
-          let after : sum_by (held_in f p) h.state.channels + delivered_in f new ≡ waiting_in f new = omega (arith, before, same f) in
-          ap₂ (λ (n : ℕ) (s : PortSide). sum_by (held_in f n) h.state.channels + delivered_in f s) here.0 here.1 ∙ after ∙ ap (waiting_in f) (sym here.1))
-    | inr there ↦ k.held f i side there.1 ];
+    | inl here ↦ (let before = k.held f p old was in
+        let after : sum_by (held_in f p) h.state.channels + delivered_in f new ≡ waiting_in f new = omega (arith, before, same f) in
+        ap₂ (λ (n : ℕ) (s : PortSide). sum_by (held_in f n) h.state.channels + delivered_in f s) here.0 here.1 ∙ after ∙ ap (waiting_in f) (sym here.1))
+    | inr there ↦ k.held f i side there.1
+  ];
   channels_are = k.channels_are;
   no_port = λ i past.
       let past' : length h.state.ports ≤ i = omega (arith, past, length-set h.state.ports p new) in

@@ -193,8 +193,9 @@ port_still o old new sent taken p side grows k = record {
 -- a list one of whose elements was replaced
 pub replaced_at : {X : Type 0} (xs : List X) (i j : ℕ) (old x y : X) → slice_get xs i ≡ Some old → slice_get (set xs i x) j ≡ Some y → ((j ≡ i) × (y ≡ x)) ⊎ ((j ≢ i) × (slice_get xs j ≡ Some y))
 replaced_at xs i j old x y was is = elim (eqb_tells j i) [
-    inl same ↦ (let here = slice_get-set_same xs i x (slice_get_within xs i old was) in
-        let there : slice_get (set xs i x) i ≡ Some y = ap (slice_get (set xs i x)) (sym same.1) ∙ is in
-        let both : y ≡ x = cc in
-        inl (same.1, both))
-  | inr other ↦ inr (other.1, sym (slice_get-set_other xs i j x other.1) ∙ is) ]
+  | inl same ↦ (let here = slice_get-set_same xs i x (slice_get_within xs i old was) in
+      let there : slice_get (set xs i x) i ≡ Some y = ap (slice_get (set xs i x)) (sym same.1) ∙ is in
+      let both : y ≡ x = cc in
+      inl (same.1, both))
+  | inr other ↦ inr (other.1, sym (slice_get-set_other xs i j x other.1) ∙ is)
+]

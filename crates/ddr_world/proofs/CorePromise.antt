@@ -47,8 +47,8 @@ numbered : (o : Opening) (h : History) (p : ℕ) → CoreKeeps o h → map (opti
 numbered o h p k =
     map_twice (option_map (λ (a : Answer). a.number)) (reply_at h) (h.sent p)
     ∙ told_by_places (λ w. option_map (λ a. a.number) (reply_at h w)) o.number (h.sent p) (λ n w is.
-        let sent = k.sent p n w is in
-        ap (λ (x : Option Request). option_map (λ (a : Answer). a.number) (option_map (reply_of (take w.place (h.accepted w.channel))) x)) sent.there ∙ ap Some sent.number)
+    let sent = k.sent p n w is in
+    ap (λ (x : Option Request). option_map (λ (a : Answer). a.number) (option_map (reply_of (take w.place (h.accepted w.channel))) x)) sent.there ∙ ap Some sent.number)
 
 -- the reply that a port is lent
 
@@ -64,11 +64,12 @@ first_of_list xs ys zs is = sym (take-append_seam xs ys) ∙ ap (take (length xs
 
 admitted : (o : Opening) (h : History) (c : ℕ) → CoreKeeps o h → h.admitted c ≡ take (length (h.admitted c)) (h.accepted c)
 admitted o h c k = elim (below_or_not c (length h.state.channels)) [
-    inl within ↦ (let side = slice_get-some h.state.channels c within in
-        let keeps = k.channels c side.0 side.1 in
-        first_of_list (h.admitted c) (requests_in side.0.requests) (h.accepted c) keeps.accepted_are)
+  | inl within ↦ (let side = slice_get-some h.state.channels c within in
+      let keeps = k.channels c side.0 side.1 in
+      first_of_list (h.admitted c) (requests_in side.0.requests) (h.accepted c) keeps.accepted_are)
   | inr past ↦ (let none = k.no_channel c past in
-        none.1 ∙ sym (ap₂ (λ (n : ℕ) (rs : List Request). take n rs) (ap length none.1) none.0)) ]
+      none.1 ∙ sym (ap₂ (λ (n : ℕ) (rs : List Request). take n rs) (ap length none.1) none.0))
+]
 
 -- the completion that is done finds room
 
@@ -92,11 +93,12 @@ fits_port : (o : Opening) (h : History) (c : ℕ) (side : ChannelSide) (d : Comp
 fits_port o h c side d None k there done at is =
     let right = done_right o h c side d k there done in
     elim (below_or_not d.port (length h.state.ports)) [
-        inl within ↦ (let some = slice_get-some h.state.ports d.port within in cc)
+      | inl within ↦ (let some = slice_get-some h.state.ports d.port within in cc)
       | inr past ↦ (let none = (k.no_port d.port past).0 in
-            let gone : slice_get (h.sent d.port) right.index ≡ None = ap (λ (ws : List Whereabouts). slice_get ws right.index) none in
-            let here = right.sent_at in
-            cc) ]
+          let gone : slice_get (h.sent d.port) right.index ≡ None = ap (λ (ws : List Whereabouts). slice_get ws right.index) none in
+          let here = right.sent_at in
+          cc)
+    ]
 fits_port o h c side d (Some port) k there done at is = by_room (is_completion_queue_full port) refl is
   where
     by_room : (b : Bool) → is_completion_queue_full port ≡ b → cond b (Err QueueFull) (made (with_port d.port (after_deliver d port) (with_channel c (sent side) h.state)) outcome.Delivered) ≡ Err QueueFull → ⊥
@@ -119,20 +121,22 @@ whole_list xs ys n is all = is ∙ take_all n ys all
 
 all_taken : (o : Opening) (h : History) (p : ℕ) → CoreKeeps o h → IsDrained h.state → map Some (h.taken p) ≡ replies_of_port h p
 all_taken o h p k drained = elim (below_or_not p (length h.state.ports)) [
-    inl within ↦ (let side = slice_get-some h.state.ports p within in
-        let keeps = k.ports p side.0 side.1 in
-        let empty = All-at IsPortDrained h.state.ports p side.0 drained.ports side.1 in
-        let replies : length (replies_of_port h p) ≡ length (h.sent p) = length-map (h.sent p) (reply_at h) in
-        whole_list (map Some (h.taken p)) (replies_of_port h p) (length (h.taken p)) (k.taken p) (omega (arith, replies, keeps.counted, empty.outstanding)))
-  | inr past ↦ (let none = k.no_port p past in ap (map Some) none.1 ∙ ap (map (reply_at h)) (sym none.0)) ]
+  | inl within ↦ (let side = slice_get-some h.state.ports p within in
+      let keeps = k.ports p side.0 side.1 in
+      let empty = All-at IsPortDrained h.state.ports p side.0 drained.ports side.1 in
+      let replies : length (replies_of_port h p) ≡ length (h.sent p) = length-map (h.sent p) (reply_at h) in
+      whole_list (map Some (h.taken p)) (replies_of_port h p) (length (h.taken p)) (k.taken p) (omega (arith, replies, keeps.counted, empty.outstanding)))
+  | inr past ↦ (let none = k.no_port p past in ap (map Some) none.1 ∙ ap (map (reply_at h)) (sym none.0))
+]
 
 all_admitted : (o : Opening) (h : History) (c : ℕ) → CoreKeeps o h → IsDrained h.state → h.admitted c ≡ h.accepted c
 all_admitted o h c k drained = elim (below_or_not c (length h.state.channels)) [
-    inl within ↦ (let side = slice_get-some h.state.channels c within in
-        let keeps = k.channels c side.0 side.1 in
-        let empty = All-at IsChannelDrained h.state.channels c side.0 drained.channels side.1 in
-        sym (append-nil (h.admitted c)) ∙ ap (λ (its : List Item). h.admitted c ++ requests_in its) (sym empty.requests) ∙ keeps.accepted_are)
-  | inr past ↦ (let none = k.no_channel c past in none.1 ∙ sym none.0) ]
+  | inl within ↦ (let side = slice_get-some h.state.channels c within in
+      let keeps = k.channels c side.0 side.1 in
+      let empty = All-at IsChannelDrained h.state.channels c side.0 drained.channels side.1 in
+      sym (append-nil (h.admitted c)) ∙ ap (λ (its : List Item). h.admitted c ++ requests_in its) (sym empty.requests) ∙ keeps.accepted_are)
+  | inr past ↦ (let none = k.no_channel c past in none.1 ∙ sym none.0)
+]
 
 -- then nothing can be asked for
 

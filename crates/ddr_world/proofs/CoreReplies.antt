@@ -58,7 +58,7 @@ done_right o h c side d k was done =
     let first : slice_get run.state.done 0 ≡ Some d = ap (λ (s : channel_state.State). slice_get s.done 0) (sym keeps.state) ∙ done in
     let n = length run.popped in
     let whole : slice_get (run.popped ++ (run.state.done ++ run.state.flight)) n ≡ Some d =
-        slice_get-append_right run.popped (run.state.done ++ run.state.flight) n 0 (omega arith) ∙ first_of_both run.state.done run.state.flight d first in
+    slice_get-append_right run.popped (run.state.done ++ run.state.flight) n 0 (omega arith) ∙ first_of_both run.state.done run.state.flight d first in
     let joined : slice_get ((run.popped ++ run.state.done) ++ run.state.flight) n ≡ Some d = ap (λ (ds : List Completion). slice_get ds n) (append_assoc run.popped run.state.done run.state.flight) ∙ whole in
     let answer = ap (λ (xs : List (Option Completion)). slice_get xs n) (sym promise.answers) ∙ mapped_at Some ((run.popped ++ run.state.done) ++ run.state.flight) n d joined in
     let found = at_map (right_answer run.state.config run.accepted) run.owners n (Some d) answer in
@@ -78,7 +78,7 @@ done_right o h c side d k was done =
     let asked = asked_of_line o.config.geometry c r earlier back.placed (all_taken (IsPlaced o.config.geometry c) (h.accepted c) owner.place (λ i w at. (k.accepted c i w at).placed)) in
     let off = r.echo.addr % 64 in
     let lent : asked_bytes r.echo.kind off r.echo.len (line_served r.echo.kind burst r.line) ≡ bytes_for r.echo.kind earlier r.echo.addr r.echo.len =
-        served_bytes r.echo.kind off r.echo.len r.echo.addr burst r.line earlier (ap (λ (xs : List ℕ). slice_range xs off (off + r.echo.len)) same ∙ asked) in
+    served_bytes r.echo.kind off r.echo.len r.echo.addr burst r.line earlier (ap (λ (xs : List ℕ). slice_range xs off (off + r.echo.len)) same ∙ asked) in
     record {
       index = back.index;
       at = record { channel = c; place = owner.place };
@@ -214,9 +214,9 @@ lent_next o h p side a k was is =
     let same = same_request h.accepted (h.sent p) n n settled.at settled.at sent.request r refl at at sent.there settled.settled.there in
     let its_number : sent.request.number ≡ r.number = ap (λ (q : Request). q.number) same.1 in
     let bytes : lent_bytes front.entry.echo front.line ≡ (reply_of (take settled.at.place (h.accepted settled.at.channel)) r).bytes =
-        subst (λ (l : Option (List ℕ)). IfSome l (λ line. lent_bytes front.entry.echo line ≡ (reply_of (take settled.at.place (h.accepted settled.at.channel)) r).bytes)) front.filled settled.settled.line in
+    subst (λ (l : Option (List ℕ)). IfSome l (λ line. lent_bytes front.entry.echo line ≡ (reply_of (take settled.at.place (h.accepted settled.at.channel)) r).bytes)) front.filled settled.settled.line in
     let reply : a ≡ reply_of (take settled.at.place (h.accepted settled.at.channel)) r =
-        sym front.answer ∙ same_answer _ _ (let numbers : front.entry.number ≡ r.number = omega (arith, number, sent.number, its_number) in numbers) settled.settled.echo bytes in
+    sym front.answer ∙ same_answer _ _ (let numbers : front.entry.number ≡ r.number = omega (arith, number, sent.number, its_number) in numbers) settled.settled.echo bytes in
     mapped_at (reply_at h) (h.sent p) n settled.at at
     ∙ ap (λ (x : Option Request). Some (option_map (reply_of (take settled.at.place (h.accepted settled.at.channel))) x)) settled.settled.there
     ∙ ap (λ (x : Answer). Some (Some x)) (sym reply)

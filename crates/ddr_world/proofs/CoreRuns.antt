@@ -109,7 +109,7 @@ take_room o h c side it false k there first full =
 
 take_first : (o : Opening) (h : History) (c : ℕ) (side : ChannelSide) (x : Option Item) → CoreKeeps o h → slice_get h.state.channels c ≡ Some side → slice_get side.requests 0 ≡ x
     → CoreKeeps o (after_step (Take c) h (change_channel h.state c outcome.Taken
-        (option_map_or (λ it. cond (is_queue_full side.channel Read || is_queue_full side.channel Write) (Err refusal.QueueFull) (Ok (after_take it side))) x (Err refusal.Nothing))))
+    (option_map_or (λ it. cond (is_queue_full side.channel Read || is_queue_full side.channel Write) (Err refusal.QueueFull) (Ok (after_take it side))) x (Err refusal.Nothing))))
 take_first o h c side None k there first = k
 take_first o h c side (Some it) k there first = take_room o h c side it (is_queue_full side.channel Read || is_queue_full side.channel Write) k there first refl
 
@@ -184,7 +184,7 @@ release_side o h p (Some port) k there = release_front o h p port (nth_answer po
 
 end_tests : (o : Opening) (h : History) (p c : ℕ) (port : PortSide) (side : ChannelSide) (x y z : Bool) → CoreKeeps o h → slice_get h.state.ports p ≡ Some port → slice_get h.state.channels c ≡ Some side
     → CoreKeeps o (after_step (End p c) h (cond x (Err refusal.NotEmpty) (cond y (Err refusal.Finished) (cond z (Err (refusal.Busy c))
-        (made (with_channel c (queued (item.End p) side) (with_port p (after_end c port) h.state)) outcome.Ended)))))
+    (made (with_channel c (queued (item.End p) side) (with_port p (after_end c port) h.state)) outcome.Ended)))))
 end_tests o h p c port side true y z k there at = k
 end_tests o h p c port side false true z k there at = k
 end_tests o h p c port side false false true k there at = k
@@ -211,7 +211,7 @@ note_submit h p asked port r there is =
 submit_busy : (o : Opening) (h : History) (p : ℕ) (asked : Asked) (port : PortSide) (r : Request) (side : ChannelSide) (b : Bool) → CoreKeeps o h → slice_get h.state.ports p ≡ Some port → refusal_of port.core asked ≡ None
     → request_at port.core asked ≡ Some r → slice_get h.state.channels r.place.channel ≡ Some side
     → CoreKeeps o (after_step (Submit p asked) h (cond b (Err (refusal.Busy r.place.channel))
-        (made (with_channel r.place.channel (queued (item.Request r) side) (with_port p (after_submit asked port) h.state)) (outcome.Accepted r.number))))
+    (made (with_channel r.place.channel (queued (item.Request r) side) (with_port p (after_submit asked port) h.state)) (outcome.Accepted r.number))))
 submit_busy o h p asked port r side true k there free request at = k
 submit_busy o h p asked port r side false k there free request at =
     subst (λ (n : History). CoreKeeps o (record n { state = with_channel r.place.channel (queued (item.Request r) side) (with_port p (after_submit asked port) h.state) })) (note_submit h p asked port r there request)

@@ -109,7 +109,7 @@ submitted_keeps o h p port asked r k made =
     let longer : length (xs ++ e ∷ []) ≡ length xs + 1 = length-append xs (e ∷ []) in
     let taken = length (h.taken p) in
     let there : slice_get (now r.place.channel) (length (h.accepted r.place.channel)) ≡ Some r =
-        ap (λ (rs : List Request). slice_get rs (length (h.accepted r.place.channel))) (with_next_same h.accepted r.place.channel r) ∙ slice_get-last (h.accepted r.place.channel) r (length (h.accepted r.place.channel)) refl in
+    ap (λ (rs : List Request). slice_get rs (length (h.accepted r.place.channel))) (with_next_same h.accepted r.place.channel r) ∙ slice_get-last (h.accepted r.place.channel) r (length (h.accepted r.place.channel)) refl in
     let last : IsSettledAt now sent (taken + length xs) e = record {
       at = here_at h r;
       sent_at = slice_get-last (h.sent p) (here_at h r) (taken + length xs) k.counted;
@@ -132,8 +132,9 @@ submitted_keeps o h p port asked r k made =
       ends = k.ends;
       ended = k.ended;
       settled = λ j x is. elim (before_or_last xs e x j is) [
-          inl before ↦ settled_at_still h.accepted now (h.sent p) sent (taken + j) x grows sent_grows (k.settled j x before)
-        | inr at_end ↦ subst (λ (y : Outstanding). IsSettledAt now sent (taken + j) y) (sym at_end.1) (subst (λ n. IsSettledAt now sent (taken + n) e) (sym at_end.0) last) ];
+        | inl before ↦ settled_at_still h.accepted now (h.sent p) sent (taken + j) x grows sent_grows (k.settled j x before)
+        | inr at_end ↦ subst (λ (y : Outstanding). IsSettledAt now sent (taken + j) y) (sym at_end.1) (subst (λ n. IsSettledAt now sent (taken + n) e) (sym at_end.0) last)
+      ];
       right = λ j d is. right_still o.number h.accepted now (h.sent p) sent d grows sent_grows (k.right j d is);
     }
 
@@ -151,10 +152,10 @@ accepted_by : (o : Opening) (h : History) (p : ℕ) (port : PortSide) (asked : A
     → slice_get (cond b (h.accepted c ++ r ∷ []) (h.accepted c)) place ≡ Some q → IsSentBack o (with_next h.sent p (here_at h r)) c place q
 accepted_by o h p port asked r c place q false k made test is = sent_back_still o h p c place r q (k.accepted c place q is)
 accepted_by o h p port asked r c place q true k made test is = elim (before_or_last (h.accepted c) r q place is) [
-    inl before ↦ sent_back_still o h p c place r q (k.accepted c place q before)
+  | inl before ↦ sent_back_still o h p c place r q (k.accepted c place q before)
   | inr last ↦ (let channel = eqb-true c r.place.channel test in
       let own : slice_get (with_next h.sent p (here_at h r) p) (length (h.sent p)) ≡ Some (here_at h r) =
-          ap (λ (ws : List Whereabouts). slice_get ws (length (h.sent p))) (with_next_same h.sent p (here_at h r)) ∙ slice_get-last (h.sent p) (here_at h r) (length (h.sent p)) refl in
+      ap (λ (ws : List Whereabouts). slice_get ws (length (h.sent p))) (with_next_same h.sent p (here_at h r)) ∙ slice_get-last (h.sent p) (here_at h r) (length (h.sent p)) refl in
       let back : IsSentBack o (with_next h.sent p (here_at h r)) r.place.channel (length (h.accepted r.place.channel)) r = record {
         placed = made.placed;
         index = length (h.sent p);
@@ -162,7 +163,8 @@ accepted_by o h p port asked r c place q true k made test is = elim (before_or_l
         sent_at = ap (λ n. slice_get (with_next h.sent p (here_at h r) n) (length (h.sent p))) made.of_port ∙ own;
       } in
       let there : IsSentBack o (with_next h.sent p (here_at h r)) c (length (h.accepted c)) r = subst (λ n. IsSentBack o (with_next h.sent p (here_at h r)) n (length (h.accepted n)) r) (sym channel) back in
-      subst (λ (x : Request). IsSentBack o (with_next h.sent p (here_at h r)) c place x) (sym last.1) (subst (λ n. IsSentBack o (with_next h.sent p (here_at h r)) c n r) (sym last.0) there)) ]
+      subst (λ (x : Request). IsSentBack o (with_next h.sent p (here_at h r)) c place x) (sym last.1) (subst (λ n. IsSentBack o (with_next h.sent p (here_at h r)) c n r) (sym last.0) there))
+]
 
 sent_still : (o : Opening) (h : History) (r : Request) (p k : ℕ) (w : Whereabouts) → IsSent o h.accepted p k w → IsSent o (with_next h.accepted r.place.channel r) p k w
 sent_still o h r p k w s = record {
@@ -176,13 +178,14 @@ sent_by : (o : Opening) (h : History) (p : ℕ) (port : PortSide) (asked : Asked
     → slice_get (cond b (h.sent i ++ here_at h r ∷ []) (h.sent i)) k ≡ Some w → IsSent o (with_next h.accepted r.place.channel r) i k w
 sent_by o h p port asked r i k w false keeps made test is = sent_still o h r i k w (keeps.sent i k w is)
 sent_by o h p port asked r i k w true keeps made test is = elim (before_or_last (h.sent i) (here_at h r) w k is) [
-    inl before ↦ sent_still o h r i k w (keeps.sent i k w before)
+  | inl before ↦ sent_still o h r i k w (keeps.sent i k w before)
   | inr last ↦ (let own = eqb-true i p test in
       let there : slice_get (with_next h.accepted r.place.channel r r.place.channel) (length (h.accepted r.place.channel)) ≡ Some r =
-          ap (λ (rs : List Request). slice_get rs (length (h.accepted r.place.channel))) (with_next_same h.accepted r.place.channel r) ∙ slice_get-last (h.accepted r.place.channel) r (length (h.accepted r.place.channel)) refl in
+      ap (λ (rs : List Request). slice_get rs (length (h.accepted r.place.channel))) (with_next_same h.accepted r.place.channel r) ∙ slice_get-last (h.accepted r.place.channel) r (length (h.accepted r.place.channel)) refl in
       let count : length (h.sent i) ≡ length (h.sent p) = ap (λ n. length (h.sent n)) own in
       let here : IsSent o (with_next h.accepted r.place.channel r) i k (here_at h r) = record { request = r; there = there; port = made.of_port ∙ sym own; number = omega (arith, made.number, last.0, count) } in
-      subst (λ (x : Whereabouts). IsSent o (with_next h.accepted r.place.channel r) i k x) (sym last.1) here) ]
+      subst (λ (x : Whereabouts). IsSent o (with_next h.accepted r.place.channel r) i k x) (sym last.1) here)
+]
 
 -- the replies to earlier requests stay as they were
 
@@ -220,7 +223,7 @@ submit_keeps o h p port asked r side k was free request there =
     let new = queued (item.Request r) side in
     let list : requests_in (side.requests ++ item.Request r ∷ []) ≡ requests_in side.requests ++ r ∷ [] = requests_in-append side.requests (item.Request r ∷ []) in
     let after : (f : ℕ → ℕ) (i : ℕ) → sum_by (held_in f i) (set h.state.channels c new) ≡ sum_by (held_in f i) h.state.channels + weight f i r.port r.number =
-        λ f i. omega (arith, sum_replaced (held_in f i) h.state.channels c side new there, ap (sum_by (weigh_request (weight f i))) list, sum_last (weigh_request (weight f i)) (requests_in side.requests) r) in
+    λ f i. omega (arith, sum_replaced (held_in f i) h.state.channels c side new there, ap (sum_by (weigh_request (weight f i))) list, sum_last (weigh_request (weight f i)) (requests_in side.requests) r) in
     let e : Outstanding = record { number = port.core.reorder.next; echo = echo_of asked; line = None } in
     record {
       channels = channels_after o h h.admitted (with_next h.accepted c r) c side new k there (λ i other. (refl, with_next_other h.accepted c r i other))
@@ -239,14 +242,15 @@ submit_keeps o h p port asked r side k was free request there =
       sent = λ i n w is. sent_by o h p port asked r i n w (eqb i p) k made refl is;
       taken = λ i. k.taken i ∙ sym (take_still (replies_of_port h i) _ (length (h.taken i)) (replies_by o h p i r (eqb i p) k) (taken_within Some (h.taken i) (replies_of_port h i) (k.taken i)));
       held = λ f i x is. elim (replaced_at h.state.ports p i port (after_submit asked port) x was is) [
-          inl here ↦ (let weighs : weight f i r.port r.number ≡ f port.core.reorder.next =
-                  ap (λ b. cond b (f r.number) 0) (eq-eqb r.port i (made.of_port ∙ sym here.0)) ∙ ap f made.next in
-              let old : sum_by (held_in f i) h.state.channels + delivered_in f port ≡ waiting_in f port = k.held f i port (ap (slice_get h.state.ports) here.0 ∙ was) in
-              let both : sum_by (held_in f i) (set h.state.channels c new) + delivered_in f (after_submit asked port) ≡ waiting_in f (after_submit asked port) =
-                  omega (arith, after f i, weighs, old, sum_last (weigh_waiting f) port.core.reorder.outstanding e) in
-              ap (λ (s : PortSide). sum_by (held_in f i) (set h.state.channels c new) + delivered_in f s) here.1 ∙ both ∙ ap (waiting_in f) (sym here.1))
+        | inl here ↦ (let weighs : weight f i r.port r.number ≡ f port.core.reorder.next =
+            ap (λ b. cond b (f r.number) 0) (eq-eqb r.port i (made.of_port ∙ sym here.0)) ∙ ap f made.next in
+            let old : sum_by (held_in f i) h.state.channels + delivered_in f port ≡ waiting_in f port = k.held f i port (ap (slice_get h.state.ports) here.0 ∙ was) in
+            let both : sum_by (held_in f i) (set h.state.channels c new) + delivered_in f (after_submit asked port) ≡ waiting_in f (after_submit asked port) =
+            omega (arith, after f i, weighs, old, sum_last (weigh_waiting f) port.core.reorder.outstanding e) in
+            ap (λ (s : PortSide). sum_by (held_in f i) (set h.state.channels c new) + delivered_in f s) here.1 ∙ both ∙ ap (waiting_in f) (sym here.1))
         | inr other ↦ (let weighs : weight f i r.port r.number ≡ 0 = ap (λ b. cond b (f r.number) 0) (ne_eqb r.port i (λ same. other.0 (sym same ∙ made.of_port))) in
-              omega (arith, after f i, weighs, k.held f i x other.1)) ];
+            omega (arith, after f i, weighs, k.held f i x other.1))
+      ];
       channels_are = length-set h.state.channels c new ∙ k.channels_are;
       no_port = λ i past.
           let past' : length h.state.ports ≤ i = omega (arith, past, length-set h.state.ports p (after_submit asked port)) in

@@ -105,17 +105,17 @@ line_tests shape a b p q p_is q_is channel =
     let q_at = stands shape b q q_is in
     same_bool (is_same_line (line_of p) (line_of q)) (eqb (a / 64) (b / 64))
     (λ test.
-        let parts = same_line (line_of p) (line_of q) test in
-        let p_low = bank_below shape a p p_at in
-        let q_low = bank_below shape b q q_at in
-        let group : p.group ≡ q.group = omega (arith, parts.0) in
-        let bank : p.bank ≡ q.bank = omega (arith, parts.0) in
-        let one = same_place p q channel group bank parts.1 parts.2 in
-        let same : a / 64 ≡ b / 64 = line_number shape a p p_at ∙ sym (moved_number shape p q.offset) ∙ ap (number shape) one ∙ sym (line_number shape b q q_at) in
-        ap (λ n. eqb n (b / 64)) same ∙ eq-eqb (b / 64) (b / 64) refl)
+    let parts = same_line (line_of p) (line_of q) test in
+    let p_low = bank_below shape a p p_at in
+    let q_low = bank_below shape b q q_at in
+    let group : p.group ≡ q.group = omega (arith, parts.0) in
+    let bank : p.bank ≡ q.bank = omega (arith, parts.0) in
+    let one = same_place p q channel group bank parts.1 parts.2 in
+    let same : a / 64 ≡ b / 64 = line_number shape a p p_at ∙ sym (moved_number shape p q.offset) ∙ ap (number shape) one ∙ sym (line_number shape b q q_at) in
+    ap (λ n. eqb n (b / 64)) same ∙ eq-eqb (b / 64) (b / 64) refl)
     (λ test.
-        let same : line_of p ≡ line_of q = ap line_of p_at.is ∙ line_of_number shape a b (eqb-true (a / 64) (b / 64) test) ∙ ap line_of (sym q_at.is) in
-        ap (λ (l : LineAddress). is_same_line l (line_of q)) same ∙ is_same_line-refl (line_of q))
+    let same : line_of p ≡ line_of q = ap line_of p_at.is ∙ line_of_number shape a b (eqb-true (a / 64) (b / 64) test) ∙ ap line_of (sym q_at.is) in
+    ap (λ (l : LineAddress). is_same_line l (line_of q)) same ∙ is_same_line-refl (line_of q))
 
 -- a request writes a byte of the line exactly where it writes the byte of its address
 writes_alike : (shape : Geometry) (c : ℕ) (r w : Request) (k : ℕ) → IsPlaced shape c r → IsPlaced shape c w → r.echo.addr % 64 + k < 64

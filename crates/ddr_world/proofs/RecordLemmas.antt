@@ -21,7 +21,7 @@ lent_is_next k p side (Some reply) there is = λ opening events stands.
     let h = run opening events in
     let promise = core_keeps_promise opening events in
     let front : front_of h.state p ≡ Some (said reply) =
-        ap (λ (s : State). front_of s p) (sym stands.state) ∙ ap (λ (x : Option PortSide). option_and_then (λ port. nth_answer port.core.reorder 0) x) there ∙ sym is in
+    ap (λ (s : State). front_of s p) (sym stands.state) ∙ ap (λ (x : Option PortSide). option_and_then (λ port. nth_answer port.core.reorder 0) x) there ∙ sym is in
     subst (λ (x : Option Answer). IfSome x (λ a. slice_get (replies_of_port h p) (length (h.taken p)) ≡ Some (Some a))) front (promise.lent p)
 
 told_by_index : {X : Type 0} (f : X → ℕ) (g : ℕ → ℕ) (a : ℕ) (xs : List X) → ((i : ℕ) (x : X) → slice_get xs i ≡ Some x → f x ≡ g (a + i)) → map f xs ≡ map g (range_with_len a (length xs))
@@ -41,8 +41,8 @@ closed_gave_all k closed drained accepted taken opening events stands =
           ∙ told_by_index (λ (side : PortSide). side.accepted) (λ p. length (h.sent p)) 0 h.state.ports (λ p side is. (promise.counted p side is).accepted ∙ ap (λ n. length (h.sent n)) (omega arith));
       taken = taken ∙ ap (map (λ (side : PortSide). side.taken)) ports
           ∙ told_by_index (λ (side : PortSide). side.taken) (λ p. length (h.sent p)) 0 h.state.ports (λ p side is.
-              let counted = promise.counted p side is in
-              let empty = All-at IsPortDrained h.state.ports p side all.ports is in
-              let same : side.taken ≡ length (h.sent p) = omega (arith, counted.taken, counted.outstanding, empty.outstanding) in
-              same ∙ ap (λ n. length (h.sent n)) (omega arith));
+          let counted = promise.counted p side is in
+          let empty = All-at IsPortDrained h.state.ports p side all.ports is in
+          let same : side.taken ≡ length (h.sent p) = omega (arith, counted.taken, counted.outstanding, empty.outstanding) in
+          same ∙ ap (λ n. length (h.sent n)) (omega arith));
     }
