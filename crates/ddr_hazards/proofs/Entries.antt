@@ -28,11 +28,7 @@ entries_of taken [] = []
 entries_of taken (w ∷ ws) =
     Some (record { waiting = w; is_blocked = taken w.request.place }) ∷ entries_of (with_line taken w.request.place) ws
 
-pub kept-map : (es : List Entry) → kept (map Some es) ≡ es
-kept-map [] = refl
-kept-map (e ∷ es) = ap (λ rest. e ∷ rest) (kept-map es)
-
-pub held-entries_of : (taken : Taken) (ws : List Waiting) → held (entries_of taken ws) ≡ ws
+held-entries_of : (taken : Taken) (ws : List Waiting) → held (entries_of taken ws) ≡ ws
 held-entries_of taken [] = refl
 held-entries_of taken (w ∷ ws) = ap (λ rest. w ∷ rest) (held-entries_of (with_line taken w.request.place) ws)
 
@@ -41,7 +37,7 @@ whole-entries_of taken [] = refl
 whole-entries_of taken (w ∷ ws) =
     ap (λ rest. Some (record { waiting = w; is_blocked = taken w.request.place }) ∷ rest) (whole-entries_of (with_line taken w.request.place) ws)
 
-pub length-entries_of : (taken : Taken) (ws : List Waiting) → length (entries_of taken ws) ≡ length ws
+length-entries_of : (taken : Taken) (ws : List Waiting) → length (entries_of taken ws) ≡ length ws
 length-entries_of taken [] = refl
 length-entries_of taken (w ∷ ws) = ap suc (length-entries_of (with_line taken w.request.place) ws)
 
@@ -89,7 +85,7 @@ entries_is entries whole flags =
     whole ∙ behind none_taken (kept entries) (λ place. ap (λ es. is_flagged es place) (sym whole) ∙ flags place)
 
 -- one more request waits for those before it
-pub entries_of-push : (taken : Taken) (ws : List Waiting) (w : Waiting) →
+entries_of-push : (taken : Taken) (ws : List Waiting) (w : Waiting) →
     entries_of taken (ws ++ w ∷ [])
     ≡ entries_of taken ws ++ Some (record { waiting = w; is_blocked = taken w.request.place || list_any (λ older. is_same_line older.request.place w.request.place) ws }) ∷ []
 entries_of-push taken [] w = λ i. Some (record { waiting = w; is_blocked = sym (or_false (taken w.request.place)) i }) ∷ []
@@ -100,7 +96,7 @@ entries_of-push taken (v ∷ ws) w =
     ap (λ rest. Some (record { waiting = v; is_blocked = taken v.request.place }) ∷ rest) more
 
 -- places in one line are taken alike
-abbrev pub Respects : Taken → Type 0
+abbrev Respects : Taken → Type 0
 Respects taken = (a b : Place) → is_same_line a b ≡ true → taken a ≡ taken b
 
 respects-with_line : (taken : Taken) (place : Place) → Respects taken → Respects (with_line taken place)

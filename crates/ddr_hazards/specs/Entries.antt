@@ -1,4 +1,4 @@
--- The entries of the list of pending requests.
+-- The entries of the list of pending requests, which no caller sees.
 use Rattle.std.specs.Prelude.{ℕ, Bool, false, cond, List, [], ◌∷◌, map, slice_get, Option}
 use Rattle.std.specs.List.{filter_map}
 use Rattle.std.specs.Option.{option_map, option_map_or, option_flatten}
