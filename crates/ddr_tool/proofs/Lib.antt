@@ -2,13 +2,6 @@ pub mod BodyLemmas
 pub mod CheckLemmas
 pub mod Inputs
 pub mod JobLemmas
-pub mod KeeperLemmas
 pub mod Lines
 pub mod MapLemmas
-pub mod Masks
-pub mod Numbering
-pub mod Output
 pub mod PassLemmas
-pub mod RunLemmas
-pub mod ServiceLemmas
-pub mod Writes

@@ -3,11 +3,13 @@ pub mod Check
 pub mod Ending
 pub mod Fault
 pub mod Input
+pub mod Instructions
 pub mod Job
-pub mod KeeperView
+pub mod Lines
 pub mod MapText
-pub mod Progress
 pub mod Replies
-pub mod Requests
+pub mod Rounds
 pub mod Runs
 pub mod Script
+pub mod Sims
+pub mod Simulated

@@ -1,40 +1,38 @@
--- Replies: which is the right one to a request, and the text of each.
-use Rattle.std.specs.Prelude.{◌≡◌, ℕ, ◌%◌, List, [], ◌∷◌, ◌++◌, take, drop, codes, Some, slice_get}
-use Rattle.std.specs.List.{flat_map}
+-- The texts of a run: of a reply, and of a request that is refused.
+use Rattle.std.specs.Prelude.{ℕ, List, [], ◌∷◌, ◌++◌, codes}
 use Rattle.std.specs.Fmt.{decimal}
 use Rattle.hex.specs.Hex.{encode_lower}
-use Rattle.ddr_timing.specs.declared.units.TheConstants.{LINE_BYTES}
 use Rattle.ddr_address_map.specs.declared.request.Kind.{Kind}
 use Rattle.ddr_address_map.specs.declared.request.Kind.TheVariants.{Read, Write}
-use Rattle.ddr_address_map.specs.Requests.{Request, Completion}
-use Rattle.ddr_channel.specs.Cycle.{line_served}
-use Rattle.ddr_channel.specs.Memory.{line_after, line_of}
-
--- each request has its place in the list as its number
-abbrev pub AreNumbered : List Request → Type 0
-AreNumbered requests = (place : ℕ) (r : Request) → slice_get requests place ≡ Some r → r.number ≡ place
-
--- The right reply to the request of its number: a read has its line as the writes of the requests before it leave it, from
--- a memory of zeros.
-pub record IsReplyTo (requests : List Request) (d : Completion) : Type 0 where
-  pub request : Request
-  pub asked : slice_get requests d.number ≡ Some request
-  pub port : d.port ≡ request.port
-  pub echo : d.echo ≡ request.echo
-  pub line : d.line ≡ line_served request.echo.kind (line_after (take d.number requests) (line_of request.place)) request.line
-
--- the bytes of the line that were asked for
-abbrev pub bytes_asked : Completion → List ℕ
-bytes_asked d = take d.echo.len (drop (d.echo.addr % LINE_BYTES) d.line)
+use Rattle.ddr_reorder.specs.Replies.{Answer}
+use Rattle.ddr_world.specs.declared.event.Refusal.{Refusal}
+use Rattle.ddr_world.specs.declared.event.Refusal.TheVariants as refusal
 
 -- what was done, and its address; for a read the bytes in lower case
-abbrev pub done_text : Kind → Completion → List ℕ
-done_text Read d = codes " read " ++ (decimal d.echo.addr ++ (codes " " ++ (encode_lower (bytes_asked d) ++ 10 ∷ [])))
-done_text Write d = codes " write " ++ (decimal d.echo.addr ++ 10 ∷ [])
+abbrev pub done_text : Kind → Answer → List ℕ
+done_text Read a = codes " read " ++ (decimal a.echo.addr ++ (codes " " ++ (encode_lower a.bytes ++ 10 ∷ [])))
+done_text Write a = codes " write " ++ (decimal a.echo.addr ++ 10 ∷ [])
 
--- the line of a reply: the port, the number, and what was done
-unfoldable pub reply_text : Completion → List ℕ
-reply_text d = decimal d.port ++ (codes " " ++ (decimal d.number ++ done_text d.echo.kind d))
+-- `PORT NUMBER read ADDR HEX`, or `PORT NUMBER write ADDR`
+unfoldable pub reply_text : ℕ → Answer → List ℕ
+reply_text port a = decimal port ++ (codes " " ++ (decimal a.number ++ done_text a.echo.kind a))
 
-abbrev pub replies_text : List Completion → List ℕ
-replies_text ds = flat_map reply_text ds
+-- the name of a cause; a busy channel isn't named
+abbrev pub name_of : Refusal → List ℕ
+name_of refusal.Finished = codes "Finished"
+name_of refusal.OutOfRange = codes "OutOfRange"
+name_of refusal.EmptyLength = codes "EmptyLength"
+name_of refusal.CrossesLine = codes "CrossesLine"
+name_of refusal.Spent = codes "Spent"
+name_of refusal.WindowFull = codes "WindowFull"
+name_of (refusal.Busy channel) = codes "Busy"
+name_of refusal.Nothing = codes "Nothing"
+name_of refusal.QueueFull = codes "QueueFull"
+name_of refusal.ClockSpent = codes "ClockSpent"
+name_of refusal.OutOfMemory = codes "OutOfMemory"
+name_of refusal.NotEmpty = codes "NotEmpty"
+name_of refusal.NoSuch = codes "NoSuch"
+
+-- `refused PORT NAME`
+unfoldable pub refused_text : ℕ → Refusal → List ℕ
+refused_text port cause = codes "refused " ++ (decimal port ++ (codes " " ++ (name_of cause ++ 10 ∷ [])))

@@ -1,102 +1,76 @@
--- What a run writes.
-use Rattle.std.specs.Prelude.{◌≡◌, ◌==◌, ℕ, Bool, true, false, nat_lt, if◌then◌else◌, List, [], length, map, Option, Some, None, Result, Ok, Err}
-use Rattle.std.specs.List.{AllByRecursion, range_with_len}
-use Rattle.std.specs.Io.KnownBytes.{Appends}
-use Rattle.ddr_address_map.specs.Requests.{Request, Completion}
+-- A whole run: a script's instructions, then rounds until nothing is outstanding, then the Ends.
+use Rattle.std.specs.Prelude.{ℕ, ◌==◌, suc, zero, if◌then◌else◌, List, [], ◌∷◌, ◌++◌, slice_get, Option, Some, None, Result, Ok, Err}
+use Rattle.std.specs.Option.{option_map_or}
+use Rattle.ddr_ports.specs.Asked.{Asked}
 use Rattle.ddr_timing.specs.declared.config.Config.{Config}
-use Rattle.ddr_trace.specs.declared.command.Entry.{Entry}
-use Rattle.ddr_trace.specs.Legality.{IsLegal}
 use Rattle.ddr_trace.specs.Text.{trace_text}
-use Rattle.ddr_channel.specs.History.{Call, run}
-use Rattle.ddr_channel.specs.Promise.{AreCalls}
-use Rattle.ddr_tool.specs.declared.fault.Fault.{Fault}
-use Rattle.ddr_tool.specs.declared.fault.Fault.TheVariants as faults
-use Rattle.ddr_tool.specs.Body.{HasInputFault, IsOpened, parts_of}
-use Rattle.ddr_tool.specs.Input.{IsText}
-use Rattle.ddr_tool.specs.Replies.{IsReplyTo, replies_text}
-use Rattle.ddr_tool.specs.Requests.{requests_of}
+use Rattle.ddr_world.specs.Events.{Submit, Take, End}
+use Rattle.ddr_world.specs.State.{State, ChannelSide, opened}
+use Rattle.ddr_world.specs.Step.{Step, step}
+use Rattle.ddr_tool.specs.declared.fault.Fault.TheVariants.{ScriptLimit}
+use Rattle.ddr_tool.specs.Replies.{refused_text}
+use Rattle.ddr_tool.specs.Rounds.{Run, Course, stopped, ◌then◌, after, outstanding, round, rounds}
+use Rattle.ddr_tool.specs.Script.{Instruction, Ask, Rounds}
 
--- known bytes grow by the right replies to the requests of these numbers, from the first on, one each, in order
-pub record AppendsReplies (requests : List Request) (old new : Option (List ℕ)) (first count : ℕ) : Type 0 where
-  pub replies : List Completion
-  pub right : AllByRecursion (IsReplyTo requests) replies
-  pub numbers : map (λ d. d.number) replies ≡ range_with_len first count
-  pub text : Appends old new (replies_text replies)
+-- the most rounds of a run
+abbrev pub MOST_ROUNDS : ℕ
+MOST_ROUNDS = 10000000
 
--- the trace and the end of a channel that was opened at cycle 0, and whose calls admitted these requests
-pub record IsTraceOf (config : Config) (requests : List Request) (entries : List Entry) (end : ℕ) : Type 0 where
-  pub calls : List Call
-  pub are : AreCalls config calls
-  pub admitted : (run config 0 calls).accepted ≡ requests
-  pub trace : entries ≡ (run config 0 calls).state.trace
-  pub ends : end ≡ (run config 0 calls).state.now
+-- before the first instruction
+abbrev pub begun : Config → Run
+begun config = record { state = opened config 0 0; text = []; left = MOST_ROUNDS }
 
--- what a channel has of these commands: for now the first channel alone is given requests
-abbrev pub commands_of : ℕ → List Entry → List Entry
-commands_of channel entries = if channel == 0 then entries else []
+-- a request that is refused is printed with its cause
+abbrev pub after_submit : ℕ → Run → Step → Run
+after_submit p run (Ok m) = record run { state = m.state }
+after_submit p run (Err cause) = record run { text = run.text ++ refused_text p cause }
 
--- known bytes grow by the text of a channel's trace, which is legal, from cycle 0 on; it ends where the first one's does
-pub record AppendsTrace (config : Config) (requests : List Request) (channel : ℕ) (old new : Option (List ℕ)) : Type 0 where
-  pub entries : List Entry
-  pub end : ℕ
-  pub ran : IsTraceOf config requests entries end
-  pub legal : IsLegal config 0 end (commands_of channel entries)
-  pub text : Appends old new (trace_text (commands_of channel entries) end)
+abbrev pub submitted : ℕ → Asked → Run → Run
+submitted p asked run = after_submit p run (step run.state (Submit p asked))
 
--- the replies to the requests where no channel is named, and else the channel's trace
-abbrev pub AppendsRun : Option ℕ → Config → List Request → Option (List ℕ) → Option (List ℕ) → Type 0
-AppendsRun None config requests old new = AppendsReplies requests old new 0 (length requests)
-AppendsRun (Some channel) config requests old new = AppendsTrace config requests channel old new
+abbrev pub followed : Config → Instruction → Run → Course
+followed config (Ask p asked) run = Ok (submitted p asked run)
+followed config (Rounds n) run = rounds config n run
 
--- what an input asks for: requests under its configuration, or the number of the script's first line at fault
-pub record Asks (sample : Bool) (profile input : List ℕ) (config : Config) (said : Result (List Request) ℕ) : Type 0 where
-  pub text : IsText input
-  pub body : List ℕ
-  pub opened : IsOpened (parts_of sample profile input) config body
-  pub asked : requests_of config body ≡ said
+-- the instructions, in order
+abbrev pub all_followed : Config → List Instruction → Run → Course
+all_followed config [] run = Ok run
+all_followed config (instruction ∷ more) run = followed config instruction run then all_followed config more
 
--- the channel that is named, if one is, is there
-abbrev pub has_channel : Config → Option ℕ → Bool
-has_channel config None = true
-has_channel config (Some channel) = nat_lt channel config.geometry.channels
+-- rounds while a number is outstanding, of so many that may be made
+abbrev pub drained : Config → ℕ → Run → Course
+drained config zero run = if outstanding run.state == 0 then Ok run else stopped ScriptLimit run
+drained config (suc n) run = if outstanding run.state == 0 then Ok run else round config run then drained config n
 
--- what a run without a fault writes
-pub record IsRun (sample : Bool) (profile : List ℕ) (trace : Option ℕ) (input : List ℕ) (old new : Option (List ℕ)) : Type 0 where
-  pub config : Config
-  pub there : has_channel config trace ≡ true
-  pub requests : List Request
-  pub asks : Asks sample profile input config (Ok requests)
-  pub written : AppendsRun trace config requests old new
+-- the Ends of the first so many ports to a channel, each taken behind its push
+abbrev pub ports_ended : ℕ → ℕ → State → State
+ports_ended c zero s = s
+ports_ended c (suc p) s = after (after (ports_ended c p s) (End p c)) (Take c)
 
--- the input asks for a run
-pub record AsksForRun (sample : Bool) (profile : List ℕ) (trace : Option ℕ) (input : List ℕ) : Type 0 where
-  pub config : Config
-  pub there : has_channel config trace ≡ true
-  pub requests : List Request
-  pub asks : Asks sample profile input config (Ok requests)
+-- the Ends of so many ports to the first so many channels
+abbrev pub channels_ended : ℕ → ℕ → State → State
+channels_ended ports zero s = s
+channels_ended ports (suc c) s = ports_ended c ports (channels_ended ports c s)
 
--- a line of the script is at fault
-pub record AsksWrongly (sample : Bool) (profile : List ℕ) (trace : Option ℕ) (input : List ℕ) (line : ℕ) : Type 0 where
-  pub config : Config
-  pub there : has_channel config trace ≡ true
-  pub asks : Asks sample profile input config (Err line)
+abbrev pub ended : Config → Run → Run
+ended config run = record run { state = channels_ended config.limits.ports config.geometry.channels run.state }
 
--- the channel that is named is not there
-pub record NamesNoChannel (sample : Bool) (profile : List ℕ) (trace : Option ℕ) (input : List ℕ) : Type 0 where
-  pub text : IsText input
-  pub config : Config
-  pub body : List ℕ
-  pub opened : IsOpened (parts_of sample profile input) config body
-  pub absent : has_channel config trace ≡ false
+-- the instructions, then rounds while a number is outstanding, then the Ends
+abbrev pub whole : Config → List Instruction → Run → Course
+whole config instructions run =
+    all_followed config instructions run then (λ next. drained config next.left next) then λ last. Ok (ended config last)
 
--- the input has the fault that a run ends by; of too many rounds, the clock and writing, it asks for the run that they
--- end, and reading and memory fail by themselves
-abbrev pub HasSimFault : Bool → List ℕ → Option ℕ → List ℕ → Fault → Type 0
-HasSimFault sample profile trace input faults.TraceNoSuch = NamesNoChannel sample profile trace input
-HasSimFault sample profile trace input (faults.ScriptLine line) = AsksWrongly sample profile trace input line
-HasSimFault sample profile trace input faults.ScriptLimit = AsksForRun sample profile trace input
-HasSimFault sample profile trace input faults.Read = Unit {0}
-HasSimFault sample profile trace input faults.Write = AsksForRun sample profile trace input
-HasSimFault sample profile trace input faults.OutOfMemory = Unit {0}
-HasSimFault sample profile trace input faults.ClockSpent = AsksForRun sample profile trace input
-HasSimFault sample profile trace input fault = HasInputFault sample profile input fault
+-- a whole run
+unfoldable pub run_of : Config → List Instruction → Course
+run_of config instructions = whole config instructions (begun config)
+
+-- the trace of a channel, as a text
+abbrev pub channel_text : State → ℕ → List ℕ
+channel_text s c = option_map_or (λ side. trace_text side.channel.trace side.channel.now) (slice_get s.channels c) []
+
+-- What a run writes: all that it prints, or where a channel is named that channel's trace alone, which comes at the end.
+abbrev pub written_by : Option ℕ → Course → List ℕ
+written_by None (Ok run) = run.text
+written_by None (Err stop) = stop.text
+written_by (Some c) (Ok run) = channel_text run.state c
+written_by (Some c) (Err stop) = []

@@ -4,7 +4,7 @@
 ghost use Rattle.std.specs.Prelude.{◌≡◌, ◌≤◌, IfErr, IfOk, IfSome, IsErrOf, IsTrue, MatchResult, Ok, OnOk, length, string_bytes};
 ghost use Rattle.ddr_tool.specs.MapText.{HasMapFault, IsMapFault, IsMapped, address_text, line_text, map_text};
 ghost use Rattle.ddr_tool.specs.Fault.{is_before_output};
-ghost use Rattle.ddr_tool.specs.Script.{Gives};
+ghost use Rattle.ddr_tool.specs.Lines.{Gives};
 
 use crate::body::open;
 use crate::fault::Fault;

@@ -1,38 +1,31 @@
 //! A run of a script: bytes in, replies or a trace out.
 //!
 //! Every other module of the program stands below, and `main` above.
-ghost use Rattle.std.specs.Prelude.{◌≡◌, ◌≢◌, ◌+◌, ◌-◌, ◌≤◌, ◌↔◌, ◌==◌, if◌then◌else◌, [], List, false, IsTrue, IfErr, IfOk, IfSome, IsErrOf, None, OnOk, position};
-ghost use Rattle.ddr_address_map.specs.Requests.{Request};
+ghost use Rattle.std.specs.Prelude.{◌≡◌, IsTrue, IfErr, IfSome, OnOk};
 ghost use Rattle.ddr_tool.specs.Fault.{is_before_output};
-ghost use Rattle.ddr_tool.specs.Progress.{IsSameRun, Serves};
-ghost use Rattle.ddr_tool.specs.Runs.{AppendsReplies, AppendsTrace, HasSimFault, IsRun, has_channel};
+ghost use Rattle.ddr_tool.specs.Sims.{HasSimFault, IsRun, has_channel};
 
 use crate::body::open;
 use crate::fault::Fault;
 use crate::input::{read_input, text_of};
-use crate::keeper::Keeper;
-use crate::reply::reply_text;
-use crate::request::requests_of;
-use crate::writing::write_text;
+use crate::instructions::instructions_of;
+use crate::simulation::Simulation;
+use crate::writing::flush;
 use ddr_timing::config::Config;
 use ddr_timing::profile::PROFILE_S;
-use ddr_trace::text::{TraceError, write_trace};
 use std::alloc::Global;
 use std::io::{Read, Write};
-
-/// The most rounds that a run makes, this project's choice.
-const MOST_ROUNDS: u32 = 10_000_000;
 
 /// Reads a script and runs it.
 ///
 /// With `sample` the whole input is the script, on the sample configuration; else the input is a configuration, a
-/// line `---` and the script, which is read whole before its first request is made. Where `trace` is none, the
-/// replies are written, each as a line, in the order of the requests; where it names a channel, only the trace of
-/// that channel is, at the end.
+/// line `---` and the script, which is read whole before its first step. Where `trace` is none, each reply and each
+/// refusal is written as a line when it comes; where it names a channel, only the trace of that channel is, at the end.
 ///
 /// Fails as `open` does, then as `TraceNoSuch` where there is no such channel, then as `ScriptLine` at the first
-/// line of the script that is at fault. At a fault of the input, or of reading it, nothing is written; at a later
-/// one what was written before stands.
+/// line of the script that is at fault, or as `ScriptLimit` at the first request too many. At these nothing is written.
+/// A run that needs too many rounds fails as `ScriptLimit` too, and what was written before stands, as at every later
+/// fault.
 pub fn sim<R: Read, W: Write>(
     alloc: Global,
     sample: bool,
@@ -42,7 +35,7 @@ pub fn sim<R: Read, W: Write>(
 ) -> Result<(), Fault>
     ensures untouched { IfErr result (λ fault. IsTrue (is_before_output fault) → writer.new ≡ writer.old) }
     ensures fault { IfErr result (λ fault. IfSome (R.remaining reader.old) (λ input.
-        HasSimFault sample PROFILE_S.now trace input fault)) }
+        HasSimFault sample PROFILE_S.now trace input (W.contents writer.old) (W.contents writer.new) fault)) }
     ensures written { OnOk result (IfSome (R.remaining reader.old) (λ input.
         IsRun sample PROFILE_S.now trace input (W.contents writer.old) (W.contents writer.new))) }
 {
@@ -52,12 +45,15 @@ pub fn sim<R: Read, W: Write>(
     if !has_channel(&config, trace) {
         return Err(Fault::TraceNoSuch);
     }
-    let requests = requests_of(alloc, &config, body)?;
-    let mut keeper = Keeper::open(alloc, &config, requests)?;
+    let instructions = instructions_of(alloc, config.limits.ports, body)?;
+    let mut simulation = Simulation::open(alloc, &config, trace.is_some())?;
+    simulation.run(alloc, instructions.as_slice(), writer)?;
     match trace {
-        None => write_replies(alloc, &mut keeper, writer),
-        Some(channel) => write_channel(alloc, &mut keeper, channel, writer),
+        None => flush(writer)?,
+        Some(channel) => simulation.write_trace(alloc, channel, writer)?,
     }
+    simulation.close();
+    Ok(())
 }
 
 /// Whether the channel that is named, if one is, is there.
@@ -68,87 +64,4 @@ fn has_channel(config: &Config, trace: Option<u32>) -> bool
         Some(channel) => channel < config.geometry.channels,
         None => true,
     }
-}
-
-/// Makes rounds until every reply came, and writes the replies as they come.
-fn write_replies<W: Write>(alloc: Global, keeper: &mut Keeper, writer: &mut W) -> Result<(), Fault>
-    requires { keeper.old.given ≡ 0 }
-    ensures written { OnOk result ((requests : List Request) → Serves keeper.old requests
-        → AppendsReplies requests (W.contents writer.old) (W.contents writer.new) 0 keeper.old.count) }
-    ensures late { IfErr result (λ fault. is_before_output fault ≡ false) }
-{
-    let mut rounds = 0;
-    'rounds: while !keeper.is_done() {
-        rounds = round(keeper, rounds)?;
-        write_ready(alloc, keeper, writer)?;
-    }
-    match writer.flush() {
-        Ok(()) => Ok(()),
-        Err(_) => Err(Fault::Write),
-    }
-}
-
-/// Writes the replies that come next, as far as they are there.
-fn write_ready<W: Write>(alloc: Global, keeper: &mut Keeper, writer: &mut W) -> Result<(), Fault>
-    ensures written { OnOk result ((requests : List Request) → Serves keeper.old requests
-        → AppendsReplies requests (W.contents writer.old) (W.contents writer.new) keeper.old.given (keeper.new.given - keeper.old.given)) }
-    ensures serves { OnOk result ((requests : List Request) → Serves keeper.old requests → Serves keeper.new requests) }
-    ensures given { keeper.old.given ≤ keeper.new.given }
-    ensures all { OnOk result (keeper.new.given ≢ keeper.new.count → position (λ d. d.number == keeper.new.given) keeper.new.held ≡ None) }
-    ensures kept { IsSameRun keeper.old keeper.new }
-    ensures late { IfErr result (λ fault. is_before_output fault ≡ false) }
-{
-    while let Some(done) = keeper.next_reply() {
-        let text = reply_text(alloc, &done)?;
-        write_text(writer, text.as_str())?;
-    }
-    Ok(())
-}
-
-/// Makes rounds until every reply came, and writes the trace of a channel. Only the first one has commands.
-fn write_channel<W: Write>(
-    alloc: Global,
-    keeper: &mut Keeper,
-    channel: u32,
-    writer: &mut W,
-) -> Result<(), Fault>
-    requires { keeper.old.channel.start ≡ 0 }
-    ensures written { OnOk result ((requests : List Request) → Serves keeper.old requests
-        → AppendsTrace keeper.old.channel.config requests channel (W.contents writer.old) (W.contents writer.new)) }
-    ensures done { OnOk result (keeper.new.given ≡ keeper.old.count) }
-    ensures late { IfErr result (λ fault. is_before_output fault ≡ false) }
-{
-    let mut rounds = 0;
-    'rounds: while !keeper.is_done() {
-        rounds = round(keeper, rounds)?;
-        while keeper.next_reply().is_some() {}
-    }
-    let written = if channel == 0 {
-        write_trace(alloc, keeper.trace(), keeper.now(), writer)
-    } else {
-        write_trace(alloc, &[], keeper.now(), writer)
-    };
-    match written {
-        Ok(()) => Ok(()),
-        Err(TraceError::OutOfMemory) => Err(Fault::OutOfMemory),
-        Err(_) => Err(Fault::Write),
-    }
-}
-
-/// Makes a round after so many, and counts it. Fails as `ScriptLimit` where no further one may be made.
-fn round(keeper: &mut Keeper, rounds: u32) -> Result<u32, Fault>
-    requires { rounds ≤ MOST_ROUNDS }
-    ensures counted { IfOk result (λ made. (made ≡ rounds + 1) × (made ≤ MOST_ROUNDS)) }
-    ensures kept { IsSameRun keeper.old keeper.new }
-    ensures given { keeper.new.given ≡ keeper.old.given }
-    ensures serves { OnOk result ((requests : List Request) → Serves keeper.old requests → Serves keeper.new requests) }
-    ensures clock { OnOk result (keeper.new.channel.now ≡ keeper.old.channel.now + 1) }
-    ensures limit { IsErrOf result Fault.ScriptLimit ↔ (rounds ≡ MOST_ROUNDS) }
-    ensures late { IfErr result (λ fault. is_before_output fault ≡ false) }
-{
-    if rounds == MOST_ROUNDS {
-        return Err(Fault::ScriptLimit);
-    }
-    keeper.round()?;
-    Ok(rounds + 1)
 }

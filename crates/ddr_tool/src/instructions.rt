@@ -1,0 +1,99 @@
+//! The instructions of a whole script.
+//!
+//! `script` stands below, which reads a line; `sim` hands the instructions to a `Simulation`.
+ghost use Rattle.std.specs.Prelude.{◌≡◌, ◌≤◌, IfOk, length, map};
+ghost use Rattle.ddr_tool.specs.Instructions.{AreRead, IsRead, instructions_of, is_request, with_instruction, with_line};
+ghost use Rattle.ddr_tool.specs.Script.{view};
+
+use crate::fault::Fault;
+use crate::input::LONGEST_INPUT;
+use crate::script::{Instruction, LineError, is_skipped, parse_instruction};
+use std::alloc::Global;
+use std::marker::Model;
+
+/// The most requests of a script, this project's choice.
+pub const MOST_REQUESTS: u32 = 10_000;
+
+/// What was read of a script so far.
+#[derive(Drop)]
+struct Reading {
+    instructions: Vec<Instruction>,
+    /// How many of them are requests.
+    requests: u32,
+}
+
+impl Model for Reading {
+    ghost use Rattle.ddr_tool.specs.Instructions.{Script};
+
+    ghost Value = { Script };
+
+    ghost use Rattle.ddr_tool.specs.Instructions.{script_of, IsFew};
+
+    ghost view = { script_of };
+
+    ghost invariant = { IsFew };
+}
+
+/// The instructions of a script, in order, for so many ports.
+///
+/// Fails as `ScriptLine` at the first line that is none of a script, as `ScriptLimit` at the first request too many,
+/// whichever comes first, and as `OutOfMemory`.
+pub fn instructions_of(alloc: Global, ports: u32, text: &str) -> Result<Vec<Instruction>, Fault>
+    requires { length text.now ≤ LONGEST_INPUT }
+    ensures { AreRead (λ v. map view v.items) result (instructions_of ports text.now) }
+{
+    let mut reading = Reading {
+        instructions: Vec::new(alloc),
+        requests: 0,
+    };
+    let mut line = 0;
+    for written in text.lines() {
+        line += 1;
+        read_line(alloc, ports, line, &mut reading, written)?;
+    }
+    Ok(reading.instructions)
+}
+
+/// Adds the instruction of a line, unless the line is skipped.
+fn read_line(
+    alloc: Global,
+    ports: u32,
+    line: u64,
+    reading: &mut Reading,
+    written: &str,
+) -> Result<(), Fault>
+    ensures { IsRead reading.new result (with_line ports line reading.old written.now) }
+{
+    if is_skipped(written) {
+        return Ok(());
+    }
+    match parse_instruction(alloc, ports, written) {
+        Ok(instruction) => push_instruction(reading, instruction),
+        Err(LineError::AtFault) => Err(Fault::ScriptLine { line }),
+        Err(LineError::OutOfMemory) => Err(Fault::OutOfMemory),
+    }
+}
+
+/// Adds an instruction, unless it is one request too many.
+fn push_instruction(reading: &mut Reading, instruction: Instruction) -> Result<(), Fault>
+    ensures { IsRead reading.new result (with_instruction reading.old (view instruction)) }
+{
+    if is_request(&instruction) {
+        if reading.requests == MOST_REQUESTS {
+            return Err(Fault::ScriptLimit);
+        }
+        reading.requests += 1;
+    }
+    reading.instructions.push(instruction)?;
+    Ok(())
+}
+
+/// Whether an instruction asks a port for something.
+fn is_request(instruction: &Instruction) -> bool
+    ensures { result ≡ is_request (view instruction.now) }
+{
+    match instruction {
+        Instruction::Read { .. } | Instruction::Write { .. } | Instruction::Masked { .. } => true,
+        Instruction::Cycle { .. } => false,
+    }
+}
