@@ -1,7 +1,9 @@
 pub mod BodyLemmas
 pub mod CheckLemmas
+pub mod Courses
 pub mod Inputs
 pub mod JobLemmas
 pub mod Lines
 pub mod MapLemmas
 pub mod PassLemmas
+pub mod StepCounts

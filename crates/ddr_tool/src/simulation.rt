@@ -1,14 +1,14 @@
 //! A run of a script over the core: its instructions, its rounds and its Ends.
 //!
 //! `script`, `reply`, `writing` and `ddr_world` stand below, and `sim` above.
-ghost use Rattle.std.specs.Prelude.{◌≡◌, ◌+◌, ◌-◌, ◌<◌, ◌≤◌, ◌^◌, ◌⊎◌, ◌↔◌, [], true, IfErr, IfOk, IfSome, IsTrue, OnOk, None, Ok, Some, is_some, length, map};
+ghost use Rattle.std.specs.Prelude.{◌≡◌, ◌==◌, ◌+◌, ◌-◌, ◌<◌, ◌≤◌, ◌^◌, ◌⊎◌, ◌↔◌, [], true, IfErr, IfOk, IfSome, IsTrue, OnOk, None, Ok, Some, is_some, length, map};
 ghost use Rattle.std.specs.Io.KnownBytes.{Appends};
 ghost use Rattle.ddr_ports.specs.Asked.{asked_of};
 ghost use Rattle.ddr_world.specs.Answer.{IsAnswered};
 ghost use Rattle.ddr_world.specs.Events.{event_of};
 ghost use Rattle.ddr_world.specs.History.{front_of};
 ghost use Rattle.ddr_world.specs.Kept.{state_of};
-ghost use Rattle.ddr_tool.specs.Rounds.{channel_served, channels_served, port_served, ports_served, round, rounds, until_refused};
+ghost use Rattle.ddr_tool.specs.Rounds.{channel_served, channels_served, outstanding, port_served, ports_served, round, rounds, until_refused};
 ghost use Rattle.ddr_tool.specs.Runs.{all_followed, begun, channel_text, channels_ended, drained, followed, ports_ended, submitted, whole};
 ghost use Rattle.ddr_tool.specs.Script.{view};
 ghost use Rattle.ddr_tool.specs.Simulated.{IsCycleFault, IsFrontPrinted, IsSameRun, Leads, added, is_popping, run_at};
@@ -176,10 +176,17 @@ impl Simulation {
         ensures leads { Leads (drained self.old.config self.old.left) self.old (W.contents writer.old) self.new (W.contents writer.new) result }
         ensures same { IsSameRun self.old self.new 0 }
     {
-        while self.waiting != 0 {
+        while !self.is_idle() {
             self.round(alloc, writer)?;
         }
         Ok(())
+    }
+
+    /// Whether nothing is outstanding.
+    fn is_idle(&self) -> bool
+        ensures { result ≡ (outstanding (state_of self.now.world) == 0) }
+    {
+        self.waiting == 0
     }
 
     /// Makes a round: each channel's part in order, then each port's. Fails as `ScriptLimit` where no further one may
@@ -312,7 +319,7 @@ impl Simulation {
 
     /// Makes an event, and counts what is outstanding.
     fn make(&mut self, event: Event<'_>) -> Result<Outcome, Refusal>
-        requires { self.old.waiting + added (event_of event) < 2 ^ 64 }
+        requires { added (event_of event) ≤ 2 ^ 64 - 1 - self.old.waiting }
         ensures answer { IsAnswered self.old.world self.new.world (event_of event.entry) result }
         ensures left { self.new.left ≡ self.old.left }
         ensures same { IsSameRun self.old self.new (added (event_of event.entry)) }
