@@ -1,5 +1,5 @@
 -- How the parts of a run follow one another.
-use Rattle.std.proofs.Common.{◌≡◌, ◌<◌, ◌≤◌, ◌-◌, ◌+◌, ℕ, zero, suc, Bool, true, false, cond, List, [], ◌∷◌, ◌++◌, Option, Some, None, Result, Ok, Err, IsTrue, is_ok, length, refl, sym, ap, ap₂, subst, ◌∙◌, arith}
+use Rattle.std.proofs.Common.{◌≡◌, ◌<◌, ◌≤◌, ◌-◌, ◌+◌, ℕ, zero, suc, Bool, true, false, cond, List, [], ◌∷◌, ◌++◌, Option, Some, None, Result, Ok, Err, IsTrue, is_ok, length, drop, map, get_or, IfErr, OnOk, ◌⊎◌, inl, inr, eq-eqb, refl, sym, ap, ap₂, subst, ◌∙◌, arith}
 use Rattle.std.specs.Io.KnownBytes.{Appends}
 use Rattle.std.specs.List.{slice_get}
 use Rattle.std.specs.Option.{option_map, option_and_then, option_map_or}
@@ -15,16 +15,21 @@ use Rattle.ddr_world.specs.declared.event.Refusal.TheVariants as refusal
 use Rattle.ddr_world.specs.Answer.{IsAnswered, IsRefused}
 use Rattle.ddr_world.specs.Events.{Event, Submit, Take, Cycle, Deliver, Collect, Release, End}
 use Rattle.ddr_world.specs.History.{front_of}
-use Rattle.ddr_world.specs.Kept.{Kept, state_of}
-use Rattle.ddr_world.specs.State.{State, PortSide}
-use Rattle.ddr_world.specs.Step.{IsRefusedFor, Made, Step, made, release_by, step}
+use Rattle.ddr_world.specs.Kept.{Kept, KeptSide, side_of, state_of}
+use Rattle.ddr_world.specs.State.{State, PortSide, ChannelSide}
+use Rattle.ddr_channel.specs.Kept as channel_kept
+use Rattle.ddr_trace.specs.Text.{trace_text}
+use Rattle.std.proofs.lemmas.Option.{slice_get-map}
+use Rattle.ddr_world.specs.Step.{IsRefusedFor, Made, Step, after_release, made, release_by, step, with_port}
 use Rattle.ddr_tool.specs.declared.fault.Fault.{Fault}
 use Rattle.ddr_tool.specs.declared.fault.Fault.TheVariants as faults
 use Rattle.ddr_tool.specs.Replies.{refused_text, reply_text}
-use Rattle.ddr_tool.specs.Rounds.{Run, Course, ◌then◌, after, channel_served, channels_served, items_of, made_state, outstanding, port_served, ports_served, replied, round, rounds, stopped, until_refused}
-use Rattle.ddr_tool.specs.Runs.{all_followed, drained, followed, submitted}
-use Rattle.ddr_tool.specs.Script.{Instruction}
-use Rattle.ddr_tool.specs.Simulated.{ComesTo, IsCycleFault, IsFrontPrinted, Leads, Prints, Simulated, is_popping, run_at}
+use Rattle.ddr_tool.specs.Rounds.{Run, Course, ◌then◌, after, channel_served, channels_served, items_of, made_state, outstanding, port_served, ports_served, replied, round, rounds, round_closed, stopped, until_refused}
+use Rattle.ddr_tool.specs.Runs.{after_submit, all_followed, channel_text, channels_ended, drained, ended, followed, ports_ended, submitted}
+use Rattle.ddr_tool.specs.Script.{view}
+use Rattle.ddr_tool.specs.declared.script.Instruction as kept
+use Rattle.std.proofs.lemmas.List.{at_drop_more, at_drop_all}
+use Rattle.ddr_tool.specs.Simulated.{ComesTo, IsCycleFault, IsFrontPrinted, IsSameRun, Leads, Prints, Simulated, is_popping, run_at}
 use Rattle.ddr_tool.proofs.StepCounts.{release_pops}
 
 -- what an event was answered
@@ -78,7 +83,9 @@ pub channel_more : (s now next : State) (c n : ℕ) → channels_served c s ≡ 
 channel_more s now next c n before is e = ap (λ k. channels_served k s) e ∙ ap (option_and_then (channel_served c)) before ∙ is
 
 none_later : (s : State) (c k : ℕ) → channels_served c s ≡ None → channels_served (k + c) s ≡ None
-none_later s c zero is = ap (λ n. channels_served n s) (omega arith) ∙ is
+none_later s c zero is =
+    let none : 0 + c ≡ c = omega arith in
+    ap (λ n. channels_served n s) none ∙ is
 none_later s c (suc k) is =
     let one : suc k + c ≡ suc (k + c) = omega arith in
     ap (λ n. channels_served n s) one ∙ ap (option_and_then (channel_served (k + c))) (none_later s c k is)
@@ -91,8 +98,10 @@ cycle_fault _ a b none is = absurd is
 pub channel_fault : (fault : Fault) (s now : State) (c n : ℕ) → channels_served c s ≡ Some now → c < n → IsCycleFault fault (channel_served c now) → IsCycleFault fault (channels_served n s)
 channel_fault fault s now c n before within is =
     cycle_fault fault (channel_served c now) (channels_served n s)
-    (λ none. let here : channels_served (suc c) s ≡ None = ap (option_and_then (channel_served c)) before ∙ none in
-      ap (λ k. channels_served k s) (omega (arith, within)) ∙ none_later s (suc c) (n - suc c) here) is
+    (λ none.
+      let here : channels_served (suc c) s ≡ None = ap (option_and_then (channel_served c)) before ∙ none in
+      let all : n ≡ (n - suc c) + suc c = omega (arith, within) in
+      ap (λ k. channels_served k s) all ∙ none_later s (suc c) (n - suc c) here) is
 
 -- printing
 
@@ -149,11 +158,15 @@ front_there : (s : State) (p : ℕ) (a : Answer) (o : Option PortSide) → optio
 front_there s p a None is = absurd (let impossible = is in cc)
 front_there s p a (Some port) is = (port, refl, is)
 
+release_made : (s : State) (p : ℕ) (a : Answer) (port : PortSide) → slice_get s.ports p ≡ Some port → nth_answer port.core.reorder 0 ≡ Some a → step s (Release p) ≡ made (with_port p (after_release port) s) (outcome.Released a.number)
+release_made s p a port there front =
+    ap (λ o. option_map_or (release_by s p) o (Err refusal.NoSuch)) there
+    ∙ ap (λ o. option_map_or (λ n. made (with_port p (after_release port) s) (outcome.Released n)) (option_map (λ (x : Answer). x.number) o) (Err refusal.Nothing)) front
+
 pub front_released : (s : State) (p : ℕ) (a : Answer) → front_of s p ≡ Some a → (m : Made) × (step s (Release p) ≡ Ok m)
 front_released s p a is =
     let found = front_there s p a (slice_get s.ports p) is in
-    let number : front_number found.0.core.reorder ≡ Some a.number = ap (option_map (λ (x : Answer). x.number)) found.2 in
-    (_, ap (λ o. option_map_or (release_by s p) o (Err refusal.NoSuch)) found.1 ∙ ap (λ o. option_map_or (λ n. made _ (outcome.Released n)) o (Err refusal.Nothing)) number)
+    (record { state = with_port p (after_release found.0) s; outcome = outcome.Released a.number }, release_made s p a found.0 found.1 found.2)
 
 released_by : (k next : Kept) (p : ℕ) (r : Result Outcome Refusal) (m : Made) → step (state_of k) (Release p) ≡ Ok m → IsAnswered k next (Release p) r → (o : Outcome) × (step (state_of k) (Release p) ≡ made (state_of next) o)
 released_by k next p (Ok o) m is a = (o, a.ok)
@@ -164,3 +177,214 @@ front_answered k next p r a front is = let m = front_released (state_of k) p a f
 
 pub front_fewer : (s next : State) (p : ℕ) (o : Outcome) → step s (Release p) ≡ made next o → items_of s (Release p) ≡ items_of next (Release p) + 1
 front_fewer s next p o is = subst (λ (r : Step). elim r as (λ _. Type 0) [ Ok m ↦ items_of s (Release p) ≡ items_of m.state (Release p) + 1 | Err cause ↦ Unit {0} ]) is (release_pops s p)
+
+-- the replies in front of a port
+
+abbrev pub replies_of : ℕ → Run → Course
+replies_of p run = Ok (replied (items_of run.state (Release p)) p run)
+
+none_replied : (n p : ℕ) (run : Run) → front_of run.state p ≡ None → replied n p run ≡ run
+none_replied zero p run is = refl
+none_replied (suc n) p run is = ap (λ o. option_map_or (λ a. replied n p (record run { state = after run.state (Release p); text = run.text ++ reply_text p a })) o run) is
+
+pub no_replies : (p : ℕ) (a : Simulated) (ca : Option (List ℕ)) (v : Unit {0}) → front_of (state_of a.world) p ≡ None → Leads (replies_of p) a ca a ca (Ok v)
+no_replies p a ca v is = leads_nowhere (replies_of p) a ca v (λ text. ap (λ (run : Run). Ok run) (none_replied (items_of (state_of a.world) (Release p)) p (run_at a text) is))
+
+after_made : (s next : State) (event : Event) (o : Outcome) → step s event ≡ made next o → after s event ≡ next
+after_made s next event o is = ap (λ (r : Step). elim r as (λ _. State) [ Ok m ↦ m.state | Err cause ↦ s ]) is
+
+one_replied : (p : ℕ) (a b : Simulated) (x : Answer) (o : Outcome) (text : List ℕ) → front_of (state_of a.world) p ≡ Some x → step (state_of a.world) (Release p) ≡ made (state_of b.world) o → b.left ≡ a.left
+    → replies_of p (run_at b (text ++ reply_text p x)) ≡ replies_of p (run_at a text)
+one_replied p a b x o text front is left =
+    let s = state_of a.world in
+    let n = items_of (state_of b.world) (Release p) in
+    let more : items_of s (Release p) ≡ suc n = omega (arith, front_fewer s (state_of b.world) p o is) in
+    let said = text ++ reply_text p x in
+    let here : run_at b said ≡ record { state = after s (Release p); text = said; left = a.left } =
+        ap₂ (λ (t : State) (l : ℕ). record { state = t; text = said; left = l }) (sym (after_made s (state_of b.world) (Release p) o is)) left in
+    ap (λ (run : Run). Ok (replied n p run)) here
+    ∙ sym (ap (λ k. Ok (replied k p (run_at a text))) more
+      ∙ ap (λ o. Ok (option_map_or (λ y. replied n p (record { state = after s (Release p); text = text ++ reply_text p y; left = a.left })) o (run_at a text))) front)
+
+-- one reply was printed and released
+pub reply_more : (p : ℕ) (f : Run → Course) (start a b : Simulated) (cs ca cb : Option (List ℕ)) (x : Answer) (o : Outcome) → front_of (state_of a.world) p ≡ Some x → step (state_of a.world) (Release p) ≡ made (state_of b.world) o → b.left ≡ a.left → b.silent ≡ a.silent
+    → Prints a.silent ca cb (reply_text p x) → Onward f start cs (replies_of p) a ca → Onward f start cs (replies_of p) b cb
+reply_more p f start a b cs ca cb x o front is left silent printed onward = λ d cd r q. onward d cd r (λ begin text before.
+    subst (ComesTo begin d cd r) (one_replied p a b x o text front is left)
+    (q begin (text ++ reply_text p x) (subst (λ k. Prints k begin cb (text ++ reply_text p x)) (sym silent) (printed_more a.silent begin ca cb text (reply_text p x) before printed))))
+
+front_printed : (p : ℕ) (o : Option Answer) (silent : Bool) (before now : Option (List ℕ)) → IsFrontPrinted p o silent before now true → (a : Answer) × (o ≡ Some a) × Prints silent before now (reply_text p a)
+front_printed p None silent before now is = absurd (let impossible = is.0 in cc)
+front_printed p (Some a) silent before now is = (a, refl, is.1)
+
+pub printed_there : (p : ℕ) (o : Option Answer) (silent there : Bool) (before now : Option (List ℕ)) → there ≡ true → IsFrontPrinted p o silent before now there → (a : Answer) × (o ≡ Some a) × Prints silent before now (reply_text p a)
+printed_there p o silent there before now e is = front_printed p o silent before now (subst (λ b. IsFrontPrinted p o silent before now b) e is)
+
+no_front : (p : ℕ) (o : Option Answer) (silent : Bool) (before now : Option (List ℕ)) → IsFrontPrinted p o silent before now false → (o ≡ None) × (now ≡ before)
+no_front p None silent before now is = (refl, is.1)
+no_front p (Some a) silent before now is = absurd (let impossible = is.0 in cc)
+
+pub printed_none : (p : ℕ) (o : Option Answer) (silent there : Bool) (before now : Option (List ℕ)) → there ≡ false → IsFrontPrinted p o silent before now there → (o ≡ None) × (now ≡ before)
+printed_none p o silent there before now e is = no_front p o silent before now (subst (λ b. IsFrontPrinted p o silent before now b) e is)
+
+-- a port's part of a round
+pub port_led : (p : ℕ) (a b d : Simulated) (ca cd : Option (List ℕ)) (r : Result (Unit {0}) Fault) → state_of b.world ≡ until_refused (Collect p) (state_of a.world) → b.left ≡ a.left → b.silent ≡ a.silent
+    → Leads (replies_of p) b ca d cd r → Leads (λ run. Ok (port_served p run)) a ca d cd r
+port_led p a b d ca cd r state left silent q = λ begin text printed.
+    subst (ComesTo begin d cd r) (ap₂ (λ (s : State) (l : ℕ). replies_of p (record { state = s; text = text; left = l })) state left)
+    (q begin text (subst (λ k. Prints k begin ca text) (sym silent) printed))
+
+-- the device or memory failed
+pub device_failed : (f : Run → Course) (a b : Simulated) (ca cb : Option (List ℕ)) (fault : Fault) → (fault ≡ faults.Write) ⊎ (fault ≡ faults.OutOfMemory) → Leads f a ca b cb (Err fault)
+device_failed f a b ca cb faults.Write is = λ begin text printed. tt
+device_failed f a b ca cb faults.OutOfMemory is = λ begin text printed. tt
+device_failed f a b ca cb _ is = absurd (elim is as (λ _. ⊥) [ inl e ↦ cc | inr e ↦ cc ])
+
+-- a round
+
+pub round_limited : (config : Config) (a : Simulated) (ca : Option (List ℕ)) → a.left ≡ 0 → Leads (round config) a ca a ca (Err faults.ScriptLimit)
+round_limited config a ca none = λ begin text printed.
+    (text, ap (λ (b : Bool). cond b (stopped faults.ScriptLimit (run_at a text)) (round_closed config (run_at a text) (channels_served config.geometry.channels (state_of a.world)))) (eq-eqb a.left 0 none), printed)
+
+round_made : (config : Config) (a : Simulated) (text : List ℕ) (o : Option State) → (a.left == 0) ≡ false → channels_served config.geometry.channels (state_of a.world) ≡ o → round config (run_at a text) ≡ round_closed config (run_at a text) o
+round_made config a text o some is =
+    ap (λ (b : Bool). cond b (stopped faults.ScriptLimit (run_at a text)) (round_closed config (run_at a text) (channels_served config.geometry.channels (state_of a.world)))) some
+    ∙ ap (round_closed config (run_at a text)) is
+
+pub round_stopped : (config : Config) (a b : Simulated) (ca : Option (List ℕ)) (fault : Fault) → (a.left == 0) ≡ false → b.silent ≡ a.silent → IsCycleFault fault (channels_served config.geometry.channels (state_of a.world)) → Leads (round config) a ca b ca (Err fault)
+round_stopped config a b ca faults.ClockSpent some silent is = λ begin text printed. (text, round_made config a text None some is, subst (λ k. Prints k begin ca text) (sym silent) printed)
+round_stopped config a b ca faults.OutOfMemory some silent is = λ begin text printed. tt
+round_stopped config a b ca _ some silent is = absurd is
+
+pub round_led : (config : Config) (a b d : Simulated) (ca cd : Option (List ℕ)) (r : Result (Unit {0}) Fault) → (a.left == 0) ≡ false → channels_served config.geometry.channels (state_of a.world) ≡ Some (state_of b.world) → b.left ≡ a.left - 1 → b.silent ≡ a.silent
+    → Leads (λ run. Ok (ports_served config.limits.ports run)) b ca d cd r → Leads (round config) a ca d cd r
+round_led config a b d ca cd r some served left silent q = λ begin text printed.
+    subst (ComesTo begin d cd r)
+    (ap (λ (l : ℕ). Ok (ports_served config.limits.ports (record { state = state_of b.world; text = text; left = l }))) left ∙ sym (round_made config a text (Some (state_of b.world)) some served))
+    (q begin text (subst (λ k. Prints k begin ca text) (sym silent) printed))
+
+-- one turn of a loop, its stop and its end
+
+pub onward_turn : (f : Run → Course) (s : Simulated) (cs : Option (List ℕ)) (g part h : Run → Course) (a b : Simulated) (ca cb : Option (List ℕ)) (v : Unit {0}) → ((text : List ℕ) → g (run_at a text) ≡ (part (run_at a text) then h)) → Leads part a ca b cb (Ok v)
+    → Onward f s cs g a ca → Onward f s cs h b cb
+onward_turn f s cs g part h a b ca cb v turn p onward = λ d cd r q.
+    onward d cd r (leads_same g (λ run. part run then h) a d ca cd r turn (leads_then part h a b d ca cb cd v r p q))
+
+pub onward_stop : (f : Run → Course) (s : Simulated) (cs : Option (List ℕ)) (g part h : Run → Course) (a b : Simulated) (ca cb : Option (List ℕ)) (fault : Fault) → ((text : List ℕ) → g (run_at a text) ≡ (part (run_at a text) then h)) → Leads part a ca b cb (Err fault)
+    → Onward f s cs g a ca → Leads f s cs b cb (Err fault)
+onward_stop f s cs g part h a b ca cb fault turn p onward =
+    onward b cb (Err fault) (leads_same g (λ run. part run then h) a b ca cb (Err fault) turn (leads_stop part h a b ca cb fault p))
+
+pub onward_end : (f : Run → Course) (s : Simulated) (cs : Option (List ℕ)) (g : Run → Course) (a : Simulated) (ca : Option (List ℕ)) (v : Unit {0}) → ((text : List ℕ) → g (run_at a text) ≡ Ok (run_at a text)) → Onward f s cs g a ca → Leads f s cs a ca (Ok v)
+onward_end f s cs g a ca v same onward = onward a ca (Ok v) (leads_nowhere g a ca v same)
+
+-- rounds while something is outstanding
+
+pub drained_turn : (config : Config) (n : ℕ) (s : State) (text : List ℕ) → (outstanding s == 0) ≡ false → drained config n (record { state = s; text = text; left = n }) ≡ (round config (record { state = s; text = text; left = n }) then drained config (n - 1))
+drained_turn config zero s text busy = ap (λ (b : Bool). cond b (Ok (record { state = s; text = text; left = 0 })) (stopped faults.ScriptLimit (record { state = s; text = text; left = 0 }))) busy
+drained_turn config (suc n) s text busy =
+    let run : Run = record { state = s; text = text; left = suc n } in
+    let rest : n ≡ suc n - 1 = omega arith in
+    ap (λ (b : Bool). cond b (Ok run) (round config run then drained config n)) busy ∙ ap (λ m. round config run then drained config m) rest
+
+pub drained_end : (config : Config) (n : ℕ) (run : Run) → (outstanding run.state == 0) ≡ true → drained config n run ≡ Ok run
+drained_end config zero run idle = ap (λ (b : Bool). cond b (Ok run) (stopped faults.ScriptLimit run)) idle
+drained_end config (suc n) run idle = ap (λ (b : Bool). cond b (Ok run) (round config run then drained config n)) idle
+
+-- the Ends
+
+pub port_ended : (k pushed next : Kept) (s : State) (c p n : ℕ) (r q : Result Outcome Refusal) → IsAnswered k pushed (End p c) r → IsAnswered pushed next (Take c) q → state_of k ≡ ports_ended c p s → n ≡ suc p → state_of next ≡ ports_ended c n s
+port_ended k pushed next s c p n r q end take is e =
+    after_take_answer pushed next c q take ∙ ap (λ x. after x (Take c)) (after_end_answer k pushed p c r end ∙ ap (λ x. after x (End p c)) is) ∙ ap (λ m. ports_ended c m s) (sym e)
+
+pub channel_ended : (k next : Kept) (s : State) (ports c n : ℕ) → state_of next ≡ ports_ended c ports (state_of k) → state_of k ≡ channels_ended ports c s → n ≡ suc c → state_of next ≡ channels_ended ports n s
+channel_ended k next s ports c n end is e = end ∙ ap (ports_ended c ports) is ∙ ap (λ m. channels_ended ports m s) (sym e)
+
+-- a request that is refused
+
+refused_run : (p : ℕ) (asked : Asked) (a b : Simulated) (cause : Refusal) (text : List ℕ) → step (state_of a.world) (Submit p asked) ≡ Err cause → state_of b.world ≡ state_of a.world → b.left ≡ a.left
+    → ◌≡◌ {A = Course} (Ok (submitted p asked (run_at a text))) (Ok (run_at b (text ++ refused_text p cause)))
+refused_run p asked a b cause text is state left =
+    ap (λ (r : Step). Ok (after_submit p (run_at a text) r)) is
+    ∙ ap₂ (λ (s : State) (l : ℕ). Ok (record { state = s; text = text ++ refused_text p cause; left = l })) (sym state) (sym left)
+
+pub refused_silently : (p : ℕ) (asked : Asked) (a b : Simulated) (ca : Option (List ℕ)) (cause : Refusal) (v : Unit {0}) → step (state_of a.world) (Submit p asked) ≡ Err cause → state_of b.world ≡ state_of a.world → b.left ≡ a.left → b.silent ≡ a.silent → b.silent ≡ true
+    → Leads (λ run. Ok (submitted p asked run)) a ca b ca (Ok v)
+refused_silently p asked a b ca cause v is state left silent none = λ begin text printed. (
+      text ++ refused_text p cause,
+      refused_run p asked a b cause text is state left,
+      subst (λ k. Prints k begin ca (text ++ refused_text p cause)) (sym none) (subst (λ k. Prints k begin ca text) (sym silent ∙ none) printed),
+    )
+
+pub refused_aloud : (p : ℕ) (asked : Asked) (a b : Simulated) (ca cb : Option (List ℕ)) (cause : Refusal) (said : List ℕ) (r : Result (Unit {0}) Fault) → step (state_of a.world) (Submit p asked) ≡ Err cause → state_of b.world ≡ state_of a.world → b.left ≡ a.left → b.silent ≡ a.silent → b.silent ≡ false
+    → said ≡ refused_text p cause → OnOk r (Appends ca cb said) → IfErr r (λ fault. fault ≡ faults.Write) → Leads (λ run. Ok (submitted p asked run)) a ca b cb r
+refused_aloud p asked a b ca cb cause said (Ok v) is state left silent aloud same wrote failed = λ begin text printed. (
+      text ++ refused_text p cause,
+      refused_run p asked a b cause text is state left,
+      subst (λ k. Prints k begin cb (text ++ refused_text p cause)) (sym aloud)
+      (Appends-trans begin ca cb text (refused_text p cause) (subst (λ k. Prints k begin ca text) (sym silent ∙ aloud) printed) (subst (Appends ca cb) same wrote)),
+    )
+refused_aloud p asked a b ca cb cause said (Err fault) is state left silent aloud same wrote failed = device_failed (λ run. Ok (submitted p asked run)) a b ca cb fault (inl failed)
+
+-- a run that goes on
+
+pub same_on : (a b c : Simulated) (n m : ℕ) → IsSameRun a b n → IsSameRun b c m → IsSameRun a c (n + m)
+same_on a b c n m p q = record { config = q.config ∙ p.config; silent = q.silent ∙ p.silent; waiting = omega (arith, p.waiting, q.waiting) }
+
+-- one port more
+pub port_more : (i n : ℕ) (a b d : Simulated) (ca cb cd : Option (List ℕ)) (v : Unit {0}) (r : Result (Unit {0}) Fault) → n ≡ suc i → Leads (λ run. Ok (ports_served i run)) a ca b cb (Ok v) → Leads (λ run. Ok (port_served i run)) b cb d cd r
+    → Leads (λ run. Ok (ports_served n run)) a ca d cd r
+port_more i n a b d ca cb cd v r e p q =
+    leads_same (λ run. Ok (ports_served n run)) (λ run. Ok (ports_served i run) then λ x. Ok (port_served i x)) a d ca cd r (λ text. ap (λ m. Ok (ports_served m (run_at a text))) e)
+    (leads_then (λ run. Ok (ports_served i run)) (λ x. Ok (port_served i x)) a b d ca cb cd v r p q)
+
+pub drain_turn : (config : Config) (n m : ℕ) (a : Simulated) (text : List ℕ) → a.left ≡ n → n ≡ m + 1 → (outstanding (state_of a.world) == 0) ≡ false → drained config a.left (run_at a text) ≡ (round config (run_at a text) then drained config m)
+drain_turn config n m a text left e busy =
+    let rest : a.left - 1 ≡ m = omega (arith, left, e) in
+    drained_turn config a.left (state_of a.world) text busy ∙ ap (λ k. round config (run_at a text) then drained config k) rest
+
+pub rounds_turn : (config : Config) (n m : ℕ) (run : Run) → n ≡ m + 1 → rounds config n run ≡ (round config run then rounds config m)
+rounds_turn config n m run e =
+    let one : n ≡ suc m = omega (arith, e) in
+    ap (λ k. rounds config k run) one
+
+pub rounds_end : (config : Config) (n : ℕ) (run : Run) → n ≡ 0 → rounds config n run ≡ Ok run
+rounds_end config n run e = ap (λ k. rounds config k run) e
+
+pub followed_turn : (config : Config) (xs : List kept.Instruction) (i : ℕ) (x : kept.Instruction) (run : Run) → i < length xs → x ≡ get_or xs i x
+    → all_followed config (map view (drop i xs)) run ≡ (followed config (view x) run then all_followed config (map view (drop (i + 1) xs)))
+followed_turn config xs i x run within is =
+    at_drop_more (λ ys. all_followed config (map view ys) run) xs i x within
+    ∙ ap (λ y. followed config (view y) run then all_followed config (map view (drop (i + 1) xs))) (sym is)
+
+pub followed_end : (config : Config) (xs : List kept.Instruction) (i : ℕ) (run : Run) → length xs ≤ i → all_followed config (map view (drop i xs)) run ≡ Ok run
+followed_end config xs i run out = at_drop_all (λ ys. all_followed config (map view ys) run) xs i out
+
+-- the Ends at the end of a run
+pub ended_led : (config : Config) (a b : Simulated) (ca : Option (List ℕ)) (v : Unit {0}) → state_of b.world ≡ channels_ended config.limits.ports config.geometry.channels (state_of a.world) → b.left ≡ a.left → b.silent ≡ a.silent → Leads (λ run. Ok (ended config run)) a ca b ca (Ok v)
+ended_led config a b ca v state left silent = λ begin text printed. (
+      text,
+      ap₂ (λ (s : State) (l : ℕ). Ok (record { state = s; text = text; left = l })) (sym state) (sym left),
+      subst (λ k. Prints k begin ca text) (sym silent) printed,
+    )
+
+-- the trace of a channel
+
+channel_is : (c : ℕ) (k : channel_kept.Kept) (o : Option KeptSide) → Some k ≡ option_map (λ (side : KeptSide). side.channel) o
+    → option_map_or (λ (side : ChannelSide). trace_text side.channel.trace side.channel.now) (option_map side_of o) [] ≡ trace_text k.trace k.now
+channel_is c k None is = absurd (let impossible = is in cc)
+channel_is c k (Some side) is =
+    let same : k ≡ side.channel = cc in
+    ap (λ (x : channel_kept.Kept). trace_text x.trace x.now) (sym same)
+
+pub channel_there : (w : Kept) (c : ℕ) (k : channel_kept.Kept) → Some k ≡ option_map (λ (side : KeptSide). side.channel) (slice_get w.channels c) → channel_text (state_of w) c ≡ trace_text k.trace k.now
+channel_there w c k is =
+    ap (λ o. option_map_or (λ (side : ChannelSide). trace_text side.channel.trace side.channel.now) o []) (slice_get-map side_of w.channels c) ∙ channel_is c k (slice_get w.channels c) is
+
+no_channel : (c : ℕ) (o : Option KeptSide) → None ≡ option_map (λ (side : KeptSide). side.channel) o → ◌≡◌ {A = List ℕ} (option_map_or (λ (side : ChannelSide). trace_text side.channel.trace side.channel.now) (option_map side_of o) []) []
+no_channel c None is = refl
+no_channel c (Some side) is = absurd (let impossible = is in cc)
+
+pub channel_absent : (w : Kept) (c : ℕ) → None ≡ option_map (λ (side : KeptSide). side.channel) (slice_get w.channels c) → channel_text (state_of w) c ≡ []
+channel_absent w c is =
+    ap (λ o. option_map_or (λ (side : ChannelSide). trace_text side.channel.trace side.channel.now) o []) (slice_get-map side_of w.channels c) ∙ no_channel c (slice_get w.channels c) is

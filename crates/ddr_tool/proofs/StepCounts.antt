@@ -1,6 +1,7 @@
 -- What an event makes of the numbers that are outstanding, and of the list that it pops.
 use Rattle.std.proofs.Common.{◌≡◌, ◌<◌, ◌≤◌, ◌-◌, ◌+◌, ℕ, zero, suc, Bool, true, false, cond, List, [], ◌∷◌, ◌++◌, Option, Some, None, Result, Ok, Err, IsTrue, length, map, drop, get_or, refl, sym, ap, subst, ◌∙◌, arith}
-use Rattle.std.specs.List.{slice_get, slice_set, sum_by, take_while}
+use Rattle.std.specs.List.{range_with_len, slice_get, slice_set, sum_by, take_while}
+use Rattle.ddr_timing.specs.declared.config.Config.{Config}
 use Rattle.std.specs.Option.{option_map, option_and_then, option_map_or}
 use Rattle.std.specs.Prelude.{◌==◌, ◌||◌, not, unwrap_or}
 use Rattle.std.proofs.lemmas.List.{length-drop, length-map, length_push}
@@ -22,7 +23,7 @@ use Rattle.ddr_world.specs.declared.item.Item.{Item}
 use Rattle.ddr_world.specs.declared.item.Item.TheVariants as item
 use Rattle.ddr_world.specs.Events.{Event, Submit, Take, Cycle, Deliver, Collect, Release, End}
 use Rattle.ddr_world.specs.Refusals.{refusal_from}
-use Rattle.ddr_world.specs.State.{PortSide, ChannelSide, State, is_busy, is_completion_queue_full}
+use Rattle.ddr_world.specs.State.{PortSide, ChannelSide, State, is_busy, is_completion_queue_full, opened_port}
 use Rattle.ddr_world.specs.Step.{Made, Step, made, with_port, with_channel, at_port, at_channel, change_channel, queued, after_submit, push_on, push_request, submit_by, submit, taken, take, cycled, cycle, sent, after_deliver, deliver_to, push_completion, deliver_by, deliver, after_collect, collect_by, collect, after_release, release_by, release, after_take, after_end, end_at, end, step}
 use Rattle.ddr_tool.specs.Rounds.{items_of, made_state, outstanding, repeated}
 use Rattle.ddr_tool.specs.Simulated.{added, is_popping}
@@ -224,3 +225,8 @@ repeated_more s next event o popping is =
 pub repeated_end : (n : ℕ) (s : State) (event : Event) (cause : Refusal) → step s event ≡ Err cause → repeated n event s ≡ s
 repeated_end zero s event cause is = refl
 repeated_end (suc n) s event cause is = ap (λ r. option_map_or (repeated n event) (made_state r) s) is
+
+-- nothing is outstanding before the first event
+pub none_opened : (config : Config) (first a n : ℕ) → sum_by numbers (map (opened_port config first) (range_with_len a n)) ≡ 0
+none_opened config first a zero = refl
+none_opened config first a (suc n) = omega (arith, none_opened config first (a + 1) n)

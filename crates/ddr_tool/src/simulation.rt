@@ -176,7 +176,7 @@ impl Simulation {
         ensures leads { Leads (drained self.old.config self.old.left) self.old (W.contents writer.old) self.new (W.contents writer.new) result }
         ensures same { IsSameRun self.old self.new 0 }
     {
-        while !self.is_idle() {
+        'rounds: while !self.is_idle() {
             self.round(alloc, writer)?;
         }
         Ok(())
@@ -258,7 +258,7 @@ impl Simulation {
         ensures left { self.new.left ≡ self.old.left }
     {
         self.repeat(Event::Collect(port));
-        while self.print_front(alloc, port, writer)? {
+        'replies: while self.print_front(alloc, port, writer)? {
             let _ = self.make(Event::Release(port));
         }
         Ok(())
@@ -314,7 +314,7 @@ impl Simulation {
         ensures left { self.new.left ≡ self.old.left }
         ensures same { IsSameRun self.old self.new 0 }
     {
-        while self.make(event).is_ok() {}
+        'items: while self.make(event).is_ok() {}
     }
 
     /// Makes an event, and counts what is outstanding.

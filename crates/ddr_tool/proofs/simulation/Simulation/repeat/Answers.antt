@@ -10,19 +10,19 @@ use Rattle.ddr_tool.proofs.simulation.Simulation.repeat.Goals as goal
 pub make-requires : goal.make-requires
 make-requires c = omega (arith, none_added (event_of c.args.event) c.requires)
 
-pub loop-smaller : goal.loop-smaller
-loop-smaller c =
+pub items-smaller : goal.items-smaller
+items-smaller c =
     let event = event_of c.args.event in
-    let ok = answered_ok c.loop.self.world c.make.new.self.world event c.make.result c.make.ensures.answer (sym c.is_ok.ensures.value ∙ c.loop-test.true) in
-    omega (arith, made_pops (state_of c.loop.self.world) (state_of c.make.new.self.world) event ok.0 c.requires ok.1)
+    let ok = answered_ok c.items.self.world c.make.new.self.world event c.make.result c.make.ensures.answer (sym c.is_ok.ensures.value ∙ c.items-test.true) in
+    omega (arith, made_pops (state_of c.items.self.world) (state_of c.make.new.self.world) event ok.0 c.requires ok.1)
 
-pub loop-preserved : goal.loop-preserved
-loop-preserved c =
-    let kept = c.loop.invariant in
+pub items-preserved : goal.items-preserved
+items-preserved c =
+    let kept = c.items.invariant in
     let event = event_of c.args.event in
-    let ok = answered_ok c.loop.self.world c.make.new.self.world event c.make.result c.make.ensures.answer (sym c.is_ok.ensures.value ∙ c.loop-test.true) in
+    let ok = answered_ok c.items.self.world c.make.new.self.world event c.make.result c.make.ensures.answer (sym c.is_ok.ensures.value ∙ c.items-test.true) in
     record {
-      state = repeated_more (state_of c.loop.self.world) (state_of c.make.new.self.world) event ok.0 c.requires ok.1 ∙ kept.state;
+      state = repeated_more (state_of c.items.self.world) (state_of c.make.new.self.world) event ok.0 c.requires ok.1 ∙ kept.state;
       left = c.make.ensures.left ∙ kept.left;
       same = record {
         config = c.make.ensures.same.config ∙ kept.same.config;
@@ -34,5 +34,5 @@ loop-preserved c =
 pub returns-clause-state : goal.returns-clause-state
 returns-clause-state c =
     let event = event_of c.args.event in
-    let err = answered_err c.loop.self.world c.make.new.self.world event c.make.result c.requires c.make.ensures.answer (sym c.is_ok.ensures.value ∙ c.loop-test.false) in
-    err.2 ∙ sym (repeated_end (items_of (state_of c.loop.self.world) event) (state_of c.loop.self.world) event err.0 err.1) ∙ c.loop.invariant.state
+    let err = answered_err c.items.self.world c.make.new.self.world event c.make.result c.requires c.make.ensures.answer (sym c.is_ok.ensures.value ∙ c.items-test.false) in
+    err.2 ∙ sym (repeated_end (items_of (state_of c.items.self.world) event) (state_of c.items.self.world) event err.0 err.1) ∙ c.items.invariant.state

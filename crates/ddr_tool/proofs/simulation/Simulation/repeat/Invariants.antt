@@ -5,12 +5,12 @@ use Rattle.ddr_tool.specs.Rounds.{items_of, repeated, until_refused}
 use Rattle.ddr_tool.specs.Simulated.{IsSameRun}
 use Rattle.ddr_tool.proofs.simulation.Simulation.repeat.Given as goal
 
-abbrev pub invariant-loop : goal.invariant-loop
-invariant-loop l = record {
+abbrev pub invariant-items : goal.invariant-items
+invariant-items l = record {
   state : repeated (items_of (state_of l.self.world) (event_of l.event)) (event_of l.event) (state_of l.self.world) ≡ until_refused (event_of l.event) (state_of l.fn.self.world);
   left : l.self.left ≡ l.fn.self.left;
   same : IsSameRun l.fn.self l.self 0;
 }
 
-abbrev pub decreases-loop : goal.decreases-loop
-decreases-loop l = items_of (state_of l.self.world) (event_of l.event)
+abbrev pub decreases-items : goal.decreases-items
+decreases-items l = items_of (state_of l.self.world) (event_of l.event)
