@@ -6,4 +6,5 @@ pub mod JobLemmas
 pub mod Lines
 pub mod MapLemmas
 pub mod PassLemmas
+pub mod RunLemmas
 pub mod StepCounts

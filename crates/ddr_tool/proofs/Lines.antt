@@ -43,15 +43,14 @@ pub script_more : (ports : ℕ) (texts : List (List ℕ)) (count n : ℕ) (old n
 script_more ports texts count n old new text all at turn ok so_far = sym (at_line ports texts count n old text (Ok new) at turn ok) ∙ so_far
 
 -- a line that is at fault
-pub script_fault : (ports : ℕ) (texts : List (List ℕ)) (count n : ℕ) (old next : Script) (text : List ℕ) (all : Result Script Fault) (fault : Fault) → count ≡ n → (n < length texts) × (text ≡ get_or texts n text) → IsRead next (Err fault) (with_line ports (count + 1) old text)
-    → script_from ports count old (drop count texts) ≡ all → AreRead (λ (v : List Instruction). v) (Err fault) (all >>> λ script. Ok script.instructions)
-script_fault ports texts count n old next text all fault at turn is so_far = told fault (with_line ports (count + 1) old text) refl is
-  where
-    whole : (f : Fault) → with_line ports (count + 1) old text ≡ Err f → (all >>> λ script. Ok script.instructions) ≡ Err f
-    whole f e = ap (λ r. r >>> λ (script : Script). Ok script.instructions) (sym so_far ∙ at_line ports texts count n old text (Err f) at turn e)
-    told : (f : Fault) (said : Result Script Fault) → with_line ports (count + 1) old text ≡ said → IsRead next (Err f) said → AreRead (λ (v : List Instruction). v) (Err f) (all >>> λ script. Ok script.instructions)
-    told faults.OutOfMemory said e q = tt
-    told f said e q = whole f (e ∙ q)
+pub script_fault : {X : Type 0} (view : X → List Instruction) (ports : ℕ) (texts : List (List ℕ)) (count n : ℕ) (old next : Script) (text : List ℕ) (all : Result Script Fault) (fault : Fault) → count ≡ n → (n < length texts) × (text ≡ get_or texts n text)
+    → IsRead next (Err fault) (with_line ports (count + 1) old text) → script_from ports count old (drop count texts) ≡ all → AreRead view (Err fault) (all >>> λ script. Ok script.instructions)
+script_fault view ports texts count n old next text all faults.OutOfMemory at turn is so_far = tt
+script_fault view ports texts count n old next text all faults.ScriptLimit at turn is so_far =
+    ap (λ r. r >>> λ (script : Script). Ok script.instructions) (sym so_far ∙ at_line ports texts count n old text (Err faults.ScriptLimit) at turn is)
+script_fault view ports texts count n old next text all (faults.ScriptLine line) at turn is so_far =
+    ap (λ r. r >>> λ (script : Script). Ok script.instructions) (sym so_far ∙ at_line ports texts count n old text (Err (faults.ScriptLine line)) at turn is)
+script_fault view ports texts count n old next text all _ at turn is so_far = absurd is
 
 -- after the last line
 pub script_end : (ports : ℕ) (texts : List (List ℕ)) (count : ℕ) (script : Script) (all : Result Script Fault) → length texts ≤ count → script_from ports count script (drop count texts) ≡ all → all ≡ Ok script

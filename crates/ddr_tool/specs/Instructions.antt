@@ -63,10 +63,14 @@ instructions_of ports text = script_from ports 0 nothing_read (lines text) >>> �
 abbrev pub AreRead : {X Y : Type 0} → (X → Y) → Result X Fault → Result Y Fault → Type 0
 AreRead view (Ok x) said = said ≡ Ok (view x)
 AreRead view (Err OutOfMemory) said = Unit {0}
-AreRead view (Err fault) said = said ≡ Err fault
+AreRead view (Err ScriptLimit) said = said ≡ Err ScriptLimit
+AreRead view (Err (ScriptLine line)) said = said ≡ Err (ScriptLine line)
+AreRead view (Err _) said = ⊥
 
 -- the script was read on as said, unless memory ran out
 abbrev pub IsRead : Script → Result (Unit {0}) Fault → Result Script Fault → Type 0
 IsRead next (Ok _) said = said ≡ Ok next
 IsRead next (Err OutOfMemory) said = Unit {0}
-IsRead next (Err fault) said = said ≡ Err fault
+IsRead next (Err ScriptLimit) said = said ≡ Err ScriptLimit
+IsRead next (Err (ScriptLine line)) said = said ≡ Err (ScriptLine line)
+IsRead next (Err _) said = ⊥

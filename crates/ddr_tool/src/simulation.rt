@@ -84,7 +84,7 @@ impl Simulation {
     ) -> Result<(), Fault>
         requires { self.old.waiting ≡ 0 }
         ensures leads { Leads (whole self.old.config (map view instructions.now)) self.old (W.contents writer.old) self.new (W.contents writer.new) result }
-        ensures same { OnOk result (self.new.silent ≡ self.old.silent) }
+        ensures silent { self.new.silent ≡ self.old.silent }
     {
         self.follow_all(alloc, instructions, writer)?;
         self.drain(alloc, writer)?;
