@@ -1,12 +1,12 @@
 -- How the parts of a run follow one another.
-use Rattle.std.proofs.Common.{◌≡◌, ◌<◌, ◌≤◌, ◌-◌, ◌+◌, ℕ, zero, suc, Bool, true, false, cond, List, [], ◌∷◌, ◌++◌, Option, Some, None, Result, Ok, Err, IsTrue, is_ok, length, drop, map, get_or, IfErr, OnOk, ◌⊎◌, inl, inr, eq-eqb, refl, sym, ap, ap₂, subst, ◌∙◌, arith}
+use Rattle.std.proofs.Common.{◌≡◌, ◌<◌, ◌≤◌, ◌-◌, ◌+◌, ℕ, zero, suc, Bool, true, false, cond, List, [], ◌++◌, Option, Some, None, Result, Ok, Err, IsTrue, is_ok, length, drop, map, get_or, IfErr, OnOk, ◌⊎◌, inl, inr, eq-eqb, refl, sym, ap, ap₂, subst, ◌∙◌, arith}
 use Rattle.std.specs.Io.KnownBytes.{Appends}
 use Rattle.std.specs.List.{slice_get}
 use Rattle.std.specs.Option.{option_map, option_and_then, option_map_or}
 use Rattle.std.specs.Prelude.{◌==◌}
 use Rattle.std.proofs.KnownBytes.{Appends-trans}
 use Rattle.ddr_ports.specs.Asked.{Asked}
-use Rattle.ddr_reorder.specs.Replies.{Answer, answer_of, front_number, nth_answer}
+use Rattle.ddr_reorder.specs.Replies.{Answer, nth_answer}
 use Rattle.ddr_timing.specs.declared.config.Config.{Config}
 use Rattle.ddr_world.specs.declared.event.Outcome.{Outcome}
 use Rattle.ddr_world.specs.declared.event.Outcome.TheVariants as outcome
@@ -99,9 +99,9 @@ pub channel_fault : (fault : Fault) (s now : State) (c n : ℕ) → channels_ser
 channel_fault fault s now c n before within is =
     cycle_fault fault (channel_served c now) (channels_served n s)
     (λ none.
-      let here : channels_served (suc c) s ≡ None = ap (option_and_then (channel_served c)) before ∙ none in
-      let all : n ≡ (n - suc c) + suc c = omega (arith, within) in
-      ap (λ k. channels_served k s) all ∙ none_later s (suc c) (n - suc c) here) is
+    let here : channels_served (suc c) s ≡ None = ap (option_and_then (channel_served c)) before ∙ none in
+    let all : n ≡ (n - suc c) + suc c = omega (arith, within) in
+    ap (λ k. channels_served k s) all ∙ none_later s (suc c) (n - suc c) here) is
 
 -- printing
 
@@ -201,10 +201,10 @@ one_replied p a b x o text front is left =
     let more : items_of s (Release p) ≡ suc n = omega (arith, front_fewer s (state_of b.world) p o is) in
     let said = text ++ reply_text p x in
     let here : run_at b said ≡ record { state = after s (Release p); text = said; left = a.left } =
-        ap₂ (λ (t : State) (l : ℕ). record { state = t; text = said; left = l }) (sym (after_made s (state_of b.world) (Release p) o is)) left in
+    ap₂ (λ (t : State) (l : ℕ). record { state = t; text = said; left = l }) (sym (after_made s (state_of b.world) (Release p) o is)) left in
     ap (λ (run : Run). Ok (replied n p run)) here
     ∙ sym (ap (λ k. Ok (replied k p (run_at a text))) more
-      ∙ ap (λ o. Ok (option_map_or (λ y. replied n p (record { state = after s (Release p); text = text ++ reply_text p y; left = a.left })) o (run_at a text))) front)
+    ∙ ap (λ o. Ok (option_map_or (λ y. replied n p (record { state = after s (Release p); text = text ++ reply_text p y; left = a.left })) o (run_at a text))) front)
 
 -- one reply was printed and released
 pub reply_more : (p : ℕ) (f : Run → Course) (start a b : Simulated) (cs ca cb : Option (List ℕ)) (x : Answer) (o : Outcome) → front_of (state_of a.world) p ≡ Some x → step (state_of a.world) (Release p) ≡ made (state_of b.world) o → b.left ≡ a.left → b.silent ≡ a.silent
@@ -311,19 +311,19 @@ refused_run p asked a b cause text is state left =
 pub refused_silently : (p : ℕ) (asked : Asked) (a b : Simulated) (ca : Option (List ℕ)) (cause : Refusal) (v : Unit {0}) → step (state_of a.world) (Submit p asked) ≡ Err cause → state_of b.world ≡ state_of a.world → b.left ≡ a.left → b.silent ≡ a.silent → b.silent ≡ true
     → Leads (λ run. Ok (submitted p asked run)) a ca b ca (Ok v)
 refused_silently p asked a b ca cause v is state left silent none = λ begin text printed. (
-      text ++ refused_text p cause,
-      refused_run p asked a b cause text is state left,
-      subst (λ k. Prints k begin ca (text ++ refused_text p cause)) (sym none) (subst (λ k. Prints k begin ca text) (sym silent ∙ none) printed),
-    )
+  text ++ refused_text p cause,
+  refused_run p asked a b cause text is state left,
+  subst (λ k. Prints k begin ca (text ++ refused_text p cause)) (sym none) (subst (λ k. Prints k begin ca text) (sym silent ∙ none) printed),
+)
 
 pub refused_aloud : (p : ℕ) (asked : Asked) (a b : Simulated) (ca cb : Option (List ℕ)) (cause : Refusal) (said : List ℕ) (r : Result (Unit {0}) Fault) → step (state_of a.world) (Submit p asked) ≡ Err cause → state_of b.world ≡ state_of a.world → b.left ≡ a.left → b.silent ≡ a.silent → b.silent ≡ false
     → said ≡ refused_text p cause → OnOk r (Appends ca cb said) → IfErr r (λ fault. fault ≡ faults.Write) → Leads (λ run. Ok (submitted p asked run)) a ca b cb r
 refused_aloud p asked a b ca cb cause said (Ok v) is state left silent aloud same wrote failed = λ begin text printed. (
-      text ++ refused_text p cause,
-      refused_run p asked a b cause text is state left,
-      subst (λ k. Prints k begin cb (text ++ refused_text p cause)) (sym aloud)
+  text ++ refused_text p cause,
+  refused_run p asked a b cause text is state left,
+  subst (λ k. Prints k begin cb (text ++ refused_text p cause)) (sym aloud)
       (Appends-trans begin ca cb text (refused_text p cause) (subst (λ k. Prints k begin ca text) (sym silent ∙ aloud) printed) (subst (Appends ca cb) same wrote)),
-    )
+)
 refused_aloud p asked a b ca cb cause said (Err fault) is state left silent aloud same wrote failed = device_failed (λ run. Ok (submitted p asked run)) a b ca cb fault (inl failed)
 
 -- a run that goes on
@@ -363,10 +363,10 @@ followed_end config xs i run out = at_drop_all (λ ys. all_followed config (map 
 -- the Ends at the end of a run
 pub ended_led : (config : Config) (a b : Simulated) (ca : Option (List ℕ)) (v : Unit {0}) → state_of b.world ≡ channels_ended config.limits.ports config.geometry.channels (state_of a.world) → b.left ≡ a.left → b.silent ≡ a.silent → Leads (λ run. Ok (ended config run)) a ca b ca (Ok v)
 ended_led config a b ca v state left silent = λ begin text printed. (
-      text,
-      ap₂ (λ (s : State) (l : ℕ). Ok (record { state = s; text = text; left = l })) (sym state) (sym left),
-      subst (λ k. Prints k begin ca text) (sym silent) printed,
-    )
+  text,
+  ap₂ (λ (s : State) (l : ℕ). Ok (record { state = s; text = text; left = l })) (sym state) (sym left),
+  subst (λ k. Prints k begin ca text) (sym silent) printed,
+)
 
 -- the trace of a channel
 

@@ -1,5 +1,5 @@
 -- Going over the lines of a script.
-use Rattle.std.proofs.Common.{◌≡◌, ℕ, ◌+◌, ◌<◌, ◌≤◌, Bool, true, false, cond, ◌==◌, List, [], ◌∷◌, length, get_or, drop, Option, Some, None, Result, Ok, Err, sym, ap, ◌∙◌, arith}
+use Rattle.std.proofs.Common.{◌≡◌, ℕ, ◌+◌, ◌<◌, ◌≤◌, Bool, true, false, cond, ◌==◌, List, [], ◌∷◌, length, get_or, drop, Result, Ok, Err, sym, ap, ◌∙◌, arith}
 use Rattle.std.specs.List.{slice_split}
 use Rattle.std.specs.Str.Lines.{lines, lines_of_parts}
 use Rattle.std.proofs.lemmas.List.{at_drop_more, at_drop_all}
@@ -9,8 +9,6 @@ use Rattle.ddr_tool.specs.declared.fault.Fault.{Fault}
 use Rattle.ddr_tool.specs.declared.fault.Fault.TheVariants as faults
 use Rattle.ddr_tool.specs.Instructions.{AreRead, IsRead, Script, script_from, with_line, ◌>>>◌}
 use Rattle.ddr_tool.specs.Script.{Instruction}
-
-
 
 last_line : (b : Bool) (x : List ℕ) → length (cond b [] (x ∷ [])) ≤ 1
 last_line true x = omega arith
@@ -26,7 +24,6 @@ pub length-lines : (text : List ℕ) → length (lines text) ≤ length text + 1
 length-lines text =
     let is_feed : ℕ → Bool = λ b. b == 10 in
     omega (arith, length-lines_of_parts (slice_split is_feed text), length-slice_split is_feed text, count_by-le-length is_feed text)
-
 
 -- the next line
 at_line : (ports : ℕ) (texts : List (List ℕ)) (count n : ℕ) (old : Script) (text : List ℕ) (next : Result Script Fault) → count ≡ n → (n < length texts) × (text ≡ get_or texts n text) → with_line ports (count + 1) old text ≡ next

@@ -1,5 +1,5 @@
 -- A run as a whole.
-use Rattle.std.proofs.Common.{◌≡◌, ℕ, List, [], ◌++◌, Bool, true, false, Option, None, Some, is_some, Result, Ok, Err, IsTrue, IfErr, IfSome, OnOk, ◌⊎◌, inl, inr, map, refl, sym, ap, subst, ◌∙◌, append-nil, arith}
+use Rattle.std.proofs.Common.{◌≡◌, ℕ, List, [], Bool, true, false, Option, None, Some, is_some, Result, Ok, Err, IsTrue, IfSome, ◌⊎◌, inl, inr, refl, sym, ap, subst, ◌∙◌, append-nil}
 use Rattle.std.proofs.KnownBytes.{Appends-nil, Appends-trans}
 use Rattle.std.proofs.lemmas.Bool.{both_ways}
 use Rattle.std.specs.Io.KnownBytes.{Appends, Keeps}
@@ -11,11 +11,11 @@ use Rattle.ddr_tool.specs.Body.{IsOpened, parts_of}
 use Rattle.ddr_tool.specs.Fault.{is_before_output}
 use Rattle.ddr_tool.specs.Input.{IsText}
 use Rattle.ddr_tool.specs.Instructions.{AreRead, instructions_of}
-use Rattle.ddr_tool.specs.Rounds.{Course, Run, Stopped}
+use Rattle.ddr_tool.specs.Rounds.{Course, Run}
 use Rattle.ddr_tool.specs.Runs.{begun, channel_text, run_of, whole, written_by}
 use Rattle.ddr_tool.specs.Script.{Instruction}
 use Rattle.ddr_tool.specs.Simulated.{ComesTo, Leads, Prints, Simulated, run_at}
-use Rattle.ddr_tool.specs.Sims.{AsksFor, AsksForRun, HasSimFault, IsNoScript, IsRun, IsStopped, NamesNoChannel, Says, has_channel}
+use Rattle.ddr_tool.specs.Sims.{AsksFor, HasSimFault, IsRun, NamesNoChannel, Says, has_channel}
 
 -- what was read and opened says what the body says
 pub said_by : (remaining : Option (List ℕ)) (items text profile : List ℕ) (sample : Bool) (trace : Option ℕ) (config : Config) (body : List ℕ) (said : Result (List Instruction) Fault) → IfSome remaining (λ bytes. items ≡ bytes) → text ≡ items → IsText items
@@ -94,11 +94,11 @@ pub run_fault : (remaining : Option (List ℕ)) (profile : List ℕ) (sample : B
     → sim.silent ≡ is_some trace → ComesTo old sim new (Err fault) (run_of config instructions) → IfSome remaining (λ input. HasSimFault sample profile trace input old new fault)
 run_fault None profile sample trace config instructions sim old new fault says silent is = tt
 run_fault (Some input) profile sample trace config instructions sim old new faults.ScriptLimit says silent is = inr (record {
-      stop = record { fault = faults.ScriptLimit; text = is.0 };
-      asks = record { config = config; instructions = instructions; says = says; course_is = is.1 };
-      fault_is = refl;
-      written = stop_written trace sim.silent old new faults.ScriptLimit is.0 silent is.2;
-    })
+  stop = record { fault = faults.ScriptLimit; text = is.0 };
+  asks = record { config = config; instructions = instructions; says = says; course_is = is.1 };
+  fault_is = refl;
+  written = stop_written trace sim.silent old new faults.ScriptLimit is.0 silent is.2;
+})
 run_fault (Some input) profile sample trace config instructions sim old new faults.ClockSpent says silent is = record {
   stop = record { fault = faults.ClockSpent; text = is.0 };
   asks = record { config = config; instructions = instructions; says = says; course_is = is.1 };

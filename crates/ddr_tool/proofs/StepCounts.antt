@@ -1,5 +1,5 @@
 -- What an event makes of the numbers that are outstanding, and of the list that it pops.
-use Rattle.std.proofs.Common.{◌≡◌, ◌<◌, ◌≤◌, ◌-◌, ◌+◌, ℕ, zero, suc, Bool, true, false, cond, List, [], ◌∷◌, ◌++◌, Option, Some, None, Result, Ok, Err, IsTrue, length, map, drop, get_or, refl, sym, ap, subst, ◌∙◌, arith}
+use Rattle.std.proofs.Common.{◌≡◌, ◌≤◌, ◌+◌, ℕ, zero, suc, Bool, true, false, cond, List, [], ◌∷◌, Option, Some, None, Result, Ok, Err, IsTrue, length, map, drop, get_or, refl, sym, ap, subst, ◌∙◌, arith}
 use Rattle.std.specs.List.{range_with_len, slice_get, slice_set, sum_by, take_while}
 use Rattle.ddr_timing.specs.declared.config.Config.{Config}
 use Rattle.std.specs.Option.{option_map, option_and_then, option_map_or}
@@ -7,14 +7,14 @@ use Rattle.std.specs.Prelude.{◌==◌, ◌||◌, not, unwrap_or}
 use Rattle.std.proofs.lemmas.List.{length-drop, length-map, length_push}
 use Rattle.std.proofs.lemmas.List.Sums.{sum_by-set}
 use Rattle.std.proofs.lemmas.Option.{get_or_from_slice_get, slice_get_within}
-use Rattle.ddr_address_map.specs.Requests.{Request, Completion}
+use Rattle.ddr_address_map.specs.Requests.{Completion}
 use Rattle.ddr_address_map.specs.declared.request.Kind.TheVariants.{Read, Write}
 use Rattle.ddr_channel.specs.State.{is_queue_full}
 use Rattle.ddr_ports.specs.Asked.{Asked, echo_of}
 use Rattle.ddr_ports.specs.State.{refusal_of, request_at}
 use Rattle.ddr_ports.specs.declared.refusal.PortError.{PortError}
-use Rattle.ddr_reorder.specs.Replies.{Answer, answer_of, front_number, is_filled, nth_answer}
-use Rattle.ddr_reorder.specs.State.{Outstanding, ReorderState, awaits, filled}
+use Rattle.ddr_reorder.specs.Replies.{Answer, answer_of, front_number, is_filled}
+use Rattle.ddr_reorder.specs.State.{Outstanding, awaits, filled}
 use Rattle.ddr_world.specs.declared.event.Outcome.{Outcome}
 use Rattle.ddr_world.specs.declared.event.Outcome.TheVariants as outcome
 use Rattle.ddr_world.specs.declared.event.Refusal.{Refusal}
@@ -24,7 +24,7 @@ use Rattle.ddr_world.specs.declared.item.Item.TheVariants as item
 use Rattle.ddr_world.specs.Events.{Event, Submit, Take, Cycle, Deliver, Collect, Release, End}
 use Rattle.ddr_world.specs.Refusals.{refusal_from}
 use Rattle.ddr_world.specs.State.{PortSide, ChannelSide, State, is_busy, is_completion_queue_full, opened_port}
-use Rattle.ddr_world.specs.Step.{Made, Step, made, with_port, with_channel, at_port, at_channel, change_channel, queued, after_submit, push_on, push_request, submit_by, submit, taken, take, cycled, cycle, sent, after_deliver, deliver_to, push_completion, deliver_by, deliver, after_collect, collect_by, collect, after_release, release_by, release, after_take, after_end, end_at, end, step}
+use Rattle.ddr_world.specs.Step.{Step, made, with_port, with_channel, at_channel, change_channel, queued, after_submit, push_on, push_request, submit_by, submit, taken, cycled, sent, after_deliver, deliver_to, push_completion, deliver_by, deliver, after_collect, collect_by, collect, after_release, release_by, release, after_take, after_end, end_at, end, step}
 use Rattle.ddr_tool.specs.Rounds.{items_of, made_state, outstanding, repeated}
 use Rattle.ddr_tool.specs.Simulated.{added, is_popping}
 
@@ -76,17 +76,17 @@ submit_counts : (s : State) (p : ℕ) (asked : Asked) → Counts s (Submit p ask
 submit_counts s p asked = at_port_has (Counts s (Submit p asked)) s p (submit_by s p asked) (slice_get s.ports p) refl tt (λ port there.
     maybe_has (Counts s (Submit p asked)) (λ (cause : PortError). Err (refusal_from cause)) (option_map_or (push_request s p port asked) (request_at port.core asked) (Err refusal.OutOfRange)) (refusal_of port.core asked)
     (maybe_has (Counts s (Submit p asked)) (push_request s p port asked) (Err refusal.OutOfRange) (request_at port.core asked) tt (λ r prepared.
-      at_channel_has (Counts s (Submit p asked)) s r.place.channel (push_on s p port asked r) (slice_get s.channels r.place.channel) refl tt (λ side found.
-        either_has (Counts s (Submit p asked)) (is_busy side) (Err (refusal.Busy r.place.channel)) (made (with_channel r.place.channel (queued (item.Request r) side) (with_port p (after_submit asked port) s)) (outcome.Accepted r.number)) tt
-        (omega (arith, port_set s p port (after_submit asked port) there, length_push port.core.reorder.outstanding (record { number = port.core.reorder.next; echo = echo_of asked; line = None })), refl))))
+    at_channel_has (Counts s (Submit p asked)) s r.place.channel (push_on s p port asked r) (slice_get s.channels r.place.channel) refl tt (λ side found.
+    either_has (Counts s (Submit p asked)) (is_busy side) (Err (refusal.Busy r.place.channel)) (made (with_channel r.place.channel (queued (item.Request r) side) (with_port p (after_submit asked port) s)) (outcome.Accepted r.number)) tt
+    (omega (arith, port_set s p port (after_submit asked port) there, length_push port.core.reorder.outstanding (record { number = port.core.reorder.next; echo = echo_of asked; line = None })), refl))))
     (λ cause is. tt))
 
 deliver_counts : (s : State) (c : ℕ) → Counts s (Deliver c) (deliver s c)
 deliver_counts s c = at_channel_has (Counts s (Deliver c)) s c (deliver_by s c) (slice_get s.channels c) refl tt (λ side found.
     maybe_has (Counts s (Deliver c)) (push_completion s c side) (Err refusal.Nothing) (slice_get side.channel.done 0) tt (λ d first.
-      maybe_has (Counts s (Deliver c)) (deliver_to s c side d) (Err refusal.QueueFull) (slice_get s.ports d.port) tt (λ port there.
-        either_has (Counts s (Deliver c)) (is_completion_queue_full port) (Err refusal.QueueFull) (made (with_port d.port (after_deliver d port) (with_channel c (sent side) s)) outcome.Delivered) tt
-        (same_numbers s d.port port (after_deliver d port) there refl))))
+    maybe_has (Counts s (Deliver c)) (deliver_to s c side d) (Err refusal.QueueFull) (slice_get s.ports d.port) tt (λ port there.
+    either_has (Counts s (Deliver c)) (is_completion_queue_full port) (Err refusal.QueueFull) (made (with_port d.port (after_deliver d port) (with_channel c (sent side) s)) outcome.Delivered) tt
+    (same_numbers s d.port port (after_deliver d port) there refl))))
 
 filled_numbers : (port : PortSide) (d : Completion) (b : Bool) → numbers (record port { core = cond b (record port.core { reorder = record port.core.reorder { outstanding = map (filled d.number d.line) port.core.reorder.outstanding } }) port.core; completions = drop 1 port.completions }) ≡ numbers port
 filled_numbers port d true = length-map port.core.reorder.outstanding (filled d.number d.line)
@@ -95,7 +95,7 @@ filled_numbers port d false = refl
 collect_counts : (s : State) (p : ℕ) → Counts s (Collect p) (collect s p)
 collect_counts s p = at_port_has (Counts s (Collect p)) s p (collect_by s p) (slice_get s.ports p) refl tt (λ port there.
     maybe_has (Counts s (Collect p)) (λ (d : Completion). made (with_port p (after_collect d port) s) (outcome.Collected d.number)) (Err refusal.Nothing) (slice_get port.completions 0) tt (λ d first.
-      same_numbers s p port (after_collect d port) there (filled_numbers port d (awaits port.core.reorder d.number d.echo))))
+    same_numbers s p port (after_collect d port) there (filled_numbers port d (awaits port.core.reorder d.number d.echo))))
 
 -- there is a reply in front only where a number is outstanding
 front_of_none : (xs : List Outstanding) (number : ℕ) → option_map (λ (a : Answer). a.number) (option_and_then answer_of (slice_get (take_while is_filled xs) 0)) ≡ Some number → 1 ≤ length xs
@@ -105,15 +105,15 @@ front_of_none (x ∷ xs) number is = omega arith
 release_counts : (s : State) (p : ℕ) → Counts s (Release p) (release s p)
 release_counts s p = at_port_has (Counts s (Release p)) s p (release_by s p) (slice_get s.ports p) refl tt (λ port there.
     maybe_has (Counts s (Release p)) (λ number. made (with_port p (after_release port) s) (outcome.Released number)) (Err refusal.Nothing) (front_number port.core.reorder) tt (λ number front.
-      omega (arith, port_set s p port (after_release port) there, length-drop 1 port.core.reorder.outstanding, front_of_none port.core.reorder.outstanding number front)))
+    omega (arith, port_set s p port (after_release port) there, length-drop 1 port.core.reorder.outstanding, front_of_none port.core.reorder.outstanding number front)))
 
 end_counts : (s : State) (p c : ℕ) → Counts s (End p c) (end s p c)
 end_counts s p c = at_port_has (Counts s (End p c)) s p (λ port. at_channel s c (end_at s p c port)) (slice_get s.ports p) refl tt (λ port there.
     at_channel_has (Counts s (End p c)) s c (end_at s p c port) (slice_get s.channels c) refl tt (λ side found.
-      either_has (Counts s (End p c)) (not (length port.core.reorder.outstanding == 0)) (Err refusal.NotEmpty) _ tt
-      (either_has (Counts s (End p c)) (unwrap_or (slice_get port.pushed c) false) (Err refusal.Finished) _ tt
-      (either_has (Counts s (End p c)) (is_busy side) (Err (refusal.Busy c)) (made (with_channel c (queued (item.End p) side) (with_port p (after_end c port) s)) outcome.Ended) tt
-      (same_numbers s p port (after_end c port) there refl)))))
+    either_has (Counts s (End p c)) (not (length port.core.reorder.outstanding == 0)) (Err refusal.NotEmpty) _ tt
+    (either_has (Counts s (End p c)) (unwrap_or (slice_get port.pushed c) false) (Err refusal.Finished) _ tt
+    (either_has (Counts s (End p c)) (is_busy side) (Err (refusal.Busy c)) (made (with_channel c (queued (item.End p) side) (with_port p (after_end c port) s)) outcome.Ended) tt
+    (same_numbers s p port (after_end c port) there refl)))))
 
 -- every event
 pub step_counts : (s : State) (event : Event) → Counts s event (step s event)
@@ -189,19 +189,19 @@ take_pops s c side (Some it) found first = took_or_full s c side it (is_queue_fu
 deliver_pops : (s : State) (c : ℕ) → Pops s (Deliver c) (deliver s c)
 deliver_pops s c = at_channel_has (Pops s (Deliver c)) s c (deliver_by s c) (slice_get s.channels c) refl tt (λ side found.
     maybe_has (Pops s (Deliver c)) (push_completion s c side) (Err refusal.Nothing) (slice_get side.channel.done 0) tt (λ d first.
-      maybe_has (Pops s (Deliver c)) (deliver_to s c side d) (Err refusal.QueueFull) (slice_get s.ports d.port) tt (λ port there.
-        either_has (Pops s (Deliver c)) (is_completion_queue_full port) (Err refusal.QueueFull) (made (with_port d.port (after_deliver d port) (with_channel c (sent side) s)) outcome.Delivered) tt
-        (channel_pops s c (λ (x : ChannelSide). length x.channel.done) side (sent side) found (first_dropped side.channel.done d first)))))
+    maybe_has (Pops s (Deliver c)) (deliver_to s c side d) (Err refusal.QueueFull) (slice_get s.ports d.port) tt (λ port there.
+    either_has (Pops s (Deliver c)) (is_completion_queue_full port) (Err refusal.QueueFull) (made (with_port d.port (after_deliver d port) (with_channel c (sent side) s)) outcome.Delivered) tt
+    (channel_pops s c (λ (x : ChannelSide). length x.channel.done) side (sent side) found (first_dropped side.channel.done d first)))))
 
 collect_pops : (s : State) (p : ℕ) → Pops s (Collect p) (collect s p)
 collect_pops s p = at_port_has (Pops s (Collect p)) s p (collect_by s p) (slice_get s.ports p) refl tt (λ port there.
     maybe_has (Pops s (Collect p)) (λ (d : Completion). made (with_port p (after_collect d port) s) (outcome.Collected d.number)) (Err refusal.Nothing) (slice_get port.completions 0) tt (λ d first.
-      port_pops s p (λ (x : PortSide). length x.completions) port (after_collect d port) there (first_dropped port.completions d first)))
+    port_pops s p (λ (x : PortSide). length x.completions) port (after_collect d port) there (first_dropped port.completions d first)))
 
 pub release_pops : (s : State) (p : ℕ) → Pops s (Release p) (release s p)
 release_pops s p = at_port_has (Pops s (Release p)) s p (release_by s p) (slice_get s.ports p) refl tt (λ port there.
     maybe_has (Pops s (Release p)) (λ number. made (with_port p (after_release port) s) (outcome.Released number)) (Err refusal.Nothing) (front_number port.core.reorder) tt (λ number front.
-      port_pops s p numbers port (after_release port) there (omega (arith, length-drop 1 port.core.reorder.outstanding, front_of_none port.core.reorder.outstanding number front))))
+    port_pops s p numbers port (after_release port) there (omega (arith, length-drop 1 port.core.reorder.outstanding, front_of_none port.core.reorder.outstanding number front))))
 
 step_pops : (s : State) (event : Event) → IsTrue (is_popping event) → Pops s event (step s event)
 step_pops s (Take c) is = at_channel_has (Pops s (Take c)) s c (λ side. change_channel s c outcome.Taken (taken side)) (slice_get s.channels c) refl tt (λ side found. take_pops s c side (slice_get side.requests 0) found refl)

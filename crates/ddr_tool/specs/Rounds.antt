@@ -1,11 +1,10 @@
 -- The events of a round, and what is printed in it.
-use Rattle.std.specs.Prelude.{ℕ, ◌-◌, Bool, true, false, ◌==◌, suc, zero, if◌then◌else◌, List, [], ◌++◌, length, slice_get, sum_by, Option, Some, None, option_and_then, Result, Ok, Err}
+use Rattle.std.specs.Prelude.{ℕ, ◌-◌, ◌==◌, suc, zero, if◌then◌else◌, List, ◌++◌, length, slice_get, sum_by, Option, Some, None, option_and_then, Result, Ok, Err}
 use Rattle.std.specs.Option.{option_map, option_map_or}
-use Rattle.ddr_reorder.specs.Replies.{Answer}
 use Rattle.ddr_timing.specs.declared.config.Config.{Config}
 use Rattle.ddr_world.specs.Events.{Event, Take, Cycle, Deliver, Collect, Release}
 use Rattle.ddr_world.specs.History.{front_of}
-use Rattle.ddr_world.specs.State.{State, PortSide, ChannelSide}
+use Rattle.ddr_world.specs.State.{State}
 use Rattle.ddr_world.specs.Step.{Step, step}
 use Rattle.ddr_tool.specs.declared.fault.Fault.{Fault}
 use Rattle.ddr_tool.specs.declared.fault.Fault.TheVariants.{ClockSpent, ScriptLimit}

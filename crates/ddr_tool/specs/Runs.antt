@@ -1,11 +1,11 @@
 -- A whole run: a script's instructions, then rounds until nothing is outstanding, then the Ends.
-use Rattle.std.specs.Prelude.{ℕ, ◌==◌, suc, zero, if◌then◌else◌, List, [], ◌∷◌, ◌++◌, slice_get, Option, Some, None, Result, Ok, Err}
+use Rattle.std.specs.Prelude.{ℕ, ◌==◌, suc, zero, if◌then◌else◌, List, [], ◌∷◌, ◌++◌, slice_get, Option, Some, None, Ok, Err}
 use Rattle.std.specs.Option.{option_map_or}
 use Rattle.ddr_ports.specs.Asked.{Asked}
 use Rattle.ddr_timing.specs.declared.config.Config.{Config}
 use Rattle.ddr_trace.specs.Text.{trace_text}
 use Rattle.ddr_world.specs.Events.{Submit, Take, End}
-use Rattle.ddr_world.specs.State.{State, ChannelSide, opened}
+use Rattle.ddr_world.specs.State.{State, opened}
 use Rattle.ddr_world.specs.Step.{Step, step}
 use Rattle.ddr_tool.specs.declared.fault.Fault.TheVariants.{ScriptLimit}
 use Rattle.ddr_tool.specs.Replies.{refused_text}

@@ -47,7 +47,9 @@ pub enum Instruction {
         line: Box<Line>,
     },
     /// `cycle N`: makes that many rounds, 1 to 1,000,000 of them.
-    Cycle { rounds: u32 },
+    Cycle {
+        rounds: u32,
+    },
 }
 
 /// Why a line was not read.

@@ -126,7 +126,12 @@ impl Simulation {
                 self.ask(alloc, *port, Request::read(*addr, *len), writer)
             }
             Instruction::Write { port, addr, bytes } => {
-                self.ask(alloc, *port, Request::write(*addr, bytes.as_slice()), writer)
+                self.ask(
+                    alloc,
+                    *port,
+                    Request::write(*addr, bytes.as_slice()),
+                    writer,
+                )
             }
             Instruction::Masked {
                 port,
@@ -265,12 +270,7 @@ impl Simulation {
     }
 
     /// Prints the reply in front of a port, if there is one, and tells whether there was.
-    fn print_front<W: Write>(
-        &self,
-        alloc: Global,
-        port: u32,
-        writer: &mut W,
-    ) -> Result<bool, Fault>
+    fn print_front<W: Write>(&self, alloc: Global, port: u32, writer: &mut W) -> Result<bool, Fault>
         ensures printed { IfOk result (IsFrontPrinted port (front_of (state_of self.now.world) port) self.now.silent (W.contents writer.old) (W.contents writer.new)) }
         ensures fault { IfErr result (λ fault. (fault ≡ Fault.Write) ⊎ (fault ≡ Fault.OutOfMemory)) }
     {

@@ -5,7 +5,7 @@ use Rattle.std.proofs.lemmas.Iterator.Consumers.{YieldsList-turn, YieldsList-end
 use Rattle.std.proofs.lemmas.Iterator.Splits.{YieldsList-from_lines}
 use Rattle.std.proofs.lemmas.Result.{err_from_is_err_and}
 use Rattle.ddr_tool.specs.declared.script.Instruction as declared
-use Rattle.ddr_tool.specs.Instructions.{Script, instructions_of, nothing_read, script_from, ◌>>>◌}
+use Rattle.ddr_tool.specs.Instructions.{Script, instructions_of, script_from, ◌>>>◌}
 use Rattle.ddr_tool.specs.Script.{view}
 use Rattle.ddr_tool.proofs.Lines.{length-lines, script_end, script_fault, script_more}
 use Rattle.ddr_tool.proofs.instructions.instructions_of.Goals as goal

@@ -1,5 +1,5 @@
 -- One round more, while something is outstanding.
-use Rattle.std.proofs.Common.{Ok, Err, ◌-◌, arith, refl, subst, sym, ◌∙◌}
+use Rattle.std.proofs.Common.{Ok, Err, ◌-◌, refl, subst, sym, ◌∙◌}
 use Rattle.std.proofs.lemmas.Result.{err_from_is_err_and}
 use Rattle.ddr_timing.specs.declared.config.Config.{Config}
 use Rattle.ddr_world.specs.Kept.{state_of}
@@ -34,8 +34,8 @@ returns-in_err-round-clause-leads g c =
     let busy = sym c.is_idle.ensures ∙ c.rounds-test.true in
     let p = err_from_is_err_and c.from_residual.result c.from_residual.ensures.1 in
     rw (p.1, p.2) (onward_stop (drained config c.args.self.now.left) c.args.self.now (contents c.args.writer.now) (drained config now.left) (round config) (drained config (now.left - 1)) now next (contents c.rounds.writer) (contents c.round.new.writer) c.in_err-round.field-0.0
-        (λ text. drained_turn config now.left (state_of now.world) text busy)
-        (subst (λ (k : Config). Leads (round k) now (contents c.rounds.writer) next (contents c.round.new.writer) (Err c.in_err-round.field-0.0)) kept.same.config c.in_err-round.ensures.leads) kept.onward)
+    (λ text. drained_turn config now.left (state_of now.world) text busy)
+    (subst (λ (k : Config). Leads (round k) now (contents c.rounds.writer) next (contents c.round.new.writer) (Err c.in_err-round.field-0.0)) kept.same.config c.in_err-round.ensures.leads) kept.onward)
 
 pub returns-clause-leads : goal.returns-clause-leads
 returns-clause-leads g c =

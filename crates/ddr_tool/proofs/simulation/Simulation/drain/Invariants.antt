@@ -1,4 +1,3 @@
-use Rattle.std.proofs.Common.{◌≡◌}
 use Rattle.ddr_tool.specs.Runs.{drained}
 use Rattle.ddr_tool.specs.Simulated.{IsSameRun}
 use Rattle.ddr_tool.proofs.Courses.{Onward}

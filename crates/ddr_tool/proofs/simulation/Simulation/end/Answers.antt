@@ -1,5 +1,5 @@
 -- The Ends to one channel more were pushed and taken.
-use Rattle.std.proofs.Common.{◌≡◌, ◌+◌, ap, arith, subst, ◌∙◌}
+use Rattle.std.proofs.Common.{◌+◌, ap, arith, ◌∙◌}
 use Rattle.ddr_timing.specs.declared.config.Config.{Config}
 use Rattle.ddr_world.specs.Kept.{state_of}
 use Rattle.ddr_tool.specs.Runs.{ports_ended}

@@ -1,5 +1,5 @@
 -- One instruction more.
-use Rattle.std.proofs.Common.{Ok, Err, ◌+◌, ◌-◌, map, drop, arith, refl, subst, sym, ◌∙◌}
+use Rattle.std.proofs.Common.{Ok, Err, ◌+◌, map, drop, arith, subst, ◌∙◌}
 use Rattle.std.proofs.lemmas.Result.{err_from_is_err_and}
 use Rattle.ddr_timing.specs.declared.config.Config.{Config}
 use Rattle.ddr_tool.specs.Runs.{all_followed, followed}
@@ -39,8 +39,8 @@ returns-in_err-follow-clause-leads g c =
     let next = c.follow.new.self in
     let p = err_from_is_err_and c.from_residual.result c.from_residual.ensures.1 in
     rw (p.1, p.2) (onward_stop (all_followed config (map view xs)) c.args.self.now (contents c.args.writer.now) (all_followed config (map view (drop i xs))) (followed config (view x)) (all_followed config (map view (drop (i + 1) xs))) now next (contents c.loop-instruction.writer) (contents c.follow.new.writer) c.in_err-follow.field-0.0
-        (λ text. followed_turn config xs i x (run_at now text) c.loop-instruction-test.true c.instruction-item.is)
-        (subst (λ (k : Config). Leads (followed k (view x)) now (contents c.loop-instruction.writer) next (contents c.follow.new.writer) (Err c.in_err-follow.field-0.0)) kept.config c.in_err-follow.ensures.leads) kept.onward)
+    (λ text. followed_turn config xs i x (run_at now text) c.loop-instruction-test.true c.instruction-item.is)
+    (subst (λ (k : Config). Leads (followed k (view x)) now (contents c.loop-instruction.writer) next (contents c.follow.new.writer) (Err c.in_err-follow.field-0.0)) kept.config c.in_err-follow.ensures.leads) kept.onward)
 
 pub returns-clause-leads : goal.returns-clause-leads
 returns-clause-leads g c =

@@ -1,4 +1,4 @@
-use Rattle.std.proofs.Common.{◌≡◌, ◌≤◌}
+use Rattle.std.proofs.Common.{◌≡◌}
 use Rattle.ddr_world.specs.Events.{event_of}
 use Rattle.ddr_world.specs.Kept.{state_of}
 use Rattle.ddr_tool.specs.Rounds.{items_of, repeated, until_refused}

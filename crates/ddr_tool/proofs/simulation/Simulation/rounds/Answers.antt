@@ -1,5 +1,5 @@
 -- One round more.
-use Rattle.std.proofs.Common.{Ok, Err, ◌-◌, ◌+◌, arith, refl, subst, ◌∙◌}
+use Rattle.std.proofs.Common.{Ok, Err, ◌-◌, ◌+◌, arith, subst}
 use Rattle.std.proofs.lemmas.Result.{err_from_is_err_and}
 use Rattle.ddr_timing.specs.declared.config.Config.{Config}
 use Rattle.ddr_tool.specs.Rounds.{round, rounds}
@@ -34,8 +34,8 @@ returns-in_err-round-clause-leads g c =
     let m = c.args.count - (c.loop-made._made + 1) in
     let p = err_from_is_err_and c.from_residual.result c.from_residual.ensures.1 in
     rw (p.1, p.2) (onward_stop (rounds config c.args.count) c.args.self.now (contents c.args.writer.now) (rounds config n) (round config) (rounds config m) now next (contents c.loop-made.writer) (contents c.round.new.writer) c.in_err-round.field-0.0
-        (λ text. rounds_turn config n m (run_at now text) (omega (arith, c.loop-made-test.true)))
-        (subst (λ (k : Config). Leads (round k) now (contents c.loop-made.writer) next (contents c.round.new.writer) (Err c.in_err-round.field-0.0)) kept.same.config c.in_err-round.ensures.leads) kept.onward)
+    (λ text. rounds_turn config n m (run_at now text) (omega (arith, c.loop-made-test.true)))
+    (subst (λ (k : Config). Leads (round k) now (contents c.loop-made.writer) next (contents c.round.new.writer) (Err c.in_err-round.field-0.0)) kept.same.config c.in_err-round.ensures.leads) kept.onward)
 
 pub returns-clause-leads : goal.returns-clause-leads
 returns-clause-leads g c =

@@ -1,4 +1,4 @@
-use Rattle.std.proofs.Common.{◌≡◌, ◌-◌}
+use Rattle.std.proofs.Common.{◌-◌}
 use Rattle.ddr_tool.specs.Rounds.{rounds}
 use Rattle.ddr_tool.specs.Simulated.{IsSameRun}
 use Rattle.ddr_tool.proofs.Courses.{Onward}

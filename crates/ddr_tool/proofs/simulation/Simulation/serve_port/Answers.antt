@@ -1,9 +1,8 @@
 -- The replies in front of a port, one after another.
-use Rattle.std.proofs.Common.{Ok, arith, refl, sym, subst, ◌∙◌}
-use Rattle.std.proofs.lemmas.Result.{err_from_is_err_and}
+use Rattle.std.proofs.Common.{Ok, arith, refl, ◌∙◌}
 use Rattle.ddr_world.specs.History.{front_of}
 use Rattle.ddr_world.specs.Kept.{state_of}
-use Rattle.ddr_tool.proofs.Courses.{device_failed, front_answered, front_fewer, no_replies, port_led, printed_none, printed_there, replies_of, reply_more, same_on}
+use Rattle.ddr_tool.proofs.Courses.{front_answered, front_fewer, no_replies, port_led, printed_none, printed_there, replies_of, reply_more, same_on}
 use Rattle.ddr_tool.proofs.simulation.Simulation.serve_port.Goals as goal
 
 pub replies-init : goal.replies-init

@@ -1,4 +1,4 @@
-use Rattle.std.proofs.Common.{◌≡◌, Ok}
+use Rattle.std.proofs.Common.{◌≡◌}
 use Rattle.ddr_world.specs.Events.{Release}
 use Rattle.ddr_world.specs.Kept.{state_of}
 use Rattle.ddr_tool.specs.Rounds.{items_of}
