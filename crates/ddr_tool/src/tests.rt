@@ -6,6 +6,7 @@ mod devices;
 mod faults;
 mod job;
 mod map;
+mod ports;
 mod rows;
 mod texts;
 

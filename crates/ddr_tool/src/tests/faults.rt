@@ -5,7 +5,7 @@ use std::alloc::Global;
 use std::test::Fail;
 
 /// Lines that are at fault wherever they stand.
-const BAD_LINES: [&str; 38] = [
+const BAD_LINES: [&str; 42] = [
     // No form of a script's line.
     " ",
     "   ",
@@ -36,19 +36,27 @@ const BAD_LINES: [&str; 38] = [
     "write 0 0 0g",
     "write 0 0 010",
     "write 0 0 0x01",
-    // Another port, another channel, and beyond the memory.
-    "read 1 0 1",
-    "write 1 0 00",
-    "read 0 131072 1",
-    "read 0 262144 1",
-    "read 0 18446744073709551615 1",
-    // No byte, and more than one line.
-    "read 0 0 0",
-    "read 0 60 5",
-    "read 0 0 65",
-    "read 0 0 65535",
-    "write 0 60 0102030405",
-    "cycle 1",
+    // No mask, and no line.
+    "mask 0 0 000000000000000f",
+    "mask 0 0 000000000000000f 11",
+    "mask 0 0 f 1111111111111111111111111111111111111111111111111111111111111111\
+1111111111111111111111111111111111111111111111111111111111111111",
+    "mask 0 0 000000000000000g 1111111111111111111111111111111111111111111111111111111111111111\
+1111111111111111111111111111111111111111111111111111111111111111",
+    "mask 0 0 000000000000000f 1111111111111111111111111111111111111111111111111111111111111111\
+111111111111111111111111111111111111111111111111111111111111111111",
+    // No count of rounds.
+    "cycle",
+    "cycle 0",
+    "cycle 1000001",
+    "cycle -1",
+    "cycle 1 1",
+    "cycles 1",
+    // A port that is not there.
+    "read 2 0 1",
+    "write 2 0 00",
+    "read 4294967296 0 1",
+    "read 18446744073709551615 0 1",
 ];
 
 /// The fault that a script ends by, and how many bytes were written before.
@@ -80,11 +88,6 @@ fn lines_too_long(rt: HostRuntime) -> Result<(), Fail> {
         line.push_str("00")?;
     }
     assert_eq!(rt; fault_of(alloc, line.as_bytes()), (fault, 0));
-    let mut masked = String::from_str(alloc, "mask 0 0 000000000000000f ")?;
-    for _byte in 0..64 {
-        masked.push_str("11")?;
-    }
-    assert_eq!(rt; fault_of(alloc, masked.as_bytes()), (fault, 0));
     Ok(())
 }
 
@@ -92,14 +95,12 @@ fn lines_too_long(rt: HostRuntime) -> Result<(), Fail> {
 fn lines_are_counted_from_1(rt: HostRuntime) {
     let alloc = rt.alloc();
     let at = |line: u64| (Some(Fault::ScriptLine { line }), 0usize);
-    let fifth = b"read 0 0 1\nread 0 0 1\nread 0 0 1\nread 0 0 1\n#\n\nread 0 0 1\n";
-    assert_eq!(rt; fault_of(alloc, fifth), at(7));
     assert_eq!(rt; fault_of(alloc, b"\r\n\r\nread 0 0\r\n"), at(3));
     assert_eq!(rt; fault_of(alloc, b"#\n read 0 0 1"), at(2));
     // A carriage return ends a line only before a line feed.
     assert_eq!(rt; fault_of(alloc, b"read 0 0 1\r"), at(1));
     // The first line at fault is told.
-    assert_eq!(rt; fault_of(alloc, b"read 0 0 1\nread 1 0 1\nbad\n"), at(2));
+    assert_eq!(rt; fault_of(alloc, b"read 0 0 1\nread 2 0 1\nbad\n"), at(2));
 }
 
 #[test]
