@@ -29,7 +29,8 @@ use Rattle.ddr_tool.specs.Runs.{after_submit, all_followed, channel_text, channe
 use Rattle.ddr_tool.specs.Script.{view}
 use Rattle.ddr_tool.specs.declared.script.Instruction as kept
 use Rattle.std.proofs.lemmas.List.{at_drop_more, at_drop_all}
-use Rattle.ddr_tool.specs.Simulated.{ComesTo, IsCycleFault, IsFrontPrinted, IsSameRun, Leads, Prints, Simulated, is_popping, run_at}
+use Rattle.ddr_tool.specs.Simulated.{BeginsWith, printed_in, ComesTo, IsCycleFault, IsFrontPrinted, IsSameRun, Leads, Prints, Simulated, is_popping, run_at}
+use Rattle.ddr_tool.proofs.Growth.{Grows, begins_on, begins_then, ports_more, round_grows}
 use Rattle.ddr_tool.proofs.StepCounts.{release_pops}
 
 -- what an event was answered
@@ -109,6 +110,9 @@ pub printed_more : (silent : Bool) (a b c : Option (List ℕ)) (x y : List ℕ) 
 printed_more true a b c x y p q = q ∙ p
 printed_more false a b c x y p q = Appends-trans a b c x y p q
 
+ok_is : (x y : Run) → ◌≡◌ {A = Course} (Ok x) (Ok y) → x ≡ y
+ok_is x y is = ap (λ (c : Course). elim c as (λ _. Run) [ Ok r ↦ r | Err e ↦ x ]) is
+
 -- one part behind another
 
 pub leads_then : (f g : Run → Course) (a b d : Simulated) (ca cb cd : Option (List ℕ)) (v : Unit {0}) (r : Result (Unit {0}) Fault) → Leads f a ca b cb (Ok v) → Leads g b cb d cd r → Leads (λ run. f run then g) a ca d cd r
@@ -116,15 +120,15 @@ leads_then f g a b d ca cb cd v r p q = λ begin text printed.
     let first = p begin text printed in
     subst (λ (course : Course). ComesTo begin d cd r (course then g)) (sym first.1) (q begin first.0 first.2)
 
-stop_then : (begin : Option (List ℕ)) (b : Simulated) (cb : Option (List ℕ)) (fault : Fault) (g : Run → Course) (course : Course) → ComesTo begin b cb (Err fault) course → ComesTo begin b cb (Err fault) (course then g)
-stop_then begin b cb faults.ScriptLimit g course p = (p.0, ap (λ (x : Course). x then g) p.1, p.2)
-stop_then begin b cb faults.ClockSpent g course p = (p.0, ap (λ (x : Course). x then g) p.1, p.2)
-stop_then begin b cb faults.OutOfMemory g course p = tt
-stop_then begin b cb faults.Write g course p = tt
-stop_then begin b cb _ g course p = absurd p
+stop_then : (begin : Option (List ℕ)) (b : Simulated) (cb : Option (List ℕ)) (fault : Fault) (g : Run → Course) (course : Course) → Grows g → ComesTo begin b cb (Err fault) course → ComesTo begin b cb (Err fault) (course then g)
+stop_then begin b cb faults.ScriptLimit g course grows p = (p.0, ap (λ (x : Course). x then g) p.1, p.2)
+stop_then begin b cb faults.ClockSpent g course grows p = (p.0, ap (λ (x : Course). x then g) p.1, p.2)
+stop_then begin b cb faults.OutOfMemory g course grows p = (p.0, begins_then course g p.0 grows p.1, p.2)
+stop_then begin b cb faults.Write g course grows p = tt
+stop_then begin b cb _ g course grows p = absurd p
 
-pub leads_stop : (f g : Run → Course) (a b : Simulated) (ca cb : Option (List ℕ)) (fault : Fault) → Leads f a ca b cb (Err fault) → Leads (λ run. f run then g) a ca b cb (Err fault)
-leads_stop f g a b ca cb fault p = λ begin text printed. stop_then begin b cb fault g (f (run_at a text)) (p begin text printed)
+pub leads_stop : (f g : Run → Course) (a b : Simulated) (ca cb : Option (List ℕ)) (fault : Fault) → Grows g → Leads f a ca b cb (Err fault) → Leads (λ run. f run then g) a ca b cb (Err fault)
+leads_stop f g a b ca cb fault grows p = λ begin text printed. stop_then begin b cb fault g (f (run_at a text)) grows (p begin text printed)
 
 -- whatever part g leads to from here, part f leads to from the start
 abbrev pub Onward : (Run → Course) → Simulated → Option (List ℕ) → (Run → Course) → Simulated → Option (List ℕ) → Type 0
@@ -138,19 +142,24 @@ leads_same f g a d ca cd r same p = λ begin text printed. subst (ComesTo begin 
 pub leads_nowhere : (f : Run → Course) (a : Simulated) (ca : Option (List ℕ)) (v : Unit {0}) → ((text : List ℕ) → f (run_at a text) ≡ Ok (run_at a text)) → Leads f a ca a ca (Ok v)
 leads_nowhere f a ca v same = λ begin text printed. (text, same text, printed)
 
--- a part in which nothing goes wrong but memory or the writer
-only_those : (begin : Option (List ℕ)) (b : Simulated) (cb : Option (List ℕ)) (fault : Fault) (x : Run) (other : Option (List ℕ)) (sim : Simulated) (now : Option (List ℕ)) (course : Course) → ComesTo begin b cb (Err fault) (Ok x) → ComesTo other sim now (Err fault) course
-only_those begin b cb faults.ScriptLimit x other sim now course p = absurd (let impossible = p.1 in cc)
-only_those begin b cb faults.ClockSpent x other sim now course p = absurd (let impossible = p.1 in cc)
-only_those begin b cb faults.OutOfMemory x other sim now course p = tt
-only_those begin b cb faults.Write x other sim now course p = tt
-only_those begin b cb _ x other sim now course p = absurd p
+-- a part in which nothing goes wrong but memory or the writer, in one that prints on
+only_those : (begin : Option (List ℕ)) (b : Simulated) (cb : Option (List ℕ)) (fault : Fault) (x : Run) (course : Course) → BeginsWith (printed_in course) x.text → ComesTo begin b cb (Err fault) (Ok x) → ComesTo begin b cb (Err fault) course
+only_those begin b cb faults.ScriptLimit x course more p = absurd (let impossible = p.1 in cc)
+only_those begin b cb faults.ClockSpent x course more p = absurd (let impossible = p.1 in cc)
+only_those begin b cb faults.OutOfMemory x course more p = (p.0, begins_on p.0 x.text (printed_in course) p.1 more, p.2)
+only_those begin b cb faults.Write x course more p = tt
+only_those begin b cb _ x course more p = absurd p
 
 -- a port of the first so many failed
-pub ports_stop : (a b d : Simulated) (ca cb cd : Option (List ℕ)) (v : Unit {0}) (f g h : Run → Run) (fault : Fault) → Leads (λ run. Ok (f run)) a ca b cb (Ok v) → Leads (λ run. Ok (g run)) b cb d cd (Err fault) → Leads (λ run. Ok (h run)) a ca d cd (Err fault)
-ports_stop a b d ca cb cd v f g h fault p q = λ begin text printed.
+pub ports_stop : (i k n : ℕ) (a b d : Simulated) (ca cb cd : Option (List ℕ)) (v : Unit {0}) (fault : Fault) → n ≡ k + suc i → Leads (λ run. Ok (ports_served i run)) a ca b cb (Ok v) → Leads (λ run. Ok (port_served i run)) b cb d cd (Err fault)
+    → Leads (λ run. Ok (ports_served n run)) a ca d cd (Err fault)
+ports_stop i k n a b d ca cb cd v fault e p q = λ begin text printed.
     let first = p begin text printed in
-    only_those begin d cd fault (g (run_at b first.0)) begin d cd (Ok (h (run_at a text))) (q begin first.0 first.2)
+    let here : ports_served i (run_at a text) ≡ run_at b first.0 = ok_is (ports_served i (run_at a text)) (run_at b first.0) first.1 in
+    only_those begin d cd fault (port_served i (run_at b first.0)) (Ok (ports_served n (run_at a text)))
+    (subst (λ m. BeginsWith (ports_served m (run_at a text)).text (port_served i (run_at b first.0)).text) (sym e)
+    (subst (λ (x : Run). BeginsWith (ports_served (k + suc i) (run_at a text)).text (port_served i x).text) here (ports_more (suc i) k (run_at a text))))
+    (q begin first.0 first.2)
 
 -- the reply in front of a port
 
@@ -235,10 +244,18 @@ port_led p a b d ca cd r state left silent q = λ begin text printed.
     (q begin text (subst (λ k. Prints k begin ca text) (sym silent) printed))
 
 -- the device or memory failed
-pub device_failed : (f : Run → Course) (a b : Simulated) (ca cb : Option (List ℕ)) (fault : Fault) → (fault ≡ faults.Write) ⊎ (fault ≡ faults.OutOfMemory) → Leads f a ca b cb (Err fault)
-device_failed f a b ca cb faults.Write is = λ begin text printed. tt
-device_failed f a b ca cb faults.OutOfMemory is = λ begin text printed. tt
-device_failed f a b ca cb _ is = absurd (elim is as (λ _. ⊥) [ inl e ↦ cc | inr e ↦ cc ])
+pub device_failed : (f : Run → Course) (a b : Simulated) (ca cb : Option (List ℕ)) (fault : Fault) → Grows f → b.silent ≡ a.silent → (fault ≡ faults.OutOfMemory → cb ≡ ca) → (fault ≡ faults.Write) ⊎ (fault ≡ faults.OutOfMemory) → Leads f a ca b cb (Err fault)
+device_failed f a b ca cb faults.Write grows silent spared is = λ begin text printed. tt
+device_failed f a b ca cb faults.OutOfMemory grows silent spared is = λ begin text printed. (
+  text,
+  grows (run_at a text),
+  subst (λ n. Prints b.silent begin n text) (sym (spared refl)) (subst (λ k. Prints k begin ca text) (sym silent) printed),
+)
+device_failed f a b ca cb _ grows silent spared is = absurd (elim is as (λ _. ⊥) [ inl e ↦ cc | inr e ↦ cc ])
+
+-- the writer failed
+write_failed : (f : Run → Course) (a b : Simulated) (ca cb : Option (List ℕ)) (fault : Fault) → fault ≡ faults.Write → Leads f a ca b cb (Err fault)
+write_failed f a b ca cb fault is = λ begin text printed. subst (λ (e : Fault). ComesTo begin b cb (Err e) (f (run_at a text))) (sym is) tt
 
 -- a round
 
@@ -253,7 +270,7 @@ round_made config a text o some is =
 
 pub round_stopped : (config : Config) (a b : Simulated) (ca : Option (List ℕ)) (fault : Fault) → (a.left == 0) ≡ false → b.silent ≡ a.silent → IsCycleFault fault (channels_served config.geometry.channels (state_of a.world)) → Leads (round config) a ca b ca (Err fault)
 round_stopped config a b ca faults.ClockSpent some silent is = λ begin text printed. (text, round_made config a text None some is, subst (λ k. Prints k begin ca text) (sym silent) printed)
-round_stopped config a b ca faults.OutOfMemory some silent is = λ begin text printed. tt
+round_stopped config a b ca faults.OutOfMemory some silent is = λ begin text printed. (text, round_grows config (run_at a text), subst (λ k. Prints k begin ca text) (sym silent) printed)
 round_stopped config a b ca _ some silent is = absurd is
 
 pub round_led : (config : Config) (a b d : Simulated) (ca cd : Option (List ℕ)) (r : Result (Unit {0}) Fault) → (a.left == 0) ≡ false → channels_served config.geometry.channels (state_of a.world) ≡ Some (state_of b.world) → b.left ≡ a.left - 1 → b.silent ≡ a.silent
@@ -270,10 +287,10 @@ pub onward_turn : (f : Run → Course) (s : Simulated) (cs : Option (List ℕ)) 
 onward_turn f s cs g part h a b ca cb v turn p onward = λ d cd r q.
     onward d cd r (leads_same g (λ run. part run then h) a d ca cd r turn (leads_then part h a b d ca cb cd v r p q))
 
-pub onward_stop : (f : Run → Course) (s : Simulated) (cs : Option (List ℕ)) (g part h : Run → Course) (a b : Simulated) (ca cb : Option (List ℕ)) (fault : Fault) → ((text : List ℕ) → g (run_at a text) ≡ (part (run_at a text) then h)) → Leads part a ca b cb (Err fault)
+pub onward_stop : (f : Run → Course) (s : Simulated) (cs : Option (List ℕ)) (g part h : Run → Course) (a b : Simulated) (ca cb : Option (List ℕ)) (fault : Fault) → Grows h → ((text : List ℕ) → g (run_at a text) ≡ (part (run_at a text) then h)) → Leads part a ca b cb (Err fault)
     → Onward f s cs g a ca → Leads f s cs b cb (Err fault)
-onward_stop f s cs g part h a b ca cb fault turn p onward =
-    onward b cb (Err fault) (leads_same g (λ run. part run then h) a b ca cb (Err fault) turn (leads_stop part h a b ca cb fault p))
+onward_stop f s cs g part h a b ca cb fault grows turn p onward =
+    onward b cb (Err fault) (leads_same g (λ run. part run then h) a b ca cb (Err fault) turn (leads_stop part h a b ca cb fault grows p))
 
 pub onward_end : (f : Run → Course) (s : Simulated) (cs : Option (List ℕ)) (g : Run → Course) (a : Simulated) (ca : Option (List ℕ)) (v : Unit {0}) → ((text : List ℕ) → g (run_at a text) ≡ Ok (run_at a text)) → Onward f s cs g a ca → Leads f s cs a ca (Ok v)
 onward_end f s cs g a ca v same onward = onward a ca (Ok v) (leads_nowhere g a ca v same)
@@ -324,7 +341,7 @@ refused_aloud p asked a b ca cb cause said (Ok v) is state left silent aloud sam
   subst (λ k. Prints k begin cb (text ++ refused_text p cause)) (sym aloud)
       (Appends-trans begin ca cb text (refused_text p cause) (subst (λ k. Prints k begin ca text) (sym silent ∙ aloud) printed) (subst (Appends ca cb) same wrote)),
 )
-refused_aloud p asked a b ca cb cause said (Err fault) is state left silent aloud same wrote failed = device_failed (λ run. Ok (submitted p asked run)) a b ca cb fault (inl failed)
+refused_aloud p asked a b ca cb cause said (Err fault) is state left silent aloud same wrote failed = write_failed (λ run. Ok (submitted p asked run)) a b ca cb fault failed
 
 -- a run that goes on
 

@@ -1,6 +1,7 @@
 pub mod BodyLemmas
 pub mod CheckLemmas
 pub mod Courses
+pub mod Growth
 pub mod Inputs
 pub mod JobLemmas
 pub mod Lines

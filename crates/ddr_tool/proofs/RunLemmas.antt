@@ -14,8 +14,8 @@ use Rattle.ddr_tool.specs.Instructions.{AreRead, instructions_of}
 use Rattle.ddr_tool.specs.Rounds.{Course, Run}
 use Rattle.ddr_tool.specs.Runs.{begun, channel_text, run_of, whole, written_by}
 use Rattle.ddr_tool.specs.Script.{Instruction}
-use Rattle.ddr_tool.specs.Simulated.{ComesTo, Leads, Prints, Simulated, run_at}
-use Rattle.ddr_tool.specs.Sims.{AsksFor, HasSimFault, IsRun, NamesNoChannel, Says, has_channel}
+use Rattle.ddr_tool.specs.Simulated.{BeginsWith, printed_in, ComesTo, Leads, Prints, Simulated, run_at}
+use Rattle.ddr_tool.specs.Sims.{AsksFor, HasSimFault, IsBeginning, IsRun, NamesNoChannel, Says, has_channel}
 
 -- what was read and opened says what the body says
 pub said_by : (remaining : Option (List ℕ)) (items text profile : List ℕ) (sample : Bool) (trace : Option ℕ) (config : Config) (body : List ℕ) (said : Result (List Instruction) Fault) → IfSome remaining (λ bytes. items ≡ bytes) → text ≡ items → IsText items
@@ -47,7 +47,7 @@ names_no_channel (Some input) items text profile sample trace config body known 
 pub no_script : {X : Type 0} (view : X → List Instruction) (remaining : Option (List ℕ)) (profile : List ℕ) (sample : Bool) (trace : Option ℕ) (config : Config) (fault : Fault) (said : Result (List Instruction) Fault) (old : Option (List ℕ)) → AreRead view (Err fault) said
     → ((other : Result (List Instruction) Fault) → said ≡ other → IfSome remaining (λ input. Says sample profile trace input config other)) → IfSome remaining (λ input. HasSimFault sample profile trace input old old fault)
 no_script view None profile sample trace config fault said old is says = tt
-no_script view (Some input) profile sample trace config faults.OutOfMemory said old is says = tt
+no_script view (Some input) profile sample trace config faults.OutOfMemory said old is says = inl refl
 no_script view (Some input) profile sample trace config faults.ScriptLimit said old is says = inl ((config, says (Err faults.ScriptLimit) is), refl)
 no_script view (Some input) profile sample trace config (faults.ScriptLine line) said old is says = (config, says (Err (faults.ScriptLine line)) is)
 no_script view (Some input) profile sample trace config _ said old is says = absurd is
@@ -89,6 +89,10 @@ stop_written (Some c) silent old new fault text e printed =
     let same : new ≡ old = subst (λ b. Prints b old new text) e printed in
     subst (λ n. Appends old n []) (sym same) (Appends-nil old)
 
+beginning : (trace : Option ℕ) (silent : Bool) (old new : Option (List ℕ)) (text : List ℕ) (course : Course) → silent ≡ is_some trace → BeginsWith (printed_in course) text → Prints silent old new text → IsBeginning trace course old new
+beginning None silent old new text course e begins printed = (text, begins, subst (λ b. Prints b old new text) e printed)
+beginning (Some c) silent old new text course e begins printed = tt
+
 -- a run that a fault ended
 pub run_fault : (remaining : Option (List ℕ)) (profile : List ℕ) (sample : Bool) (trace : Option ℕ) (config : Config) (instructions : List Instruction) (sim : Simulated) (old new : Option (List ℕ)) (fault : Fault) → IfSome remaining (λ input. Says sample profile trace input config (Ok instructions))
     → sim.silent ≡ is_some trace → ComesTo old sim new (Err fault) (run_of config instructions) → IfSome remaining (λ input. HasSimFault sample profile trace input old new fault)
@@ -105,17 +109,36 @@ run_fault (Some input) profile sample trace config instructions sim old new faul
   fault_is = refl;
   written = stop_written trace sim.silent old new faults.ClockSpent is.0 silent is.2;
 }
-run_fault (Some input) profile sample trace config instructions sim old new faults.OutOfMemory says silent is = tt
+run_fault (Some input) profile sample trace config instructions sim old new faults.OutOfMemory says silent is = inr (record {
+  course = run_of config instructions;
+  asks = record { config = config; instructions = instructions; says = says; course_is = refl };
+  written = beginning trace sim.silent old new is.0 (run_of config instructions) silent is.1 is.2;
+})
 run_fault (Some input) profile sample trace config instructions sim old new faults.Write says silent is = (run_of config instructions, record { config = config; instructions = instructions; says = says; course_is = refl })
 run_fault (Some input) profile sample trace config instructions sim old new _ says silent is = absurd is
 
--- a run whose end was not written
-pub end_fault : (remaining : Option (List ℕ)) (profile : List ℕ) (sample : Bool) (trace : Option ℕ) (config : Config) (instructions : List Instruction) (old new : Option (List ℕ)) (fault : Fault) → IfSome remaining (λ input. Says sample profile trace input config (Ok instructions))
+-- a run whose end was not written: its replies, or its trace
+
+pub flush_fault : (remaining : Option (List ℕ)) (profile : List ℕ) (sample : Bool) (trace : Option ℕ) (config : Config) (instructions : List Instruction) (old new : Option (List ℕ)) (fault : Fault) → IfSome remaining (λ input. Says sample profile trace input config (Ok instructions))
+    → fault ≡ faults.Write → IfSome remaining (λ input. HasSimFault sample profile trace input old new fault)
+flush_fault None profile sample trace config instructions old new fault says is = tt
+flush_fault (Some input) profile sample trace config instructions old new fault says is =
+    subst (λ (f : Fault). HasSimFault sample profile trace input old new f) (sym is) (run_of config instructions, record { config = config; instructions = instructions; says = says; course_is = refl })
+
+unsaid : (trace : Option ℕ) (channel : ℕ) (course : Course) (old new : Option (List ℕ)) → trace ≡ Some channel → IsBeginning trace course old new
+unsaid None channel course old new e = absurd (let impossible = e in cc)
+unsaid (Some c) channel course old new e = tt
+
+pub end_fault : (remaining : Option (List ℕ)) (profile : List ℕ) (sample : Bool) (trace : Option ℕ) (channel : ℕ) (config : Config) (instructions : List Instruction) (old new : Option (List ℕ)) (fault : Fault) → trace ≡ Some channel → IfSome remaining (λ input. Says sample profile trace input config (Ok instructions))
     → (fault ≡ faults.Write) ⊎ (fault ≡ faults.OutOfMemory) → IfSome remaining (λ input. HasSimFault sample profile trace input old new fault)
-end_fault None profile sample trace config instructions old new fault says is = tt
-end_fault (Some input) profile sample trace config instructions old new faults.Write says is = (run_of config instructions, record { config = config; instructions = instructions; says = says; course_is = refl })
-end_fault (Some input) profile sample trace config instructions old new faults.OutOfMemory says is = tt
-end_fault (Some input) profile sample trace config instructions old new _ says is = absurd (elim is as (λ _. ⊥) [ inl e ↦ cc | inr e ↦ cc ])
+end_fault None profile sample trace channel config instructions old new fault some says is = tt
+end_fault (Some input) profile sample trace channel config instructions old new faults.Write some says is = (run_of config instructions, record { config = config; instructions = instructions; says = says; course_is = refl })
+end_fault (Some input) profile sample trace channel config instructions old new faults.OutOfMemory some says is = inr (record {
+  course = run_of config instructions;
+  asks = record { config = config; instructions = instructions; says = says; course_is = refl };
+  written = unsaid trace channel (run_of config instructions) old new some;
+})
+end_fault (Some input) profile sample trace channel config instructions old new _ some says is = absurd (elim is as (λ _. ⊥) [ inl e ↦ cc | inr e ↦ cc ])
 
 kept_as_appended : (b c : Option (List ℕ)) → Keeps b c → Appends b c []
 kept_as_appended None c q = tt

@@ -10,6 +10,7 @@ use Rattle.ddr_tool.specs.Instructions.{instructions_of}
 use Rattle.ddr_tool.specs.Rounds.{Run, Course, Stopped}
 use Rattle.ddr_tool.specs.Runs.{run_of, written_by}
 use Rattle.ddr_tool.specs.Script.{Instruction}
+use Rattle.ddr_tool.specs.Simulated.{BeginsWith, printed_in}
 
 -- the channel that is named, if one is, is there
 abbrev pub has_channel : Config → Option ℕ → Bool
@@ -61,9 +62,20 @@ pub record IsStopped (sample : Bool) (profile : List ℕ) (trace : Option ℕ) (
 abbrev pub AsksForRun : Bool → List ℕ → Option ℕ → List ℕ → Type 0
 AsksForRun sample profile trace input = (course : Course) × AsksFor sample profile trace input course
 
+-- what was written is what this run begins to print; of a trace that was cut short nothing is said
+abbrev pub IsBeginning : Option ℕ → Course → Option (List ℕ) → Option (List ℕ) → Type 0
+IsBeginning None course old new = (text : List ℕ) × BeginsWith (printed_in course) text × Appends old new text
+IsBeginning (Some channel) course old new = Unit {0}
+
+-- memory ran out in the run that the input asks for
+pub record IsCutShort (sample : Bool) (profile : List ℕ) (trace : Option ℕ) (input : List ℕ) (old new : Option (List ℕ)) : Type 0 where
+  pub course : Course
+  pub asks : AsksFor sample profile trace input course
+  pub written : IsBeginning trace course old new
+
 -- The input has the fault that a run ends by. Where the script has too many requests nothing is written, and where it needs
--- too many rounds what was printed in those that are made; where writing fails it asks for a run; and reading and memory
--- fail by themselves.
+-- too many rounds what was printed in those that are made; where memory runs out nothing is written, or what the run begins
+-- to print; where writing fails the input asks for a run; and reading fails by itself.
 abbrev pub HasSimFault : Bool → List ℕ → Option ℕ → List ℕ → Option (List ℕ) → Option (List ℕ) → Fault → Type 0
 HasSimFault sample profile trace input old new faults.TraceNoSuch = NamesNoChannel sample profile trace input
 HasSimFault sample profile trace input old new (faults.ScriptLine line) = IsNoScript sample profile trace input (faults.ScriptLine line)
@@ -72,5 +84,5 @@ HasSimFault sample profile trace input old new faults.ScriptLimit =
 HasSimFault sample profile trace input old new faults.ClockSpent = IsStopped sample profile trace input old new faults.ClockSpent
 HasSimFault sample profile trace input old new faults.Write = AsksForRun sample profile trace input
 HasSimFault sample profile trace input old new faults.Read = Unit {0}
-HasSimFault sample profile trace input old new faults.OutOfMemory = Unit {0}
+HasSimFault sample profile trace input old new faults.OutOfMemory = (new ≡ old) ⊎ IsCutShort sample profile trace input old new
 HasSimFault sample profile trace input old new fault = HasInputFault sample profile input fault

@@ -1,5 +1,5 @@
 -- What contracts see of a simulation, and how its calls lead along a run.
-use Rattle.std.specs.Prelude.{◌≡◌, ◌+◌, ◌≤◌, ℕ, Bool, true, false, List, Option, Some, None, Result, Ok, Err}
+use Rattle.std.specs.Prelude.{◌≡◌, ◌+◌, ◌≤◌, ℕ, Bool, true, false, List, ◌++◌, Option, Some, None, Result, Ok, Err}
 use Rattle.std.specs.Io.KnownBytes.{Appends}
 use Rattle.ddr_timing.specs.declared.config.Config.{Config}
 use Rattle.ddr_world.specs.Events.{Event, Submit, Take, Deliver, Collect}
@@ -66,14 +66,24 @@ abbrev pub IsFrontPrinted : ℕ → Option Answer → Bool → Option (List ℕ)
 IsFrontPrinted port None silent before after there = (there ≡ false) × (after ≡ before)
 IsFrontPrinted port (Some a) silent before after there = (there ≡ true) × Prints silent before after (reply_text port a)
 
--- a part of a run came to this, which printed the bytes since `begin`; or a fault of the input or of a clock ended it
+-- what was printed in a run, whether it goes on or was stopped
+abbrev pub printed_in : Course → List ℕ
+printed_in (Ok run) = run.text
+printed_in (Err stop) = stop.text
+
+-- the text begins so
+abbrev pub BeginsWith : List ℕ → List ℕ → Type 0
+BeginsWith text front = (rest : List ℕ) × (text ≡ front ++ rest)
+
+-- a part of a run came to this, which printed the bytes since `begin`; or a fault of the input or of a clock ended it; or
+-- memory ran out, and what was printed by then is what the run begins to print
 abbrev pub ComesTo : Option (List ℕ) → Simulated → Option (List ℕ) → Result (Unit {0}) Fault → Course → Type 0
 ComesTo begin sim now (Ok _) course = (text : List ℕ) × (course ≡ Ok (run_at sim text)) × Prints sim.silent begin now text
 ComesTo begin sim now (Err faults.ScriptLimit) course =
     (text : List ℕ) × (course ≡ Err (record { fault = faults.ScriptLimit; text = text })) × Prints sim.silent begin now text
 ComesTo begin sim now (Err faults.ClockSpent) course =
     (text : List ℕ) × (course ≡ Err (record { fault = faults.ClockSpent; text = text })) × Prints sim.silent begin now text
-ComesTo begin sim now (Err faults.OutOfMemory) course = Unit {0}
+ComesTo begin sim now (Err faults.OutOfMemory) course = (text : List ℕ) × BeginsWith (printed_in course) text × Prints sim.silent begin now text
 ComesTo begin sim now (Err faults.Write) course = Unit {0}
 ComesTo begin sim now (Err _) course = ⊥
 

@@ -272,6 +272,7 @@ impl Simulation {
     /// Prints the reply in front of a port, if there is one, and tells whether there was.
     fn print_front<W: Write>(&self, alloc: Global, port: u32, writer: &mut W) -> Result<bool, Fault>
         ensures printed { IfOk result (IsFrontPrinted port (front_of (state_of self.now.world) port) self.now.silent (W.contents writer.old) (W.contents writer.new)) }
+        ensures spared { IfErr result (λ fault. fault ≡ Fault.OutOfMemory → W.contents writer.new ≡ W.contents writer.old) }
         ensures fault { IfErr result (λ fault. (fault ≡ Fault.Write) ⊎ (fault ≡ Fault.OutOfMemory)) }
     {
         let Some(reply) = self.world.front(port) else {

@@ -1,12 +1,12 @@
 -- The input asks for what was run, or its fault is the one that is told.
-use Rattle.std.proofs.Common.{Ok, Err, inl, List, Vec, Global, map, ap, sym, subst, ◌∙◌}
+use Rattle.std.proofs.Common.{Ok, Err, List, Vec, Global, map, ap, sym, subst, ◌∙◌}
 use Rattle.std.proofs.lemmas.Result.{err_from_is_err_and}
 use Rattle.ddr_timing.specs.declared.profile.TheConstants.{PROFILE_S}
 use Rattle.ddr_tool.specs.Input.{IsText}
 use Rattle.ddr_tool.specs.Instructions.{instructions_of}
 use Rattle.ddr_tool.specs.declared.script.Instruction as kept
 use Rattle.ddr_tool.specs.Script.{view}
-use Rattle.ddr_tool.proofs.RunLemmas.{came_to, end_fault, late_untouched, names_no_channel, no_script, replies_written, run_fault, said_by, trace_written}
+use Rattle.ddr_tool.proofs.RunLemmas.{came_to, end_fault, flush_fault, late_untouched, names_no_channel, no_script, replies_written, run_fault, said_by, trace_written}
 use Rattle.ddr_tool.proofs.sim.sim.Goals.{in-None+in_ok-flush-in-None, in-Some+in_ok-write_trace-in-Some}
 use Rattle.ddr_tool.proofs.sim.sim.Goals as goal
 
@@ -64,7 +64,7 @@ returns-in_err-flush-in-None-clause-fault g c =
     let mid = g.W.Write.contents c.run.new.writer in
     let silent = c.run.ensures.silent ∙ c.in_ok-simulation.ensures.silent ∙ c.is_some.ensures in
     let p = err_from_is_err_and c.from_residual-in_err-flush-in-None.result c.from_residual-in_err-flush-in-None.ensures.1 in
-    rw (p.1, p.2) (end_fault (g.R.Read.remaining c.args.reader.now) PROFILE_S.now c.args.sample c.args.trace config (map view items) old (g.W.Write.contents c.flush.new.writer) c.in_err-flush-in-None.field-0.0 said (inl c.in_err-flush-in-None.ensures.refused))
+    rw (p.1, p.2) (flush_fault (g.R.Read.remaining c.args.reader.now) PROFILE_S.now c.args.sample c.args.trace config (map view items) old (g.W.Write.contents c.flush.new.writer) c.in_err-flush-in-None.field-0.0 said c.in_err-flush-in-None.ensures.refused)
 
 pub returns-in_err-write_trace-in-Some-clause-fault : goal.returns-in_err-write_trace-in-Some-clause-fault
 returns-in_err-write_trace-in-Some-clause-fault g c =
@@ -79,7 +79,7 @@ returns-in_err-write_trace-in-Some-clause-fault g c =
     let mid = g.W.Write.contents c.run.new.writer in
     let silent = c.run.ensures.silent ∙ c.in_ok-simulation.ensures.silent ∙ c.is_some.ensures in
     let p = err_from_is_err_and c.from_residual-in_err-write_trace-in-Some.result c.from_residual-in_err-write_trace-in-Some.ensures.1 in
-    rw (p.1, p.2) (end_fault (g.R.Read.remaining c.args.reader.now) PROFILE_S.now c.args.sample c.args.trace config (map view items) old (g.W.Write.contents c.write_trace.new.writer) c.in_err-write_trace-in-Some.field-0.0 said c.in_err-write_trace-in-Some.ensures.fault)
+    rw (p.1, p.2) (end_fault (g.R.Read.remaining c.args.reader.now) PROFILE_S.now c.args.sample c.args.trace c.in-Some.channel config (map view items) old (g.W.Write.contents c.write_trace.new.writer) c.in_err-write_trace-in-Some.field-0.0 c.in-Some.is said c.in_err-write_trace-in-Some.ensures.fault)
 
 pub returns-clause-written : goal.returns-clause-written
 returns-clause-written g c =

@@ -7,6 +7,7 @@ use Rattle.ddr_tool.specs.Rounds.{round}
 use Rattle.ddr_tool.specs.Runs.{drained}
 use Rattle.ddr_tool.specs.Simulated.{Leads, run_at}
 use Rattle.ddr_tool.proofs.Courses.{drain_turn, drained_end, drained_turn, onward_end, onward_stop, onward_turn, same_on}
+use Rattle.ddr_tool.proofs.Growth.{drained_grows}
 use Rattle.ddr_tool.proofs.simulation.Simulation.drain.Goals as goal
 
 pub rounds-preserved : goal.rounds-preserved
@@ -33,7 +34,7 @@ returns-in_err-round-clause-leads g c =
     let kept = c.rounds.invariant in
     let busy = sym c.is_idle.ensures ∙ c.rounds-test.true in
     let p = err_from_is_err_and c.from_residual.result c.from_residual.ensures.1 in
-    rw (p.1, p.2) (onward_stop (drained config c.args.self.now.left) c.args.self.now (contents c.args.writer.now) (drained config now.left) (round config) (drained config (now.left - 1)) now next (contents c.rounds.writer) (contents c.round.new.writer) c.in_err-round.field-0.0
+    rw (p.1, p.2) (onward_stop (drained config c.args.self.now.left) c.args.self.now (contents c.args.writer.now) (drained config now.left) (round config) (drained config (now.left - 1)) now next (contents c.rounds.writer) (contents c.round.new.writer) c.in_err-round.field-0.0 (drained_grows config (now.left - 1))
     (λ text. drained_turn config now.left (state_of now.world) text busy)
     (subst (λ (k : Config). Leads (round k) now (contents c.rounds.writer) next (contents c.round.new.writer) (Err c.in_err-round.field-0.0)) kept.same.config c.in_err-round.ensures.leads) kept.onward)
 

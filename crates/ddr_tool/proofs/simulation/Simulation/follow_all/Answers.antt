@@ -6,6 +6,7 @@ use Rattle.ddr_tool.specs.Runs.{all_followed, followed}
 use Rattle.ddr_tool.specs.Script.{view}
 use Rattle.ddr_tool.specs.Simulated.{Leads, run_at}
 use Rattle.ddr_tool.proofs.Courses.{followed_end, followed_turn, onward_end, onward_stop, onward_turn}
+use Rattle.ddr_tool.proofs.Growth.{all_followed_grow}
 use Rattle.ddr_tool.proofs.simulation.Simulation.follow_all.Goals as goal
 
 pub loop-instruction-preserved : goal.loop-instruction-preserved
@@ -38,7 +39,7 @@ returns-in_err-follow-clause-leads g c =
     let x = c.instruction-item.result in
     let next = c.follow.new.self in
     let p = err_from_is_err_and c.from_residual.result c.from_residual.ensures.1 in
-    rw (p.1, p.2) (onward_stop (all_followed config (map view xs)) c.args.self.now (contents c.args.writer.now) (all_followed config (map view (drop i xs))) (followed config (view x)) (all_followed config (map view (drop (i + 1) xs))) now next (contents c.loop-instruction.writer) (contents c.follow.new.writer) c.in_err-follow.field-0.0
+    rw (p.1, p.2) (onward_stop (all_followed config (map view xs)) c.args.self.now (contents c.args.writer.now) (all_followed config (map view (drop i xs))) (followed config (view x)) (all_followed config (map view (drop (i + 1) xs))) now next (contents c.loop-instruction.writer) (contents c.follow.new.writer) c.in_err-follow.field-0.0 (all_followed_grow config (map view (drop (i + 1) xs)))
     (λ text. followed_turn config xs i x (run_at now text) c.loop-instruction-test.true c.instruction-item.is)
     (subst (λ (k : Config). Leads (followed k (view x)) now (contents c.loop-instruction.writer) next (contents c.follow.new.writer) (Err c.in_err-follow.field-0.0)) kept.config c.in_err-follow.ensures.leads) kept.onward)
 

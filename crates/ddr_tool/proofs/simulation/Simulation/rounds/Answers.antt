@@ -5,6 +5,7 @@ use Rattle.ddr_timing.specs.declared.config.Config.{Config}
 use Rattle.ddr_tool.specs.Rounds.{round, rounds}
 use Rattle.ddr_tool.specs.Simulated.{Leads, run_at}
 use Rattle.ddr_tool.proofs.Courses.{onward_end, onward_stop, onward_turn, rounds_end, rounds_turn, same_on}
+use Rattle.ddr_tool.proofs.Growth.{rounds_grow}
 use Rattle.ddr_tool.proofs.simulation.Simulation.rounds.Goals as goal
 
 pub loop-made-preserved : goal.loop-made-preserved
@@ -33,7 +34,7 @@ returns-in_err-round-clause-leads g c =
     let n = c.args.count - c.loop-made._made in
     let m = c.args.count - (c.loop-made._made + 1) in
     let p = err_from_is_err_and c.from_residual.result c.from_residual.ensures.1 in
-    rw (p.1, p.2) (onward_stop (rounds config c.args.count) c.args.self.now (contents c.args.writer.now) (rounds config n) (round config) (rounds config m) now next (contents c.loop-made.writer) (contents c.round.new.writer) c.in_err-round.field-0.0
+    rw (p.1, p.2) (onward_stop (rounds config c.args.count) c.args.self.now (contents c.args.writer.now) (rounds config n) (round config) (rounds config m) now next (contents c.loop-made.writer) (contents c.round.new.writer) c.in_err-round.field-0.0 (rounds_grow config m)
     (λ text. rounds_turn config n m (run_at now text) (omega (arith, c.loop-made-test.true)))
     (subst (λ (k : Config). Leads (round k) now (contents c.loop-made.writer) next (contents c.round.new.writer) (Err c.in_err-round.field-0.0)) kept.same.config c.in_err-round.ensures.leads) kept.onward)
 

@@ -1,8 +1,12 @@
 -- The replies in front of a port, one after another.
-use Rattle.std.proofs.Common.{Ok, arith, refl, ◌∙◌}
+use Rattle.std.proofs.Common.{Ok, Err, arith, refl, ◌∙◌}
+use Rattle.std.proofs.lemmas.Result.{err_from_is_err_and}
 use Rattle.ddr_world.specs.History.{front_of}
 use Rattle.ddr_world.specs.Kept.{state_of}
-use Rattle.ddr_tool.proofs.Courses.{front_answered, front_fewer, no_replies, port_led, printed_none, printed_there, replies_of, reply_more, same_on}
+use Rattle.ddr_world.specs.Events.{Release}
+use Rattle.ddr_tool.specs.Rounds.{items_of}
+use Rattle.ddr_tool.proofs.Growth.{replied_grows}
+use Rattle.ddr_tool.proofs.Courses.{device_failed, front_answered, front_fewer, no_replies, port_led, printed_none, printed_there, replies_of, reply_more, same_on}
 use Rattle.ddr_tool.proofs.simulation.Simulation.serve_port.Goals as goal
 
 pub replies-init : goal.replies-init
@@ -44,3 +48,12 @@ returns-clause-leads g c =
     let none = printed_none c.args.port front now.silent c.in_ok-print_front.field-0 (contents c.replies.writer) (contents c.print_front.new.writer) c.if-branch.false c.in_ok-print_front.ensures.printed in
     let last = no_replies c.args.port now (contents c.replies.writer) tt none.0 in
     rw none.1 (port_led c.args.port c.args.self.now c.repeat.new.self now (contents c.args.writer.now) (contents c.replies.writer) (Ok tt) c.repeat.ensures.state c.repeat.ensures.left c.repeat.ensures.same.silent (kept.onward now (contents c.replies.writer) (Ok tt) last))
+
+pub returns-in_err-print_front-clause-leads : goal.returns-in_err-print_front-clause-leads
+returns-in_err-print_front-clause-leads g c =
+    let contents = g.W.Write.contents in
+    let now = c.replies.self in
+    let fault = c.in_err-print_front.field-0.0 in
+    let p = err_from_is_err_and c.from_residual.result c.from_residual.ensures.1 in
+    let failed = device_failed (replies_of c.args.port) now now (contents c.replies.writer) (contents c.print_front.new.writer) fault (λ run. replied_grows (items_of run.state (Release c.args.port)) c.args.port run) refl c.in_err-print_front.ensures.spared c.in_err-print_front.ensures.fault in
+    rw (p.1, p.2) (port_led c.args.port c.args.self.now c.repeat.new.self now (contents c.args.writer.now) (contents c.print_front.new.writer) (Err fault) c.repeat.ensures.state c.repeat.ensures.left c.repeat.ensures.same.silent (c.replies.invariant.onward now (contents c.print_front.new.writer) (Err fault) failed))
