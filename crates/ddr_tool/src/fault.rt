@@ -34,7 +34,7 @@ pub enum Fault {
     /// No line of the input is `---`, which ends the configuration.
     #[error("input has no ---")]
     InputHasNoMark,
-    /// A line of the script is of no form that is read, or asks for what is not served. Lines count from 1,
+    /// A line of the script is of no form that is read, or names a port that is not there. Lines count from 1,
     /// skipped ones too.
     #[error("script line {line}")]
     ScriptLine { line: u64 },
@@ -59,7 +59,7 @@ pub enum Fault {
     /// A trace is asked for of a channel that is not there.
     #[error("trace NoSuch")]
     TraceNoSuch,
-    /// The script needs more rounds than are made.
+    /// The script has more requests than are taken, or needs more rounds than are made.
     #[error("script limit")]
     ScriptLimit,
     #[error("read failed")]

@@ -12,10 +12,13 @@ No words at all mean `ddr sim --sample`.";
 /// Behind the help of `sim`.
 pub const SIM: &str = "\
 Input: a configuration, a line `---` and a script; with --sample the script alone.
-  A script has a request on each line: `read PORT ADDR LEN`, or `write PORT ADDR HEX`
-  with two digits for each byte. Empty lines and lines that begin with # are skipped.
-Output: a line for each request, in their order: `PORT NUMBER write ADDR`, or
-  `PORT NUMBER read ADDR HEX`. With --trace the commands of that channel in their place.
+  A script has one of these on each line: `read PORT ADDR LEN`, `write PORT ADDR HEX`
+  with two digits for each byte, `mask PORT ADDR ENABLE HEX` with sixteen digits and the
+  64 bytes of a line, or `cycle N`, which makes N rounds. Empty lines and lines that
+  begin with # are skipped.
+Output: a line for each reply, when it comes: `PORT NUMBER write ADDR`, or
+  `PORT NUMBER read ADDR HEX`; and `refused PORT NAME` for a request that is not taken.
+  With --trace the commands of that channel in their place.
 Status: 0; 2 for a bad input or command line; 3 where the device, the memory or the
   clock fails.
 

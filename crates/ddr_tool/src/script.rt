@@ -1,6 +1,6 @@
 //! The lines of a script.
 //!
-//! Nothing of the program stands below, and `ddr_trace` reads the numbers. A line that does something has an
+//! Nothing of the program stands below, and `ddr_trace` reads the numbers. A line that does something is an
 //! instruction: a word and its fields, with one or more spaces between two. Other lines are empty, or comments, which
 //! begin with `#`.
 ghost use Rattle.std.specs.Prelude.{◌≡◌, ◌≤◌, ◌<◌, IfOk, map, vec_len};
@@ -55,7 +55,7 @@ pub enum Instruction {
 /// Why a line was not read.
 #[derive(Clone, Copy, Debug, PartialEq, Eq)]
 pub enum LineError {
-    /// The line is at fault: it is of no form that is read, or asks for what is not served.
+    /// The line is at fault: it is of no form that is read, or names a port that is not there.
     AtFault,
     OutOfMemory,
 }
