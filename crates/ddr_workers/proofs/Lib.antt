@@ -1,7 +1,10 @@
+pub mod ChangedLemmas
 pub mod CompletionLemmas
 pub mod ItemLemmas
 pub mod JoinLemmas
 pub mod LawLemmas
+pub mod PortLemmas
+pub mod ReplyLemmas
 pub mod RequestLemmas
 pub mod SideLemmas
 pub mod StepLemmas

@@ -10,6 +10,8 @@ pub mod completions;
 mod error;
 mod lane;
 mod law;
+pub mod port;
+pub mod refusal;
 pub mod requests;
 #[cfg(test)]
 mod testing;
