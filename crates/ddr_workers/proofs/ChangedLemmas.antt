@@ -28,7 +28,7 @@ module _ {X : Type 0} (change : X → X) where
   set_behind place x xs (Some y) = refl
   set_behind place x xs None = refl
 
-  changed_behind : (place : ℕ) (x : X) (xs : List X) → changed_at (suc place) change (x ∷ xs) ≡ x ∷ changed_at place change xs
+  pub changed_behind : (place : ℕ) (x : X) (xs : List X) → changed_at (suc place) change (x ∷ xs) ≡ x ∷ changed_at place change xs
   changed_behind place x xs = set_behind place x xs (slice_get xs place)
 
   pub changed_get : (place : ℕ) (xs : List X) (k : ℕ) → slice_get (changed_at place change xs) k ≡ option_map (changed_if place k) (slice_get xs k)

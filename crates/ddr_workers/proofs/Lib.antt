@@ -1,12 +1,15 @@
 pub mod ChangedLemmas
 pub mod CompletionLemmas
+pub mod EndLemmas
 pub mod ItemLemmas
 pub mod JoinLemmas
 pub mod LawLemmas
 pub mod PortLemmas
 pub mod ReplyLemmas
 pub mod RequestLemmas
+pub mod SentLemmas
 pub mod SideLemmas
 pub mod StepLemmas
 pub mod TotalLemmas
 pub mod TwoSideLemmas
+pub mod WorkerLemmas

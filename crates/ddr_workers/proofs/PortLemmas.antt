@@ -89,18 +89,18 @@ whole_submitted s asked r k sides channel whole working is sound pushed =
     let new : Outstanding = record { number = s.core.reorder.next; echo = echo_of asked; line = None } in
     let dones = s.completions.took in
     let whole' : IsSound (core.after_prepare s.core asked).reorder → IsWhole (record s { core = core.after_prepare s.core asked; requests = changed_at channel (λ side. after_push side (Request r)) s.requests }) =
-        λ sound'. record {
-          channels = length-changed (λ (side : Side). after_push side (Request r)) channel s.requests ∙ whole.channels;
-          few = whole.few;
-          sides = sides_pushed s channel r whole;
-          ended = whole.ended;
-          unfinished = whole.unfinished;
-          counted = omega (arith, whole.counted, length-append os (new ∷ []));
-          sound = sound';
-          ready = All-push (IsReady dones) os new whole.ready tt;
-          awaited = λ w. All-push (IsAwaited dones) os new (whole.awaited w) (λ none. whole.fresh w s.core.reorder.next (omega arith));
-          fresh = λ w number above. whole.fresh w number (omega (arith, above));
-        } in
+    λ sound'. record {
+      channels = length-changed (λ (side : Side). after_push side (Request r)) channel s.requests ∙ whole.channels;
+      few = whole.few;
+      sides = sides_pushed s channel r whole;
+      ended = whole.ended;
+      unfinished = whole.unfinished;
+      counted = omega (arith, whole.counted, length-append os (new ∷ []));
+      sound = sound';
+      ready = All-push (IsReady dones) os new whole.ready tt;
+      awaited = λ w. All-push (IsAwaited dones) os new (whole.awaited w) (λ none. whole.fresh w s.core.reorder.next (omega arith));
+      fresh = λ w number above. whole.fresh w number (omega (arith, above));
+    } in
     subst (λ xs. IsWhole (record s { core = k; requests = xs })) (sym pushed)
     (subst (λ (c : core.PortState). IsSound c.reorder → IsWhole (record s { core = c; requests = changed_at channel (λ side. after_push side (Request r)) s.requests })) (sym is) whole' sound)
 
@@ -131,18 +131,18 @@ whole_filled s d k side whole working awaited is sound popped =
     let once = awaited_once d.number d.echo (s.core.reorder.next - length os) os whole.sound.numbers awaited in
     let under : d.number < s.core.reorder.next = omega (arith, once.under, whole.sound.begun) in
     let whole' : IsSound (core.after_fill d s.core).reorder → IsWhole (record s { core = core.after_fill d s.core; completions = after_pop s.completions d }) =
-        λ sound'. record {
-          channels = whole.channels;
-          few = whole.few;
-          sides = whole.sides;
-          ended = whole.ended;
-          unfinished = whole.unfinished;
-          counted = omega (arith, whole.counted, length-map os (filled d.number d.line));
-          sound = sound';
-          ready = all_ready_filled dones d os whole.ready (whole.awaited working) once.it;
-          awaited = λ w. all_awaited_filled dones d os (whole.awaited w);
-          fresh = λ w number above. first_other number dones d (λ same. omega (arith, same, above, under)) (whole.fresh w number above);
-        } in
+    λ sound'. record {
+      channels = whole.channels;
+      few = whole.few;
+      sides = whole.sides;
+      ended = whole.ended;
+      unfinished = whole.unfinished;
+      counted = omega (arith, whole.counted, length-map os (filled d.number d.line));
+      sound = sound';
+      ready = all_ready_filled dones d os whole.ready (whole.awaited working) once.it;
+      awaited = λ w. all_awaited_filled dones d os (whole.awaited w);
+      fresh = λ w number above. first_other number dones d (λ same. omega (arith, same, above, under)) (whole.fresh w number above);
+    } in
     subst (λ t. IsWhole (record s { core = k; completions = t })) (sym popped)
     (subst (λ (c : core.PortState). IsSound c.reorder → IsWhole (record s { core = c; completions = after_pop s.completions d })) (sym is) whole' sound)
 
@@ -171,18 +171,18 @@ whole_released s k whole some is sound =
     let os = s.core.reorder.outstanding in
     let dones = s.completions.took in
     let whole' : IsSound (core.after_release s.core).reorder → IsWhole (record s { core = core.after_release s.core; taken = s.taken + 1 }) =
-        λ sound'. record {
-          channels = whole.channels;
-          few = whole.few;
-          sides = whole.sides;
-          ended = whole.ended;
-          unfinished = whole.unfinished;
-          counted = omega (arith, whole.counted, length-drop 1 os, some);
-          sound = sound';
-          ready = All-drop (IsReady dones) 1 os whole.ready;
-          awaited = λ w. All-drop (IsAwaited dones) 1 os (whole.awaited w);
-          fresh = whole.fresh;
-        } in
+    λ sound'. record {
+      channels = whole.channels;
+      few = whole.few;
+      sides = whole.sides;
+      ended = whole.ended;
+      unfinished = whole.unfinished;
+      counted = omega (arith, whole.counted, length-drop 1 os, some);
+      sound = sound';
+      ready = All-drop (IsReady dones) 1 os whole.ready;
+      awaited = λ w. All-drop (IsAwaited dones) 1 os (whole.awaited w);
+      fresh = whole.fresh;
+    } in
     subst (λ (c : core.PortState). IsSound c.reorder → IsWhole (record s { core = c; taken = s.taken + 1 })) (sym is) whole' sound
 
 -- a reply in front is that of an outstanding number

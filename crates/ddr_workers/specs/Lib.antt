@@ -5,3 +5,5 @@ pub mod Port
 pub mod PortView
 pub mod Requests
 pub mod Sides
+pub mod Worker
+pub mod WorkerView

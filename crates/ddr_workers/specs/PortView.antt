@@ -34,6 +34,7 @@ pub record IsSideTo (port : ℕ) (geometry : Geometry) (ended : ℕ) (channel : 
 -- what stands ready for a number is the reply of the first completion with it
 abbrev pub IsReady : List Completion → Outstanding → Type 0
 IsReady dones o = IfSome (answer_of o) (λ answer. option_map reply_of (first_with answer.number dones) ≡ Some answer)
+
 -- no completion has come for a number that is waited for
 abbrev pub IsAwaited : List Completion → Outstanding → Type 0
 IsAwaited dones o = o.line ≡ None → first_with o.number dones ≡ None

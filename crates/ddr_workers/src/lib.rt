@@ -8,6 +8,7 @@
 
 pub mod completions;
 mod error;
+pub mod gate;
 mod lane;
 mod law;
 pub mod port;
@@ -15,5 +16,6 @@ pub mod refusal;
 pub mod requests;
 #[cfg(test)]
 mod testing;
+pub mod worker;
 
 pub use error::OpenError;
