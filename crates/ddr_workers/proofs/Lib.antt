@@ -3,7 +3,9 @@ pub mod CompletionLemmas
 pub mod EndLemmas
 pub mod ItemLemmas
 pub mod JoinLemmas
+pub mod LaneLemmas
 pub mod LawLemmas
+pub mod OpenLemmas
 pub mod PortLemmas
 pub mod ReplyLemmas
 pub mod RequestLemmas

@@ -1,10 +1,10 @@
 -- What each step of a turn keeps.
-use Rattle.std.proofs.Common.{◌≡◌, ℕ, ◌+◌, ◌<◌, Bool, true, false, cond, eqb, List, [], ◌∷◌, ◌++◌, All, length, map, take, Option, Some, None, IfSome, is_some, Result, Ok, Err, IsTrue, ◌↔◌, slice_get, get_or, set, refl, sym, ap, ap₂, ◌∙◌, subst, arith}
+use Rattle.std.proofs.Common.{◌≡◌, ℕ, zero, suc, replicate, ◌+◌, ◌<◌, Bool, true, false, cond, eqb, List, [], ◌∷◌, ◌++◌, All, length, map, take, Option, Some, None, IfSome, is_some, Result, Ok, Err, IsTrue, ◌↔◌, slice_get, get_or, set, refl, sym, ap, ap₂, ◌∙◌, subst, arith}
 use Rattle.std.specs.Option.{option_to_list}
 use Rattle.std.specs.Result.{IsOk, IsErr, IsErrOf, OnOk, OnErr}
 use Rattle.std.proofs.lemmas.Bool.{false≢true}
 use Rattle.std.proofs.lemmas.List.{length-set}
-use Rattle.std.proofs.lemmas.List.Elements.{All-push}
+use Rattle.std.proofs.lemmas.List.Elements.{All-push, All-nil}
 use Rattle.std.proofs.lemmas.List.Sums.{fold-append}
 use Rattle.ddr_timing.specs.declared.config.Config.{Config}
 use Rattle.ddr_timing.specs.declared.geometry.Geometry.{Geometry}
@@ -32,10 +32,11 @@ use Rattle.ddr_workers.specs.declared.requests.Item.{Item}
 use Rattle.ddr_workers.specs.declared.requests.Item.TheVariants.{Request, End}
 use Rattle.ddr_workers.specs.declared.requests.Route.{Route}
 use Rattle.ddr_workers.specs.declared.worker.Cause.TheVariants.{OutOfMemory}
+use Rattle.ddr_workers.specs.Open.{IsNewDonePut}
 use Rattle.ddr_workers.specs.Requests.{IsNext, has_end, of_port}
 use Rattle.ddr_workers.specs.Sides as sides
 use Rattle.ddr_workers.specs.Sides.{PutSide, TakeSide, after_push, after_full, changed_at}
-use Rattle.ddr_workers.specs.Worker.{WorkerState, AreSent, IsSameWorker, cause_of, requests_of}
+use Rattle.ddr_workers.specs.Worker.{WorkerState, AreSent, IsSameWorker, cause_of, requests_of, to_port}
 use Rattle.ddr_workers.specs.WorkerView.{IsSideOf, IsTaken, IsGiven, StandsAt, IsWhole, history_of}
 use Rattle.ddr_workers.proofs.ChangedLemmas.{length-changed, each_changed}
 use Rattle.ddr_workers.proofs.SentLemmas.{first_as_list, map-changed, sent_held, sent_pushed, sent_full, given, requests_last, requests_ended, ends_asked, noted_ended, in_range_of}
@@ -322,3 +323,38 @@ idle_after k k' (Ok x) e is none idle memory nothing = cc
 idle_after k k' (Err cycle.ClockSpent) cycle.ClockSpent is none idle memory nothing = cc
 idle_after k k' (Err cycle.ClockSpent) cycle.OutOfMemory is none idle memory nothing = cc
 idle_after k k' (Err cycle.OutOfMemory) e is none idle memory nothing = idle (ap (λ (s : State). choice_of (at_choice s)) (sym none) ∙ nothing) refl
+
+-- before the first turn
+
+get_or-replicate : (n k : ℕ) → get_or (replicate n false) k false ≡ false
+get_or-replicate zero k = refl
+get_or-replicate (suc n) zero = refl
+get_or-replicate (suc n) (suc k) = get_or-replicate n k
+
+length-replicate : {X : Type 0} (n : ℕ) (x : X) → length (replicate n x) ≡ n
+length-replicate zero x = refl
+length-replicate (suc n) x = ap suc (length-replicate n x)
+
+pub whole_opened : (w : WorkerState) (config : Config) → w.channel.config ≡ config → StandsFor w.channel [] → w.requests.who.queue.purpose ≡ record { geometry = config.geometry; channel = w.number } → w.requests.who.count ≡ length w.completions
+    → w.requests.took ≡ [] → ((p : ℕ) (side : Side) → slice_get w.completions p ≡ Some side → IsNewDonePut config.geometry w.number p side) → w.held ≡ None → w.noted ≡ replicate (length w.completions) false → IsWhole w
+whole_opened w config same stands route ports took new held noted = record {
+  calls = [];
+  at_work = record {
+    stands = stands;
+    admitted = sym (ap requests_of took);
+    sent = record {
+      sent = λ p side there. sym (ap (λ xs. xs ++ to_port p (option_to_list w.held)) (new p side there).put ∙ ap (λ o. to_port p (option_to_list o)) held);
+      ports = All-nil (λ (d : Completion). d.port < length w.completions);
+    };
+  };
+  route = route ∙ ap (λ (c : Config). record { geometry = c.geometry; channel = w.number }) (sym same);
+  ports = ports;
+  sides = λ p side there. record {
+    source = (new p side there).source;
+    delivery = (new p side there).delivery ∙ ap (λ (c : Config). record { geometry = c.geometry; port = p }) (sym same);
+  };
+  taken = subst (λ xs. All (IsTaken w.requests.who.queue.purpose (length w.completions)) (requests_of xs)) (sym took) (All-nil (IsTaken w.requests.who.queue.purpose (length w.completions)));
+  held = subst (λ o. IfSome o (IsGiven w.requests.who.queue.purpose (length w.completions))) (sym held) tt;
+  noted_ports = ap length noted ∙ length-replicate (length w.completions) false;
+  noted = λ p below. ap (λ bs. get_or bs p false) noted ∙ get_or-replicate (length w.completions) p ∙ sym (ap (λ xs. has_end (of_port p xs)) took);
+}

@@ -1,4 +1,5 @@
 pub mod Completions
+pub mod Lanes
 pub mod Law
 pub mod Open
 pub mod Port

@@ -14,8 +14,10 @@ mod law;
 pub mod port;
 pub mod refusal;
 pub mod requests;
+mod system;
 #[cfg(test)]
 mod testing;
 pub mod worker;
 
 pub use error::OpenError;
+pub use system::open;

@@ -3,7 +3,7 @@
 //!
 //! Below stand `Channel` and the queues. A turn has five steps: the gate is asked; a completion is pushed; an item is
 //! taken; the channel makes a cycle; and the worker ends where nothing is left to do.
-ghost use Rattle.std.specs.Prelude.{◌≡◌, ◌<◌, ◌↔◌, true, false, length, All, [], None, Some, IfErr, IfNone, IfOk, IfSome, IsTrue, OnErr, OnOk, slice_get};
+ghost use Rattle.std.specs.Prelude.{◌≡◌, ℕ, ◌<◌, ◌↔◌, true, false, length, All, [], None, Some, IfErr, IfNone, IfOk, IfSome, IsTrue, OnErr, OnOk, slice_get};
 ghost use Rattle.ddr_timing.specs.declared.units.TheConstants.{CLOCK_STOP};
 ghost use Rattle.ddr_channel.specs.Kept as kept;
 ghost use Rattle.ddr_arbiter.specs.declared.choice.Choice.TheVariants.{Nothing};
@@ -11,16 +11,22 @@ ghost use Rattle.ddr_channel.specs.Choice.{choice_of};
 ghost use Rattle.ddr_channel.specs.Cycle.{at_choice};
 ghost use Rattle.ddr_workers.specs.declared.worker.Cause.TheVariants.{OutOfMemory, ClockSpent, Told};
 ghost use Rattle.ddr_workers.specs.Completions.{IsFrom, WasFull};
-ghost use Rattle.ddr_workers.specs.Sides.{after_full, after_push, changed_at};
+ghost use Rattle.ddr_address_map.specs.Requests.{Completion};
+ghost use Rattle.ddr_workers.specs.declared.completions.Delivery.{Delivery};
+ghost use Rattle.ddr_workers.specs.Open.{IsNewDonePut, IsNewWorker};
+ghost use Rattle.ddr_workers.specs.Sides.{PutSide, after_full, after_push, changed_at};
 ghost use Rattle.ddr_workers.specs.Worker.{WorkerState, IsAtWork, IsEndOf, IsSameWorker, IsWorkDone, HasNothing, cause_of};
 
 use crate::completions::DonePut;
+use crate::error::OpenError;
 use crate::gate::{Gate, Turn};
 use crate::requests::{Item, RequestTake};
 use ddr_address_map::request::Done;
 use ddr_channel::channel::{Channel, CycleError};
 use ddr_channel::promise::channel_promise;
+use ddr_timing::config::Config;
 use ddr_trace::trace::Trace;
+use std::alloc::Global;
 use std::marker::Model;
 use std::sync::Wait;
 
@@ -114,6 +120,33 @@ fn push_to<R: Wait>(rt: &R, sides: &mut Vec<DonePut>, done: Done) -> Result<(), 
 }
 
 impl Worker {
+    /// A worker before its first turn, over the sides of its queues. Its channel's clock begins at 0.
+    pub(crate) fn open(
+        alloc: Global,
+        config: &Config,
+        id: u64,
+        number: u32,
+        requests: RequestTake,
+        completions: Vec<DonePut>,
+    ) -> Result<Worker, OpenError>
+        requires route { requests.who.queue.purpose ≡ record { geometry = config.now.geometry; channel = number } }
+        requires ports { requests.who.count ≡ length completions.items }
+        requires took { requests.took ≡ [] }
+        requires sides { (p : ℕ) (side : PutSide Delivery Completion) → slice_get completions.items p ≡ Some side → IsNewDonePut config.now.geometry number p side }
+        ensures { IfOk result (IsNewWorker config.now id number completions.items requests) }
+    {
+        let noted = vec![in alloc; false; completions.len()]?;
+        Ok(Worker {
+            id,
+            number,
+            channel: Channel::open(alloc, config, 0)?,
+            requests,
+            completions,
+            held: None,
+            noted,
+        })
+    }
+
     /// Holds the completion that was done first, where none is held and one is done.
     fn hold(&mut self)
         ensures { IsSameWorker self.old self.new }
