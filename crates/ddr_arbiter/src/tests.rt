@@ -5,6 +5,7 @@ ghost use Rattle.ddr_timing.specs.declared.units.TheConstants.{CLOCK_STOP};
 ghost use Rattle.ddr_arbiter.specs.Choice.{passes_at};
 
 use crate::choice::{Choice, choose};
+use crate::commands::command_of;
 use crate::policy::Policy;
 use ddr_address_map::place::Place;
 use ddr_address_map::request::{Echo, Kind, Req};
@@ -409,5 +410,41 @@ fn row_that_no_candidate_wants_is_closed(rt: HostRuntime) -> Result<(), Fail> {
     assert_eq!(rt; scene.choice(10)?, Choice::Pre { place: 0 });
     scene.drain = true;
     assert_eq!(rt; scene.choice(10)?, Choice::Column { place: 1 });
+    Ok(())
+}
+
+// Place 0 is a read of line 5 of row 7 in bank 2 of group 1, place 1 a write of line 6 of row 9 in bank 0 of
+// group 3.
+#[test]
+fn command_of_each_choice(rt: HostRuntime) -> Result<(), Fail> {
+    let alloc = rt.alloc();
+    let mut scene = Scene::open(alloc)?;
+    scene.admit(alloc, Kind::Read, 1, 2, 7, 5)?;
+    scene.admit(alloc, Kind::Write, 3, 0, 9, 6)?;
+    let write = Command::Wr {
+        rank: 0,
+        group: 3,
+        bank: 0,
+        row: 9,
+        line: 6,
+    };
+    let rows = [
+        (Choice::Nothing, None),
+        (Choice::Refresh, Some(Command::Refresh { rank: 0 })),
+        (Choice::PreAll, Some(Command::PreAll { rank: 0 })),
+        (Choice::Act { place: 0 }, Some(activate(1, 2, 7))),
+        (Choice::Act { place: 1 }, Some(activate(3, 0, 9))),
+        (Choice::Pre { place: 0 }, Some(precharge(1, 2))),
+        (Choice::Pre { place: 1 }, Some(precharge(3, 0))),
+        (Choice::Column { place: 0 }, Some(read(1, 2, 7, 5))),
+        (Choice::Column { place: 1 }, Some(write)),
+        // no request is pending there
+        (Choice::Act { place: 2 }, None),
+        (Choice::Pre { place: 2 }, None),
+        (Choice::Column { place: 2 }, None),
+    ];
+    for (choice, expected) in rows {
+        assert_eq!(rt; command_of(&scene.pending, choice), expected);
+    }
     Ok(())
 }

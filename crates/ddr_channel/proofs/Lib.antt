@@ -10,3 +10,4 @@ pub mod ServeLemmas
 pub mod CycleLemmas
 pub mod ChannelLemmas
 pub mod StandsLemmas
+pub mod HeldLemmas

@@ -1,3 +1,4 @@
 mod CountLemmas
 mod Entries
+mod Lines
 mod Soundness

@@ -1,13 +1,15 @@
-//! The pending requests in the order of their admission, as a plain list that is scanned whole.
-ghost use Rattle.std.specs.Prelude.{◌≡◌, false, ◌<◌, ◌≤◌, ◌↔◌, [], length, slice_get, remove, IsTrue, IsErr, IfErr, OnOk};
-ghost use Rattle.std.specs.List.{list_any};
-ghost use Rattle.std.specs.Option.{option_flatten, option_map, option_map_or};
+//! The pending requests in the order of their admission. Whether one has to wait for an older one is looked up
+//! when it is admitted, and passed on when an older one is removed.
+ghost use Rattle.std.specs.Prelude.{◌≡◌, ◌<◌, ◌≤◌, ◌↔◌, [], ◌++◌, length, take, drop, slice_get, remove, IsTrue, IsErr, IfErr, OnOk};
+ghost use Rattle.std.specs.Option.{option_flatten, option_map};
 ghost use Rattle.ddr_address_map.specs.declared.request.Kind.TheVariants.{Read, Write};
 ghost use Rattle.ddr_hazards.specs.declared.pending.TheConstants.{KIND_CAPACITY};
+ghost use Rattle.ddr_hazards.specs.Entries.{unblock_next};
 ghost use Rattle.ddr_hazards.specs.PendingList.{opened, pending_count, is_full, after_admit, request_at, after_remove, waiting_of, IsInRank, IsWithinLimits};
-ghost use Rattle.ddr_hazards.specs.Hazards.{is_same_line, is_blocked};
+ghost use Rattle.ddr_hazards.specs.Hazards.{is_blocked};
 
 use crate::counts::Counts;
+use crate::entry::{Entry, has_line, unblock_first};
 use crate::waiting::Waiting;
 use arrayvec::ArrayVec;
 use ddr_address_map::place::Place;
@@ -32,7 +34,7 @@ pub const RANK_GROUPS: u32 = 4;
 pub struct Pending {
     // The vector keeps a blank in each place that it doesn't use, and a request has none, since it owns its
     // line. So the blanks are `None`, and the elements are all `Some`.
-    entries: ArrayVec<Option<Waiting>, CAPACITY>,
+    entries: ArrayVec<Option<Entry>, CAPACITY>,
     counts: Counts,
     limits: Counts,
 }
@@ -114,10 +116,14 @@ impl Pending {
         if self.is_full(kind) {
             return Err(request);
         }
+        let is_blocked = has_line(self.entries.as_slice(), request.place);
         self.counts.add(kind);
-        self.entries.push(Some(Waiting {
-            request,
-            admitted: now,
+        self.entries.push(Some(Entry {
+            waiting: Waiting {
+                request,
+                admitted: now,
+            },
+            is_blocked,
         }));
         Ok(())
     }
@@ -128,10 +134,9 @@ impl Pending {
         ensures taken { result ≡ request_at self.old place }
         ensures rest { self.new ≡ after_remove place self.old }
     {
-        let Waiting {
-            request,
-            admitted: _,
-        } = take_entry(&mut self.entries, place)?;
+        let entry = take_entry(&mut self.entries, place)?;
+        unblock_next(&mut self.entries, place, &entry);
+        let request = entry.waiting.request;
         self.counts.subtract(request.echo.kind);
         Some(request)
     }
@@ -140,8 +145,8 @@ impl Pending {
     pub fn get(&self, place: usize) -> Option<(&Req, u64)>
         ensures { option_map waiting_of result ≡ slice_get self.now.waiting place }
     {
-        let waiting = self.entries.as_slice().get(place)?.as_ref()?;
-        Some((&waiting.request, waiting.admitted))
+        let entry = self.entries.as_slice().get(place)?.as_ref()?;
+        Some((&entry.waiting.request, entry.waiting.admitted))
     }
 
     /// The request that was admitted first, with the cycle of its admission. `None` exactly where nothing is
@@ -158,33 +163,28 @@ impl Pending {
         requires { place < length self.now.waiting }
         ensures { result ≡ is_blocked self.now.waiting place }
     {
-        let Some((request, _)) = self.get(place) else {
-            return false;
-        };
-        has_line(&self.entries.as_slice()[..place], request.place)
+        matches!(self.entries.as_slice().get(place), Some(Some(entry)) if entry.is_blocked)
     }
 }
 
-// Takes out the request of the entry at a place, if there is such an entry.
-fn take_entry(entries: &mut ArrayVec<Option<Waiting>, CAPACITY>, place: usize) -> Option<Waiting>
+// Takes out the entry at a place, if there is one.
+fn take_entry(entries: &mut ArrayVec<Option<Entry>, CAPACITY>, place: usize) -> Option<Entry>
     ensures taken { result ≡ option_flatten (slice_get entries.old.items place) }
     ensures rest { entries.new.items ≡ remove entries.old.items place }
 {
     entries.pop_at(place).flatten()
 }
 
-// Whether one of the entries holds a request to the line of the place.
-fn has_line(entries: &[Option<Waiting>], place: Place) -> bool
-    ensures { result ≡ list_any (λ entry. option_map_or (λ w. is_same_line w.request.place place) entry false) entries.now }
+// Once an entry is taken out: where it was not blocked, the first one to its line of those behind it, which
+// stand from this place on, is blocked no more. Otherwise they all wait for an older one, too.
+fn unblock_next(entries: &mut ArrayVec<Option<Entry>, CAPACITY>, from: usize, taken: &Entry)
+    requires { from ≤ length entries.old.items }
+    ensures { entries.new.items ≡ take from entries.old.items ++ unblock_next taken.now (drop from entries.old.items) }
 {
-    entries.iter().any(|entry| matches!(entry, Some(it) if is_same_line(it.request.place, place)))
-}
-
-// Whether two places lie in one line of a channel.
-fn is_same_line(a: Place, b: Place) -> bool
-    ensures { result ≡ is_same_line a b }
-{
-    a.group == b.group && a.bank == b.bank && a.row == b.row && a.line == b.line
+    if !taken.is_blocked {
+        let behind = &mut entries.as_mut_slice()[from..];
+        unblock_first(behind, taken.waiting.request.place);
+    }
 }
 
 #[cfg(test)]

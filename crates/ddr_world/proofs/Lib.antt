@@ -3,3 +3,14 @@ mod StepLemmas
 mod StandsLemmas
 mod WholeLemmas
 mod OpenLemmas
+pub mod LineBytes
+pub mod CoreKeeps
+pub mod CoreCounts
+pub mod CoreFrames
+pub mod CoreReplies
+pub mod PlaceLemmas
+pub mod CoreEvents
+pub mod CoreSubmit
+pub mod CoreRuns
+pub mod CorePromise
+mod RecordLemmas

@@ -1,8 +1,12 @@
 -- What is left of a core that was closed.
-use Rattle.std.specs.Prelude.{◌≡◌, map, Some}
+use Rattle.std.specs.Prelude.{◌≡◌, List, ℕ, length, map, Some}
+use Rattle.std.specs.List.{range_with_len}
 use Rattle.ddr_world.specs.declared.world.Closed.{Closed}
 use Rattle.ddr_trace.specs.Traces.{Recorded}
+use Rattle.ddr_world.specs.History.{Opening, Answered, History, run}
 use Rattle.ddr_world.specs.Kept.{KeptSide, Kept}
+use Rattle.ddr_world.specs.Promise.{IsFinished}
+use Rattle.ddr_world.specs.Record.{StandsFor}
 
 -- the commands of a channel, from its first cycle to the next one
 abbrev pub trace_of : KeptSide → Recorded
@@ -13,3 +17,17 @@ pub record IsLeftOf (k : Kept) (closed : Closed) : Type 0 where
   pub accepted : closed.accepted.items ≡ map (λ side. side.accepted) k.ports
   pub taken : closed.taken.items ≡ map (λ side. side.taken) k.ports
   pub traces : closed.traces.items ≡ map (λ side. Some (trace_of side)) k.channels
+
+-- of each port, how many requests the record of events accepted
+abbrev pub counts_of : History → List ℕ
+counts_of h = map (λ p. length (h.sent p)) (range_with_len 0 (length h.state.ports))
+
+-- the record is finished, and the counts are those of its accepted requests: as many replies were taken
+pub record IsWhole (h : History) (closed : Closed) : Type 0 where
+  pub finished : IsFinished h
+  pub accepted : closed.accepted.items ≡ counts_of h
+  pub taken : closed.taken.items ≡ counts_of h
+
+-- so it is for every record that the core stood for
+abbrev pub GaveAll : Kept → Closed → Type 0
+GaveAll k closed = (opening : Opening) (events : List Answered) → StandsFor k opening events → IsWhole (run opening events) closed

@@ -5,6 +5,7 @@ pub mod Step
 pub mod Kept
 pub mod Answer
 pub mod History
+pub mod Promise
 pub mod Record
 pub mod Close
 pub mod View

@@ -1,11 +1,13 @@
 -- The records that a core stands for.
-use Rattle.std.specs.Prelude.{◌≡◌, ℕ, List, [], ◌∷◌, ◌++◌, map, count_by, Result, Ok, Err, is_ok, is_err}
+use Rattle.std.specs.Prelude.{◌≡◌, ℕ, List, [], ◌∷◌, ◌++◌, length, map, count_by, slice_get, Some, Result, Ok, Err, is_ok, is_err}
+use Rattle.ddr_reorder.specs.Replies.{Answer}
 use Rattle.ddr_world.specs.declared.event.Outcome.{Outcome}
 use Rattle.ddr_world.specs.declared.event.Refusal.{Refusal}
 use Rattle.ddr_world.specs.Answer.{IsRefused}
 use Rattle.ddr_world.specs.Events.{Event}
 use Rattle.ddr_world.specs.History.{Opening, Answered, History, begun, after, run}
 use Rattle.ddr_world.specs.Kept.{Kept, state_of}
+use Rattle.ddr_world.specs.Promise.{replies_of_port}
 use Rattle.ddr_world.specs.State.{State}
 use Rattle.ddr_world.specs.Step.{made, step}
 
@@ -24,6 +26,11 @@ pub record StandsFor (k : Kept) (opening : Opening) (events : List Answered) : T
   pub config : k.config ≡ opening.config
   pub is_record : IsRecord (begun opening) events
   pub state : state_of k ≡ (run opening events).state
+
+-- What is lent is, for every record that the core stands for, the next of the right replies of the port.
+abbrev pub IsNext : Kept → ℕ → Answer → Type 0
+IsNext k p a = (opening : Opening) (events : List Answered) → StandsFor k opening events
+    → slice_get (replies_of_port (run opening events) p) (length ((run opening events).taken p)) ≡ Some (Some a)
 
 -- The answers to a list of events, one each and in order, which lead on from every record that the core stood for.
 pub record RunsTo (before after : Kept) (events : List Event) (made refused : ℕ) : Type 0 where

@@ -2,13 +2,15 @@
 //!
 //! Below stand `ddr_ports` and `ddr_channel`, whose calls an event makes. `world` is the core with its calls;
 //! `event` is what may happen and what comes of it, `port_side` and `channel_side` are a port and a channel
-//! with the queue that leads to each, and `item` is what stands in a request queue.
+//! with the queue that leads to each, `item` is what stands in a request queue, and `promise` is the law over
+//! every record of events.
 #![tactic(auto)]
 
 mod channel_side;
 pub mod event;
 pub mod item;
 mod port_side;
+pub mod promise;
 #[cfg(test)]
 mod tests;
 pub mod world;

@@ -9,6 +9,8 @@ use ddr_timing::profile::PROFILE_S;
 use std::alloc::Global;
 use std::test::Fail;
 
+mod chance;
+
 /// A read of a byte at address 0, from port 0.
 const READ: Event<'static> = Event::Submit(0, Request::Read { addr: 0, len: 1 });
 

@@ -1,17 +1,17 @@
 //! The core: its ports and channels, and one event after another.
-ghost use Rattle.std.specs.Prelude.{◌≡◌, ◌+◌, ◌<◌, ◌≤◌, ◌↔◌, length, map, replicate, List, [], ◌∷◌, ◌++◌, slice_get, All, IfErr, IfOk, IsOk, IsTrue, Some};
+ghost use Rattle.std.specs.Prelude.{◌≡◌, ◌+◌, ◌<◌, ◌≤◌, ◌↔◌, length, map, replicate, List, [], ◌∷◌, ◌++◌, slice_get, All, IfErr, IfOk, IfSome, IsOk, IsTrue, Some};
 ghost use Rattle.std.specs.List.{range_with_len};
 ghost use Rattle.std.specs.Option.{option_copied, option_map};
 ghost use Rattle.ddr_timing.specs.declared.units.TheConstants.{CLOCK_STOP};
 ghost use Rattle.ddr_reorder.specs.Replies.{said};
 ghost use Rattle.ddr_ports.specs.Asked.{asked_of};
 ghost use Rattle.ddr_world.specs.Answer.{IsAnswered};
-ghost use Rattle.ddr_world.specs.Close.{IsLeftOf, trace_of};
+ghost use Rattle.ddr_world.specs.Close.{GaveAll, IsLeftOf, trace_of};
 ghost use Rattle.ddr_world.specs.Events as events;
 ghost use Rattle.ddr_world.specs.Events.{event_of};
 ghost use Rattle.ddr_world.specs.History.{Answered, Opening, front_of};
 ghost use Rattle.ddr_world.specs.Kept.{side_of, state_of};
-ghost use Rattle.ddr_world.specs.Record.{RunsTo, StandsFor};
+ghost use Rattle.ddr_world.specs.Record.{IsNext, RunsTo, StandsFor};
 ghost use Rattle.ddr_world.specs.State.{IsChannelDrained, IsDrained, IsPortDrained, opened, opened_channel, opened_port};
 
 use crate::channel_side::ChannelSide;
@@ -260,7 +260,8 @@ impl World {
 
     /// The oldest reply of the port, where it is ready. `None` also where there is no such port.
     pub fn front(&self, port: u32) -> Option<Reply<'_>>
-        ensures { option_map said result ≡ front_of (state_of self.now) port }
+        ensures front { option_map said result ≡ front_of (state_of self.now) port }
+        ensures next { IfSome result (λ reply. IsNext self.now port (said reply)) }
     {
         if !self.has_port(port) {
             return None;
@@ -302,6 +303,7 @@ impl World {
     pub fn close(self) -> Result<Closed, (World, NotDrained)>
         ensures drained { IsOk result ↔ IsDrained (state_of self) }
         ensures ok { IfOk result (IsLeftOf self) }
+        ensures whole { IfOk result (GaveAll self) }
         ensures err { IfErr result (λ back. back.0 ≡ self) }
     {
         if !self.is_drained() {

@@ -114,3 +114,103 @@ fn only_an_older_request_to_the_line_blocks(rt: HostRuntime) -> Result<(), Fail>
     assert!(rt; !pending.blocked(1));
     Ok(())
 }
+
+/// A list with requests of these kinds to these lines, numbered from 0 on.
+fn list_of(alloc: Global, requests: &[(Kind, u32)]) -> Result<Pending, Fail> {
+    let mut pending = Pending::open(32, 32);
+    for (number, (kind, line)) in requests.iter().enumerate() {
+        match pending.admit(request(alloc, *kind, number as u64, *line, 0)?, 0) {
+            Ok(()) => (),
+            Err(_) => return Err("the queue is full".into()),
+        }
+    }
+    Ok(pending)
+}
+
+/// The numbers of the requests that are blocked, the oldest first.
+fn blocked_numbers(alloc: Global, pending: &Pending) -> Result<Vec<u64>, Fail> {
+    let mut numbers = Vec::new(alloc);
+    for place in 0..pending.len() {
+        if pending.blocked(place) {
+            let (request, _) = pending.get(place).ok_or("nothing is pending there")?;
+            numbers.push(request.number)?;
+        }
+    }
+    Ok(numbers)
+}
+
+/// A write, a read and a write, all of line 4.
+const THREE_OF_A_LINE: [(Kind, u32); 3] = [(Kind::Write, 4), (Kind::Read, 4), (Kind::Write, 4)];
+
+#[test]
+fn removal_of_the_first_of_a_line_frees_the_next_alone(rt: HostRuntime) -> Result<(), Fail> {
+    let alloc = rt.alloc();
+    let mut pending = list_of(alloc, &THREE_OF_A_LINE)?;
+    assert_eq!(rt;
+        blocked_numbers(alloc, &pending)?.as_slice(),
+        [1, 2].as_slice()
+    );
+    assert_eq!(rt; pending.remove(0).map(|it| it.number), Some(0));
+    assert_eq!(rt;
+        blocked_numbers(alloc, &pending)?.as_slice(),
+        [2].as_slice()
+    );
+    assert_eq!(rt; pending.remove(0).map(|it| it.number), Some(1));
+    assert!(rt; blocked_numbers(alloc, &pending)?.is_empty());
+    Ok(())
+}
+
+#[test]
+fn removal_of_a_blocked_one_frees_none(rt: HostRuntime) -> Result<(), Fail> {
+    let alloc = rt.alloc();
+    let mut middle = list_of(alloc, &THREE_OF_A_LINE)?;
+    assert_eq!(rt; middle.remove(1).map(|it| it.number), Some(1));
+    assert_eq!(rt; blocked_numbers(alloc, &middle)?.as_slice(), [2].as_slice());
+    let mut last = list_of(alloc, &THREE_OF_A_LINE)?;
+    assert_eq!(rt; last.remove(2).map(|it| it.number), Some(2));
+    assert_eq!(rt; blocked_numbers(alloc, &last)?.as_slice(), [1].as_slice());
+    Ok(())
+}
+
+// Line 4 by 0, 2 and 3, line 5 by 1 and 4.
+#[test]
+fn each_line_is_freed_by_its_own_requests(rt: HostRuntime) -> Result<(), Fail> {
+    let alloc = rt.alloc();
+    let mut pending = list_of(
+        alloc,
+        &[
+            (Kind::Read, 4),
+            (Kind::Read, 5),
+            (Kind::Write, 4),
+            (Kind::Read, 4),
+            (Kind::Write, 5),
+        ],
+    )?;
+    assert_eq!(rt;
+        blocked_numbers(alloc, &pending)?.as_slice(),
+        [2, 3, 4].as_slice()
+    );
+    assert_eq!(rt; pending.remove(1).map(|it| it.number), Some(1));
+    assert_eq!(rt;
+        blocked_numbers(alloc, &pending)?.as_slice(),
+        [2, 3].as_slice()
+    );
+    assert_eq!(rt; pending.remove(0).map(|it| it.number), Some(0));
+    assert_eq!(rt;
+        blocked_numbers(alloc, &pending)?.as_slice(),
+        [3].as_slice()
+    );
+    assert_eq!(rt; pending.remove(0).map(|it| it.number), Some(2));
+    assert!(rt; blocked_numbers(alloc, &pending)?.is_empty());
+    // a request to line 5 waits again, since 4 is pending still
+    assert!(rt;
+        pending
+            .admit(request(alloc, Kind::Read, 5, 5, 0)?, 0)
+            .is_ok()
+    );
+    assert_eq!(rt;
+        blocked_numbers(alloc, &pending)?.as_slice(),
+        [5].as_slice()
+    );
+    Ok(())
+}

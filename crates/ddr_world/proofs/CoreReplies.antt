@@ -1,0 +1,222 @@
+-- A completion that is done is the right one, its port waits for it, and the reply that a port lends is the next.
+use Rattle.std.proofs.Common.{◌≡◌, ◌≢◌, ℕ, zero, suc, ◌+◌, ◌%◌, ◌<◌, ◌≤◌, Bool, true, false, cond, eqb, ◌&&◌, ◌||◌, List, [], ◌∷◌, ◌++◌, Option, Some, None, IfSome, is_none, map, take, length, refl, sym, ap, ap₂, subst, ◌∙◌, arith}
+use Rattle.std.specs.List.{sum_by, slice_get, slice_range, list_any, take_while, prefix_len, range_with_len, AllByRecursion}
+use Rattle.std.specs.Option.{option_map, option_and_then}
+use Rattle.std.proofs.lemmas.Bool.{eq-eqb}
+use Rattle.std.proofs.lemmas.List.{append_assoc}
+use Rattle.circular_buffer.proofs.Places.{slice_get-append_left, slice_get-append_right}
+use Rattle.std.proofs.lemmas.Option.{slice_get_within}
+use Rattle.ddr_address_map.specs.declared.request.Echo.{Echo}
+use Rattle.ddr_address_map.specs.declared.request.Kind.{Kind}
+use Rattle.ddr_address_map.specs.declared.request.Kind.TheVariants.{Read, Write}
+use Rattle.ddr_address_map.specs.Requests.{Request, Completion}
+use Rattle.ddr_channel.specs.Cycle.{line_served}
+use Rattle.ddr_channel.specs.History as channel
+use Rattle.ddr_channel.specs.History.{Owner}
+use Rattle.ddr_channel.specs.Memory.{line_of, line_after}
+use Rattle.ddr_channel.specs.Promise.{answer_to, right_answer}
+use Rattle.ddr_channel.specs.State as channel_state
+use Rattle.ddr_channel.proofs.HeldLemmas.{part_of_sum}
+use Rattle.ddr_channel.proofs.ListLemmas.{at_map, mapped_at}
+use Rattle.ddr_channel.proofs.PromiseLemmas.{promise_kept}
+use Rattle.ddr_reorder.specs.Replies.{Answer, asked_bytes, lent_bytes, answer_of, is_filled, nth_answer}
+use Rattle.ddr_reorder.specs.State.{Outstanding, ReorderState, is_same_kind, is_same_echo, is_awaited, awaits}
+use Rattle.ddr_world.specs.History.{Opening, Whereabouts, History}
+use Rattle.ddr_world.specs.Promise.{bytes_after, bytes_for, reply_of, reply_at, request_there, replies_of_port}
+use Rattle.ddr_world.specs.State.{PortSide, ChannelSide}
+use Rattle.ddr_world.proofs.CoreCounts.{number_at, is_number, weigh_waiting, Waits, waits_there}
+use Rattle.ddr_world.proofs.CoreKeeps.{requests_in, ChannelKeeps, Settled, Right, IsSettledAt, PortKeeps, IsSentBack, IsSent, CoreKeeps, held_in, delivered_in, waiting_in, Grows, grows_by, there_still, before_still}
+use Rattle.ddr_world.proofs.LineBytes.{IsPlaced, asked_of_line}
+
+-- a completion that is done
+
+all_taken : {X : Type 0} (P : X → Type 0) (xs : List X) (n : ℕ) → ((i : ℕ) (x : X) → slice_get xs i ≡ Some x → P x) → AllByRecursion P (take n xs)
+all_taken P xs zero each = tt
+all_taken P [] (suc n) each = tt
+all_taken P (x ∷ xs) (suc n) each = (each 0 x refl, all_taken P xs n (λ i y is. each (suc i) y is))
+
+first_of_both : {X : Type 0} (xs ys : List X) (x : X) → slice_get xs 0 ≡ Some x → slice_get (xs ++ ys) 0 ≡ Some x
+first_of_both [] ys x is = cc
+first_of_both (z ∷ zs) ys x is = is
+
+pub some_of_map : {X Y : Type 0} (f : X → Y) (o : Option X) (y : Y) → option_map f o ≡ Some y → (x : X) × (o ≡ Some x) × (f x ≡ y)
+some_of_map f None y is = cc
+some_of_map f (Some x) y is = (x, refl, (let same : f x ≡ y = cc in same))
+
+-- a read is served with what earlier requests left, a write with what it wrote; and so is lent
+served_bytes : (kind : Kind) (off len addr : ℕ) (burst line : List ℕ) (earlier : List Request) → slice_range burst off (off + len) ≡ bytes_after earlier addr len
+    → asked_bytes kind off len (line_served kind burst line) ≡ bytes_for kind earlier addr len
+served_bytes Read off len addr burst line earlier is = is
+served_bytes Write off len addr burst line earlier is = refl
+
+pub done_right : (o : Opening) (h : History) (c : ℕ) (side : ChannelSide) (d : Completion) → CoreKeeps o h → slice_get h.state.channels c ≡ Some side → slice_get side.channel.done 0 ≡ Some d
+    → Right o.number h.accepted (h.sent d.port) d
+done_right o h c side d k was done =
+    let keeps = k.channels c side was in
+    let run = channel.run o.config o.cycle keeps.calls in
+    let promise = promise_kept o.config o.cycle keeps.calls keeps.calls_are in
+    let first : slice_get run.state.done 0 ≡ Some d = ap (λ (s : channel_state.State). slice_get s.done 0) (sym keeps.state) ∙ done in
+    let n = length run.popped in
+    let whole : slice_get (run.popped ++ (run.state.done ++ run.state.flight)) n ≡ Some d =
+    slice_get-append_right run.popped (run.state.done ++ run.state.flight) n 0 (omega arith) ∙ first_of_both run.state.done run.state.flight d first in
+    let joined : slice_get ((run.popped ++ run.state.done) ++ run.state.flight) n ≡ Some d = ap (λ (ds : List Completion). slice_get ds n) (append_assoc run.popped run.state.done run.state.flight) ∙ whole in
+    let answer = ap (λ (xs : List (Option Completion)). slice_get xs n) (sym promise.answers) ∙ mapped_at Some ((run.popped ++ run.state.done) ++ run.state.flight) n d joined in
+    let found = at_map (right_answer run.state.config run.accepted) run.owners n (Some d) answer in
+    let owner = found.0 in
+    let request = some_of_map (answer_to run.state.config run.accepted owner) (slice_get run.accepted owner.place) d found.2 in
+    let r = request.0 in
+    let is : answer_to run.state.config run.accepted owner r ≡ d = request.2 in
+    let more : Grows run.accepted (h.accepted c) = grows_by run.accepted (h.accepted c) (requests_in side.requests) (sym keeps.accepted_are ∙ ap (λ (rs : List Request). rs ++ requests_in side.requests) (sym keeps.admitted_are)) in
+    let there = there_still run.accepted (h.accepted c) owner.place r more request.1 in
+    let back = k.accepted c owner.place r there in
+    let port : r.port ≡ d.port = ap (λ (x : Completion). x.port) is in
+    let number : r.number ≡ d.number = ap (λ (x : Completion). x.number) is in
+    let echo : r.echo ≡ d.echo = ap (λ (x : Completion). x.echo) is in
+    let earlier = take owner.place (h.accepted c) in
+    let burst = line_after (take owner.place run.accepted) (line_of r.place) in
+    let same : burst ≡ line_after earlier (line_of r.place) = ap (λ (rs : List Request). line_after rs (line_of r.place)) (sym (before_still run.accepted (h.accepted c) owner.place r more request.1)) in
+    let asked = asked_of_line o.config.geometry c r earlier back.placed (all_taken (IsPlaced o.config.geometry c) (h.accepted c) owner.place (λ i w at. (k.accepted c i w at).placed)) in
+    let off = r.echo.addr % 64 in
+    let lent : asked_bytes r.echo.kind off r.echo.len (line_served r.echo.kind burst r.line) ≡ bytes_for r.echo.kind earlier r.echo.addr r.echo.len =
+    served_bytes r.echo.kind off r.echo.len r.echo.addr burst r.line earlier (ap (λ (xs : List ℕ). slice_range xs off (off + r.echo.len)) same ∙ asked) in
+    record {
+      index = back.index;
+      at = record { channel = c; place = owner.place };
+      request = r;
+      sent_at = ap (λ n. slice_get (h.sent n) back.index) (sym port) ∙ back.sent_at;
+      number = sym number ∙ back.number;
+      there = there;
+      echo = sym echo;
+      bytes = ap (λ (x : Completion). lent_bytes x.echo x.line) (sym is) ∙ lent;
+    }
+
+-- a completion in the queue of its port
+
+same_kind : (kind : Kind) → is_same_kind kind kind ≡ true
+same_kind Read = refl
+same_kind Write = refl
+
+same_echo : (a b : Echo) → a ≡ b → is_same_echo a b ≡ true
+same_echo a b same = subst (λ (e : Echo). is_same_echo a e ≡ true) same (rw (same_kind a.kind, eq-eqb a.addr a.addr refl, eq-eqb a.len a.len refl) refl)
+
+any_at : {X : Type 0} (test : X → Bool) (xs : List X) (i : ℕ) (x : X) → slice_get xs i ≡ Some x → test x ≡ true → list_any test xs ≡ true
+any_at test [] i x is passes = cc
+any_at test (y ∷ ys) zero x is passes = let same : y ≡ x = cc in rw (ap test same ∙ passes) refl
+any_at test (y ∷ ys) (suc i) x is passes = either (test y) (any_at test ys i x is passes)
+  where
+    either : (b : Bool) → list_any test ys ≡ true → (b || list_any test ys) ≡ true
+    either true found = refl
+    either false found = found
+
+-- the port waits for the line: under this number and with this echo
+pub record IsAwaited (o : Opening) (h : History) (p : ℕ) (side : PortSide) (d : Completion) : Type 0 where
+  pub index : ℕ
+  pub entry : Outstanding
+  pub there : slice_get side.core.reorder.outstanding index ≡ Some entry
+  pub number : entry.number ≡ d.number
+  pub line : entry.line ≡ None
+  pub right : Right o.number h.accepted (h.sent p) d
+  pub place : right.index ≡ length (h.taken p) + index
+  pub echo : entry.echo ≡ d.echo
+
+-- two requests at one number of the port are the same
+pub same_request : (accepted : ℕ → List Request) (sent : List Whereabouts) (i j : ℕ) (v w : Whereabouts) (q r : Request) → i ≡ j → slice_get sent i ≡ Some v → slice_get sent j ≡ Some w
+    → slice_get (accepted v.channel) v.place ≡ Some q → slice_get (accepted w.channel) w.place ≡ Some r → (v ≡ w) × (q ≡ r)
+same_request accepted sent i j v w q r same v_at w_at q_there r_there =
+    let one : Some v ≡ Some w = sym v_at ∙ ap (slice_get sent) same ∙ w_at in
+    let place : v ≡ w = cc in
+    let both : Some q ≡ Some r = sym q_there ∙ ap (λ (x : Whereabouts). slice_get (accepted x.channel) x.place) place ∙ r_there in
+    let request : q ≡ r = cc in
+    (place, request)
+
+pub awaited : (o : Opening) (h : History) (p : ℕ) (side : PortSide) (d : Completion) → CoreKeeps o h → slice_get h.state.ports p ≡ Some side → slice_get side.completions 0 ≡ Some d → IsAwaited o h p side d
+awaited o h p side d k was first =
+    let keeps = k.ports p side was in
+    let f = is_number d.number in
+    let one : f d.number ≡ 1 = ap (λ b. cond b 1 0) (eq-eqb d.number d.number refl) in
+    let part = part_of_sum (λ (x : Completion). f x.number) side.completions 0 d first in
+    let some : 1 ≤ sum_by (weigh_waiting f) side.core.reorder.outstanding = omega (arith, part, one, k.held f p side was) in
+    let waits = waits_there d.number side.core.reorder.outstanding some in
+    let right = keeps.right 0 d first in
+    let settled = keeps.settled waits.index waits.entry waits.there in
+    let number = number_at (o.number + length (h.taken p)) side.core.reorder.outstanding waits.index waits.entry keeps.numbers waits.there in
+    let place : right.index ≡ length (h.taken p) + waits.index = omega (arith, right.number, waits.number, number) in
+    let same = same_request h.accepted (h.sent p) right.index (length (h.taken p) + waits.index) right.at settled.at right.request settled.settled.request place right.sent_at settled.sent_at right.there settled.settled.there in
+    record {
+      index = waits.index;
+      entry = waits.entry;
+      there = waits.there;
+      number = waits.number;
+      line = waits.line;
+      right = right;
+      place = place;
+      echo = settled.settled.echo ∙ ap (λ (r : Request). r.echo) (sym same.1) ∙ sym right.echo;
+    }
+
+pub awaited_test : (o : Opening) (h : History) (p : ℕ) (side : PortSide) (d : Completion) → IsAwaited o h p side d → awaits side.core.reorder d.number d.echo ≡ true
+awaited_test o h p side d a =
+    any_at (is_awaited d.number d.echo) side.core.reorder.outstanding a.index a.entry a.there
+    (rw (eq-eqb a.entry.number d.number a.number, same_echo a.entry.echo d.echo a.echo, a.line) refl)
+
+-- the reply that a port lends
+
+pub record IsFront (s : ReorderState) (a : Answer) : Type 0 where
+  pub entry : Outstanding
+  pub line : List ℕ
+  pub there : slice_get s.outstanding 0 ≡ Some entry
+  pub filled : entry.line ≡ Some line
+  pub answer : record { number = entry.number; echo = entry.echo; bytes = lent_bytes entry.echo line } ≡ a
+
+front_by : (e : Outstanding) (rest : List Outstanding) (a : Answer) (l : Option (List ℕ)) (b : Bool) → e.line ≡ l → is_filled e ≡ b → option_and_then answer_of (slice_get (take (cond b (1 + prefix_len is_filled rest) 0) (e ∷ rest)) 0) ≡ Some a
+    → (line : List ℕ) × (e.line ≡ Some line) × (record { number = e.number; echo = e.echo; bytes = lent_bytes e.echo line } ≡ a)
+front_by e rest a None b none test is = absurd (by_test b test is)
+  where
+    by_test : (b : Bool) → is_filled e ≡ b → option_and_then answer_of (slice_get (take (cond b (1 + prefix_len is_filled rest) 0) (e ∷ rest)) 0) ≡ Some a → ⊥
+    by_test true test is =
+        let no_answer : answer_of e ≡ None = ap (λ (l : Option (List ℕ)). option_map (λ line. record { number = e.number; echo = e.echo; bytes = lent_bytes e.echo line }) l) none in
+        let more : suc (prefix_len is_filled rest) ≡ 1 + prefix_len is_filled rest = omega arith in
+        let here : answer_of e ≡ Some a = ap (λ n. option_and_then answer_of (slice_get (take n (e ∷ rest)) 0)) more ∙ is in
+        cc
+    by_test false test is = cc
+front_by e rest a (Some line) true has test is =
+    let answer : answer_of e ≡ Some (record { number = e.number; echo = e.echo; bytes = lent_bytes e.echo line }) = ap (λ (l : Option (List ℕ)). option_map (λ line. record { number = e.number; echo = e.echo; bytes = lent_bytes e.echo line }) l) has in
+    let more : suc (prefix_len is_filled rest) ≡ 1 + prefix_len is_filled rest = omega arith in
+    let both : Some (record { number = e.number; echo = e.echo; bytes = lent_bytes e.echo line }) ≡ Some a = sym answer ∙ ap (λ n. option_and_then answer_of (slice_get (take n (e ∷ rest)) 0)) more ∙ is in
+    let same : record { number = e.number; echo = e.echo; bytes = lent_bytes e.echo line } ≡ a = cc in
+    (line, has, same)
+front_by e rest a (Some line) false has test is = cc
+
+pub is_front : (s : ReorderState) (a : Answer) → nth_answer s 0 ≡ Some a → IsFront s a
+is_front s a is = by_list s.outstanding refl
+  where
+    by_list : (xs : List Outstanding) → s.outstanding ≡ xs → IsFront s a
+    by_list [] none = let no_answer : nth_answer s 0 ≡ None = ap (λ (es : List Outstanding). option_and_then answer_of (slice_get (take_while is_filled es) 0)) none in cc
+    by_list (e ∷ rest) some =
+        let here : option_and_then answer_of (slice_get (take_while is_filled (e ∷ rest)) 0) ≡ Some a = ap (λ (es : List Outstanding). option_and_then answer_of (slice_get (take_while is_filled es) 0)) (sym some) ∙ is in
+        let found = front_by e rest a e.line (is_filled e) refl refl here in
+        record { entry = e; line = found.0; there = ap (λ (es : List Outstanding). slice_get es 0) some; filled = found.1; answer = found.2 }
+
+same_answer : (a b : Answer) → a.number ≡ b.number → a.echo ≡ b.echo → a.bytes ≡ b.bytes → a ≡ b
+same_answer a b number echo bytes = λ i. record { number = number i; echo = echo i; bytes = bytes i }
+
+-- it is the next one of the port's replies
+pub lent_next : (o : Opening) (h : History) (p : ℕ) (side : PortSide) (a : Answer) → CoreKeeps o h → slice_get h.state.ports p ≡ Some side → nth_answer side.core.reorder 0 ≡ Some a
+    → slice_get (replies_of_port h p) (length (h.taken p)) ≡ Some (Some a)
+lent_next o h p side a k was is =
+    let keeps = k.ports p side was in
+    let front = is_front side.core.reorder a is in
+    let settled = keeps.settled 0 front.entry front.there in
+    let number = number_at (o.number + length (h.taken p)) side.core.reorder.outstanding 0 front.entry keeps.numbers front.there in
+    let n = length (h.taken p) in
+    let at : slice_get (h.sent p) n ≡ Some settled.at = ap (slice_get (h.sent p)) (omega arith) ∙ settled.sent_at in
+    let sent = k.sent p n settled.at at in
+    let r = settled.settled.request in
+    let same = same_request h.accepted (h.sent p) n n settled.at settled.at sent.request r refl at at sent.there settled.settled.there in
+    let its_number : sent.request.number ≡ r.number = ap (λ (q : Request). q.number) same.1 in
+    let bytes : lent_bytes front.entry.echo front.line ≡ (reply_of (take settled.at.place (h.accepted settled.at.channel)) r).bytes =
+    subst (λ (l : Option (List ℕ)). IfSome l (λ line. lent_bytes front.entry.echo line ≡ (reply_of (take settled.at.place (h.accepted settled.at.channel)) r).bytes)) front.filled settled.settled.line in
+    let reply : a ≡ reply_of (take settled.at.place (h.accepted settled.at.channel)) r =
+    sym front.answer ∙ same_answer _ _ (let numbers : front.entry.number ≡ r.number = omega (arith, number, sent.number, its_number) in numbers) settled.settled.echo bytes in
+    mapped_at (reply_at h) (h.sent p) n settled.at at
+    ∙ ap (λ (x : Option Request). Some (option_map (reply_of (take settled.at.place (h.accepted settled.at.channel))) x)) settled.settled.there
+    ∙ ap (λ (x : Answer). Some (Some x)) (sym reply)

@@ -1,0 +1,48 @@
+-- What users of the calls have of the promise, for every record that a core stands for.
+use Rattle.std.proofs.Common.{◌≡◌, ℕ, zero, suc, ◌+◌, ◌<◌, List, [], ◌∷◌, Option, Some, None, IfSome, map, length, refl, sym, ap, ap₂, subst, ◌∙◌, arith}
+use Rattle.std.specs.List.{slice_get, range_with_len}
+use Rattle.std.specs.Option.{option_map, option_and_then}
+use Rattle.ddr_channel.proofs.ListLemmas.{All-at}
+use Rattle.ddr_reorder.specs.declared.reply.Reply.{Reply}
+use Rattle.ddr_reorder.specs.Replies.{Answer, said, nth_answer}
+use Rattle.ddr_world.specs.declared.world.Closed.{Closed}
+use Rattle.ddr_world.specs.Close.{IsWhole, GaveAll, counts_of}
+use Rattle.ddr_world.specs.History.{Opening, Answered, History, front_of, run}
+use Rattle.ddr_world.specs.Kept.{Kept, state_of}
+use Rattle.ddr_world.specs.Promise.{replies_of_port}
+use Rattle.ddr_world.specs.Record.{IsNext, StandsFor}
+use Rattle.ddr_world.specs.State.{PortSide, State, IsPortDrained, IsDrained}
+use Rattle.ddr_world.proofs.CorePromise.{core_keeps_promise}
+
+-- the reply that is lent is the next one of the port
+pub lent_is_next : (k : Kept) (p : ℕ) (side : PortSide) (result : Option Reply) → slice_get k.ports p ≡ Some side → option_map said result ≡ nth_answer side.core.reorder 0 → IfSome result (λ reply. IsNext k p (said reply))
+lent_is_next k p side None there is = tt
+lent_is_next k p side (Some reply) there is = λ opening events stands.
+    let h = run opening events in
+    let promise = core_keeps_promise opening events in
+    let front : front_of h.state p ≡ Some (said reply) =
+    ap (λ (s : State). front_of s p) (sym stands.state) ∙ ap (λ (x : Option PortSide). option_and_then (λ port. nth_answer port.core.reorder 0) x) there ∙ sym is in
+    subst (λ (x : Option Answer). IfSome x (λ a. slice_get (replies_of_port h p) (length (h.taken p)) ≡ Some (Some a))) front (promise.lent p)
+
+told_by_index : {X : Type 0} (f : X → ℕ) (g : ℕ → ℕ) (a : ℕ) (xs : List X) → ((i : ℕ) (x : X) → slice_get xs i ≡ Some x → f x ≡ g (a + i)) → map f xs ≡ map g (range_with_len a (length xs))
+told_by_index f g a [] told = refl
+told_by_index f g a (x ∷ xs) told = ap₂ ◌∷◌ (told 0 x refl ∙ ap g (omega arith)) (told_by_index f g (a + 1) xs (λ i y is. told (suc i) y is ∙ ap g (omega arith)))
+
+-- a drained core that is closed gave all
+pub closed_gave_all : (k : Kept) (closed : Closed) → IsDrained (state_of k) → closed.accepted.items ≡ map (λ side. side.accepted) k.ports → closed.taken.items ≡ map (λ side. side.taken) k.ports → GaveAll k closed
+closed_gave_all k closed drained accepted taken opening events stands =
+    let h = run opening events in
+    let promise = core_keeps_promise opening events in
+    let ports : k.ports ≡ h.state.ports = ap (λ (s : State). s.ports) stands.state in
+    let all : IsDrained h.state = subst IsDrained stands.state drained in
+    record {
+      finished = promise.finished all;
+      accepted = accepted ∙ ap (map (λ (side : PortSide). side.accepted)) ports
+          ∙ told_by_index (λ (side : PortSide). side.accepted) (λ p. length (h.sent p)) 0 h.state.ports (λ p side is. (promise.counted p side is).accepted ∙ ap (λ n. length (h.sent n)) (omega arith));
+      taken = taken ∙ ap (map (λ (side : PortSide). side.taken)) ports
+          ∙ told_by_index (λ (side : PortSide). side.taken) (λ p. length (h.sent p)) 0 h.state.ports (λ p side is.
+          let counted = promise.counted p side is in
+          let empty = All-at IsPortDrained h.state.ports p side all.ports is in
+          let same : side.taken ≡ length (h.sent p) = omega (arith, counted.taken, counted.outstanding, empty.outstanding) in
+          same ∙ ap (λ n. length (h.sent n)) (omega arith));
+    }
