@@ -1,5 +1,5 @@
 -- A list of which one element was changed.
-use Rattle.std.proofs.Common.{◌≡◌, ℕ, zero, suc, Bool, true, false, cond, eqb, eq-eqb, List, [], ◌∷◌, length, set, Option, Some, None, slice_get, refl, sym, ap, ◌∙◌, subst, arith}
+use Rattle.std.proofs.Common.{◌≡◌, ℕ, zero, suc, ◌<◌, Bool, true, false, cond, eqb, eq-eqb, List, [], ◌∷◌, length, set, Option, Some, None, slice_get, refl, sym, ap, ◌∙◌, subst, arith}
 use Rattle.std.specs.Option.{option_map, option_map_or}
 use Rattle.std.proofs.lemmas.Bool.{eqb-true, false≢true}
 use Rattle.std.proofs.lemmas.Bool.Decides.{nat_tests}
@@ -14,6 +14,12 @@ before_next k = grind (arith, nat_tests)
 
 next_alike : (k n : ℕ) → eqb (suc k) (suc n) ≡ eqb k n
 next_alike k n = grind (arith, nat_tests)
+
+-- an element that is there
+pub some_there : {X : Type 0} (xs : List X) (k : ℕ) → k < length xs → (x : X) × (slice_get xs k ≡ Some x)
+some_there [] k within = absurd (omega (arith, within))
+some_there (x ∷ xs) zero within = (x, refl)
+some_there (x ∷ xs) (suc k) within = some_there xs k (omega (arith, within))
 
 module _ {X : Type 0} (change : X → X) where
   -- the element there is changed, the others are not

@@ -15,3 +15,6 @@ pub mod StepLemmas
 pub mod TotalLemmas
 pub mod TwoSideLemmas
 pub mod WorkerLemmas
+pub mod CountedLemmas
+pub mod PlaceLemmas
+pub mod EndedLemmas

@@ -207,7 +207,7 @@ pub record IsMade (k : core.PortState) (asked : Asked) (made : records.Request) 
   pub port : made.port ≡ k.port
   pub placed : place_of k.geometry made.echo.addr ≡ Some made.place
 
-made_at : (k : core.PortState) (asked : Asked) (made : records.Request) (o : Option Place) → place_of k.geometry (first_address asked) ≡ o → option_map (request_with k asked) o ≡ Some made → IsMade k asked made
+pub made_at : (k : core.PortState) (asked : Asked) (made : records.Request) (o : Option Place) → place_of k.geometry (first_address asked) ≡ o → option_map (request_with k asked) o ≡ Some made → IsMade k asked made
 made_at k asked made None e is = cc
 made_at k asked made (Some place) e is =
     let same : request_with k asked place ≡ made = cc in

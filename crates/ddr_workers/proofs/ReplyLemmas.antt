@@ -76,7 +76,7 @@ nothing (Some x) e = absurd (false≢true e)
 abbrev pub IsIt : ℕ → Echo → Outstanding → Type 0
 IsIt number echo o = o.number ≡ number → (o.echo ≡ echo) × (o.line ≡ None)
 
-awaited_parts : (number : ℕ) (echo : Echo) (o : Outstanding) → is_awaited number echo o ≡ true → (o.number ≡ number) × ((o.echo ≡ echo) × (o.line ≡ None))
+pub awaited_parts : (number : ℕ) (echo : Echo) (o : Outstanding) → is_awaited number echo o ≡ true → (o.number ≡ number) × ((o.echo ≡ echo) × (o.line ≡ None))
 awaited_parts number echo o e =
     let line = and_parts (nat_eq o.number number && is_same_echo o.echo echo) (is_none o.line) e in
     let parts = and_parts (nat_eq o.number number) (is_same_echo o.echo echo) line.0 in
@@ -89,7 +89,7 @@ none_below number echo first (o ∷ os) are below =
     let tail : map (λ (x : Outstanding). x.number) os ≡ range_with_len (first + 1) (length os) = cc in
     All-cons (IsIt number echo) o os (λ same. absurd (omega (arith, same, head, below))) (none_below number echo (first + 1) os tail (omega arith))
 
-unawaited_below : (number : ℕ) (echo : Echo) (first : ℕ) (os : List Outstanding) → map (λ (o : Outstanding). o.number) os ≡ range_with_len first (length os) → number < first → list_any (is_awaited number echo) os ≡ false
+pub unawaited_below : (number : ℕ) (echo : Echo) (first : ℕ) (os : List Outstanding) → map (λ (o : Outstanding). o.number) os ≡ range_with_len first (length os) → number < first → list_any (is_awaited number echo) os ≡ false
 unawaited_below number echo first [] are below = refl
 unawaited_below number echo first (o ∷ os) are below =
     let head : o.number ≡ first = cc in

@@ -7,4 +7,6 @@ pub mod PortView
 pub mod Requests
 pub mod Sides
 pub mod Worker
+pub mod Counted
+pub mod Ended
 pub mod WorkerView

@@ -25,6 +25,9 @@ state_of a = record {
   broken = a.broken;
 }
 
+abbrev pub ended_of : end_inside.Inside → PortEnded
+ended_of a = record { id = a.id; port = a.port; taken = a.taken; requests = a.requests.items; completions = a.completions }
+
 -- the side is this port's, it leads to that channel, and an End stands on it exactly where it was pushed
 pub record IsSideTo (port : ℕ) (geometry : Geometry) (ended : ℕ) (channel : ℕ) (side : PutSide Route Item) : Type 0 where
   pub source : side.who.source ≡ port

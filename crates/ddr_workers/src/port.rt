@@ -51,11 +51,12 @@ impl Model for Port {
 
     ghost Value = { PortState };
 
+    ghost use Rattle.ddr_workers.specs.Counted.{IsCounted};
     ghost use Rattle.ddr_workers.specs.PortView.{state_of, IsWhole};
 
     ghost view = { state_of };
 
-    ghost invariant = { λ a. record { whole : IsWhole (state_of a); number : a.number ≡ a.core.port } };
+    ghost invariant = { λ a. record { whole : IsWhole (state_of a); number : a.number ≡ a.core.port; counted : IsCounted (state_of a) } };
 }
 
 /// What a `poll` did.
@@ -82,7 +83,12 @@ impl Model for PortEnd {
 
     ghost Value = { PortEnded };
 
-    ghost view = { λ a. record { id = a.id; port = a.port; taken = a.taken; requests = a.requests.items; completions = a.completions } };
+    ghost use Rattle.ddr_workers.specs.Ended.{IsEnded};
+    ghost use Rattle.ddr_workers.specs.PortView.{ended_of};
+
+    ghost view = { ended_of };
+
+    ghost invariant = { λ a. IsEnded (ended_of a) };
 }
 
 /// Pushes a request on the side of its channel. Where the queue is full the request comes back.

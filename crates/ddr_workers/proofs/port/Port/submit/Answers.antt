@@ -4,6 +4,7 @@ use Rattle.ddr_ports.specs.Asked.{asked_of}
 use Rattle.ddr_ports.specs.State as core
 use Rattle.ddr_workers.specs.PortView.{state_of}
 use Rattle.ddr_workers.specs.Requests.{has_end, IsPlaced}
+use Rattle.ddr_workers.proofs.CountedLemmas.{counted_asked, counted_busy}
 use Rattle.ddr_workers.proofs.PortLemmas.{whole_submitted, whole_busy, if_some, may_push}
 use Rattle.ddr_workers.proofs.port.Port.submit.Goals as goal
 
@@ -13,6 +14,8 @@ invariant_of-self-in-Ok g c =
       whole = whole_submitted (state_of c.self.inside) (asked_of c.args.request) c.in_ok-made.made c.prepare.new.self c.push_to.new.sides.items c.made.inside.place.channel c.self.invariant.whole c.if-self.false
           c.in_ok-made.ensures.ok c.prepare.ensures.sound c.in-Ok.ensures.pushed;
       number = c.self.invariant.number ∙ ap (λ (k : core.PortState). k.port) (sym c.in_ok-made.ensures.ok);
+      counted = counted_asked (state_of c.self.inside) (asked_of c.args.request) c.in_ok-made.made c.prepare.new.self c.push_to.new.sides.items c.made.inside.place.channel c.self.invariant.whole c.self.invariant.counted
+          (sym c.in_ok-made.ensures.refused) c.in_ok-made.ensures.prepared (ap (λ (r : Request). r.place.channel) (sym c.made.view_is)) c.in_ok-made.ensures.ok c.in-Ok.ensures.pushed;
     }
 
 pub invariant_of-self-in-Err : goal.invariant_of-self-in-Err
@@ -21,6 +24,7 @@ invariant_of-self-in-Err g c =
     record {
       whole = whole_busy (state_of c.self.inside) c.retract.new.self c.push_to.new.sides.items c.made.inside.place.channel c.self.invariant.whole undone c.in-Err.ensures.same;
       number = c.self.invariant.number ∙ ap (λ (k : core.PortState). k.port) (sym undone);
+      counted = counted_busy (state_of c.self.inside) c.retract.new.self c.push_to.new.sides.items c.made.inside.place.channel c.self.invariant.counted undone c.in-Err.ensures.same;
     }
 
 pub push_to-requires-clause-own : goal.push_to-requires-clause-own
