@@ -12,13 +12,13 @@ use Rattle.ddr_trace.specs.Legality.{IsLegal}
 use Rattle.ddr_trace.specs.Traces.{Recorded}
 use Rattle.ddr_address_map.specs.Requests as records
 use Rattle.ddr_address_map.specs.Requests.{Completion}
-use Rattle.ddr_channel.specs.History.{Call, History, Owner, run}
+use Rattle.ddr_channel.specs.History.{Call, History, Owner, begun, run}
 use Rattle.ddr_channel.specs.Kept as kept
 use Rattle.ddr_channel.specs.Promise as promise
 use Rattle.ddr_channel.specs.Promise.{AreCalls, KeepsPromise, right_answer, owned_entry}
 use Rattle.ddr_channel.specs.State.{State}
 use Rattle.ddr_workers.specs.Requests.{has_end, of_port}
-use Rattle.ddr_workers.specs.Worker.{WorkerState, WorkerEnded, AreSent, IsAtWork, IsSameWorker, IsEndOf, IsWorkDone, HasNothing, requests_of}
+use Rattle.ddr_workers.specs.Worker.{WorkerState, WorkerEnded, AreBusy, AreSent, IsAtWork, IsSameWorker, IsEndOf, IsWorkDone, HasNothing, requests_of}
 use Rattle.ddr_workers.specs.WorkerView.{IsWhole, history_of}
 
 abbrev Promised : Type 0
@@ -26,7 +26,10 @@ Promised = (config : Config) (start : ℕ) (calls : List Call) → AreCalls conf
 
 pub at_work : (w : WorkerState) → IsWhole w → Promised → IsAtWork w
 at_work w whole promised = record {
+  calls = whole.calls;
   history = history_of w.channel whole.calls;
+  made = refl;
+  busy = whole.at_work.busy;
   state = whole.at_work.stands.state;
   admitted = whole.at_work.admitted;
   sent = whole.at_work.sent;
@@ -53,6 +56,7 @@ work_done w trace whole nothing promised is legal =
     let done : h.state.done ≡ [] = ap (λ (s : State). s.done) (sym state) ∙ nothing.done in
     let flight : h.state.flight ≡ [] = ap (λ (s : State). s.flight) (sym state) ∙ nothing.flight in
     let entries : h.state.trace ≡ trace.entries = ap (λ (s : State). s.trace) (sym state) ∙ sym (ap (λ (t : Recorded). t.entries) is) in
+    let start : trace.start ≡ w.channel.start = ap (λ (t : Recorded). t.start) is in
     let waiting : h.waiting ≡ [] = none_waiting h.accepted h.waiting (sym (ap (λ ws. map (λ (r : records.Request). Some r) (promise.requests_of ws)) pending) ∙ kept.pending) in
     let all_popped : h.popped ++ h.state.done ++ h.state.flight ≡ h.popped = ap₂ (λ (xs ys : List Completion). h.popped ++ xs ++ ys) done flight ∙ all_nil h.popped in
     record {
@@ -65,4 +69,8 @@ work_done w trace whole nothing promised is legal =
       answers = ap (map (λ (d : Completion). Some d)) (sym all_popped) ∙ kept.answers ∙ ap₂ (λ (c : Config) (rs : List records.Request). map (right_answer c rs) h.owners) config accepted;
       sent = subst (λ o. AreSent h.popped (option_to_list o) w.completions) nothing.held whole.at_work.sent;
       legal = legal;
+      calls = whole.calls;
+      admitted = ap (λ n. (run w.channel.config n whole.calls).accepted) start ∙ accepted;
+      clock = ap (λ (t : Recorded). t.end) is ∙ ap (λ (s : State). s.now) state ∙ sym (ap (λ n. (run w.channel.config n whole.calls).state.now) start);
+      busy = subst (λ n. AreBusy (begun w.channel.config n) whole.calls) (sym start) whole.at_work.busy;
     }

@@ -1,5 +1,6 @@
 -- What each step of a turn keeps.
 use Rattle.std.proofs.Common.{◌≡◌, ℕ, zero, suc, replicate, ◌+◌, ◌<◌, Bool, true, false, cond, eqb, List, [], ◌∷◌, ◌++◌, All, length, map, take, Option, Some, None, IfSome, is_some, Result, Ok, Err, IsTrue, ◌↔◌, slice_get, get_or, set, refl, sym, ap, ap₂, ◌∙◌, subst, arith}
+use Rattle.std.specs.List.{fold}
 use Rattle.std.specs.Option.{option_to_list}
 use Rattle.std.specs.Result.{IsOk, IsErr, IsErrOf, OnOk, OnErr}
 use Rattle.std.proofs.lemmas.Bool.{false≢true}
@@ -36,7 +37,7 @@ use Rattle.ddr_workers.specs.Open.{IsNewDonePut}
 use Rattle.ddr_workers.specs.Requests.{IsNext, has_end, of_port}
 use Rattle.ddr_workers.specs.Sides as sides
 use Rattle.ddr_workers.specs.Sides.{PutSide, TakeSide, after_push, after_full, changed_at}
-use Rattle.ddr_workers.specs.Worker.{WorkerState, AreSent, IsSameWorker, cause_of, requests_of, to_port}
+use Rattle.ddr_workers.specs.Worker.{WorkerState, AreBusy, AreSent, IsBusy, IsIdle, IsSameWorker, cause_of, requests_of, to_port}
 use Rattle.ddr_workers.specs.WorkerView.{IsSideOf, IsTaken, IsGiven, StandsAt, IsWhole, history_of}
 use Rattle.ddr_workers.proofs.ChangedLemmas.{length-changed, each_changed}
 use Rattle.ddr_workers.proofs.SentLemmas.{first_as_list, map-changed, sent_held, sent_pushed, sent_full, given, requests_last, requests_ended, ends_asked, noted_ended, in_range_of}
@@ -48,6 +49,15 @@ Side = PutSide Delivery Completion
 next_history : (k k' : Kept) (calls : List Call) (call : Call) → k'.config ≡ k.config → k'.start ≡ k.start → history_of k' (calls ++ call ∷ []) ≡ after_call (history_of k calls) call
 next_history k k' calls call config start =
     ap₂ (λ (c : Config) (s : ℕ). run c s (calls ++ call ∷ [])) config start ∙ fold-append after_call (begun k.config k.start) calls (call ∷ [])
+
+busy_more : (h : History) (calls : List Call) (call : Call) → AreBusy h calls → IsBusy (fold after_call h calls) call → AreBusy h (calls ++ call ∷ [])
+busy_more h [] call busy is = (is, tt)
+busy_more h (first ∷ later) call busy is = (busy.0, busy_more (after_call h first) later call busy.1 is)
+
+busy_next : (k k' : Kept) (calls : List Call) (call : Call) → k'.config ≡ k.config → k'.start ≡ k.start → AreBusy (begun k.config k.start) calls → IsBusy (history_of k calls) call
+    → AreBusy (begun k'.config k'.start) (calls ++ call ∷ [])
+busy_next k k' calls call config start busy is =
+    subst (λ h. AreBusy h (calls ++ call ∷ [])) (sym (ap₂ begun config start)) (busy_more (begun k.config k.start) calls call busy is)
 
 -- what a worker keeps beside its calls goes over to another state of its channel
 sides_of : (w : WorkerState) (k : Kept) → IsWhole w → k.config ≡ w.channel.config → (p : ℕ) (side : Side) → slice_get w.completions p ≡ Some side → IsSideOf k.config.geometry w.number p side
@@ -78,6 +88,7 @@ whole_held w k o whole none first rest config right stands =
       calls = calls ++ Pop ∷ [];
       at_work = record {
         stands = stands calls whole.at_work.stands;
+        busy = busy_next w.channel k calls Pop config (ap (λ (s : State). s.start) rest) whole.at_work.busy tt;
         admitted = ap (λ (x : History). x.accepted) next ∙ whole.at_work.admitted;
         sent = subst (λ (x : History). AreSent x.popped (option_to_list o) w.completions) (sym next)
             (subst (λ xs. AreSent (h.popped ++ xs) (option_to_list o) w.completions) (sym popped) (sent_held h.popped o w.completions before (if_given o (IsGiven route ports) (λ d. d.port < ports) (λ d g. g.port) held)));
@@ -102,6 +113,7 @@ whole_pushed w d xs whole held pushed =
       calls = whole.calls;
       at_work = record {
         stands = whole.at_work.stands;
+        busy = whole.at_work.busy;
         admitted = whole.at_work.admitted;
         sent = sent_pushed h.popped d w.completions (subst (λ o. AreSent h.popped (option_to_list o) w.completions) held whole.at_work.sent);
       };
@@ -125,6 +137,7 @@ whole_full w d back xs whole held same full =
       calls = whole.calls;
       at_work = record {
         stands = whole.at_work.stands;
+        busy = whole.at_work.busy;
         admitted = whole.at_work.admitted;
         sent = sent_full h.popped (option_to_list w.held) d.port w.completions whole.at_work.sent;
       };
@@ -160,6 +173,7 @@ whole_admitted w k r t whole popped is_next room made config stands =
       calls = calls ++ Admit r ∷ [];
       at_work = record {
         stands = stands calls whole.at_work.stands;
+        busy = busy_next w.channel k calls (Admit r) config (ap (λ (s : State). s.start) made) whole.at_work.busy tt;
         admitted = ap (λ (x : History). x.accepted) next ∙ ap (λ rs. rs ++ r ∷ []) whole.at_work.admitted ∙ sym (requests_last w.requests.took r);
         sent = subst (λ (x : History). AreSent x.popped (option_to_list w.held) w.completions) (sym next) whole.at_work.sent;
       };
@@ -184,6 +198,7 @@ whole_noted w q t whole popped is_next =
       calls = whole.calls;
       at_work = record {
         stands = whole.at_work.stands;
+        busy = whole.at_work.busy;
         admitted = whole.at_work.admitted ∙ sym same;
         sent = whole.at_work.sent;
       };
@@ -222,9 +237,9 @@ if_alike false x y f same = same
 cycle_alike : {X : Type 0} (h : History) (f : History → X) → f (record (with_owner (choice_of (at_choice h.state)) h) { state = after_cycle h.state }) ≡ f h → f (after_call h Cycle) ≡ f h
 cycle_alike h f same = if_alike (eqb h.state.now CLOCK_STOP) h (record (with_owner (choice_of (at_choice h.state)) h) { state = after_cycle h.state }) f same
 
-pub whole_cycled : (w : WorkerState) (k : Kept) → IsWhole w → k.config ≡ w.channel.config → k.start ≡ w.channel.start
+pub whole_cycled : (w : WorkerState) (k : Kept) → IsWhole w → (IsIdle (kept.state_of w.channel) → ⊥) → k.config ≡ w.channel.config → k.start ≡ w.channel.start
     → ((calls : List Call) → StandsFor w.channel calls → StandsFor k (calls ++ Cycle ∷ [])) → IsWhole (record w { channel = k })
-whole_cycled w k whole config start stands =
+whole_cycled w k whole holds config start stands =
     let calls = whole.calls in
     let h = history_of w.channel calls in
     let next = next_history w.channel k calls Cycle config start in
@@ -234,6 +249,7 @@ whole_cycled w k whole config start stands =
       calls = calls ++ Cycle ∷ [];
       at_work = record {
         stands = stands calls whole.at_work.stands;
+        busy = busy_next w.channel k calls Cycle config start whole.at_work.busy (λ idle. holds (subst IsIdle (sym whole.at_work.stands.state) idle));
         admitted = accepted ∙ whole.at_work.admitted;
         sent = subst (λ xs. AreSent xs (option_to_list w.held) w.completions) (sym popped) whole.at_work.sent;
       };
@@ -260,6 +276,7 @@ whole_uncycled w k whole same =
           calls_are = subst (λ (c : Config). AreCalls c calls) (sym config) whole.at_work.stands.calls_are;
           state = same ∙ whole.at_work.stands.state ∙ ap (λ (x : History). x.state) (sym alike);
         };
+        busy = subst (λ (x : History). AreBusy x calls) (sym (ap₂ begun config start)) whole.at_work.busy;
         admitted = ap (λ (x : History). x.accepted) alike ∙ whole.at_work.admitted;
         sent = subst (λ (x : History). AreSent x.popped (option_to_list w.held) w.completions) (sym alike) whole.at_work.sent;
       };
@@ -341,6 +358,7 @@ whole_opened w config same stands route ports took new held noted = record {
   calls = [];
   at_work = record {
     stands = stands;
+    busy = tt;
     admitted = sym (ap requests_of took);
     sent = record {
       sent = λ p side there. sym (ap (λ xs. xs ++ to_port p (option_to_list w.held)) (new p side there).put ∙ ap (λ o. to_port p (option_to_list o)) held);

@@ -4,7 +4,7 @@ use Rattle.std.specs.Option.{option_to_list}
 use Rattle.ddr_timing.specs.declared.geometry.Geometry.{Geometry}
 use Rattle.ddr_address_map.specs.Requests as records
 use Rattle.ddr_address_map.specs.Requests.{Completion}
-use Rattle.ddr_channel.specs.History.{Call, History, run}
+use Rattle.ddr_channel.specs.History.{Call, History, begun, run}
 use Rattle.ddr_channel.specs.Kept.{Kept}
 use Rattle.ddr_channel.specs.Promise.{StandsFor}
 use Rattle.ddr_workers.specs.declared.completions.Delivery.{Delivery}
@@ -13,7 +13,7 @@ use Rattle.ddr_workers.specs.declared.worker.Worker.TheInside.{Inside}
 use Rattle.ddr_workers.specs.Completions.{IsFrom}
 use Rattle.ddr_workers.specs.Requests.{IsPlaced, has_end, of_port}
 use Rattle.ddr_workers.specs.Sides.{PutSide}
-use Rattle.ddr_workers.specs.Worker.{WorkerState, AreSent, requests_of}
+use Rattle.ddr_workers.specs.Worker.{WorkerState, AreBusy, AreSent, requests_of}
 
 abbrev pub state_of : Inside → WorkerState
 state_of a = record {
@@ -48,6 +48,7 @@ pub record IsGiven (route : Route) (ports : ℕ) (d : Completion) : Type 0 where
 -- What the channel's calls were
 pub record StandsAt (w : WorkerState) (calls : List Call) : Type 0 where
   pub stands : StandsFor w.channel calls
+  pub busy : AreBusy (begun w.channel.config w.channel.start) calls
   pub admitted : (history_of w.channel calls).accepted ≡ requests_of w.requests.took
   pub sent : AreSent (history_of w.channel calls).popped (option_to_list w.held) w.completions
 

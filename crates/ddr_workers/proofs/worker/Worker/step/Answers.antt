@@ -1,4 +1,5 @@
 use Rattle.std.proofs.Common.{◌≡◌, IfErr, refl, sym, ap, subst, ◌∙◌}
+use Rattle.std.proofs.lemmas.Bool.{false≢true}
 use Rattle.ddr_arbiter.specs.declared.choice.Choice.TheVariants.{Nothing}
 use Rattle.ddr_channel.specs.Choice.{choice_of}
 use Rattle.ddr_channel.specs.Cycle.{at_choice}
@@ -14,7 +15,7 @@ pub invariant_of-self : goal.invariant_of-self
 invariant_of-self c =
     let w = state_of c.self.inside in
     elim c.match-cycle.branch [
-      | in-Ok b ↦ whole_cycled w c.cycle.new.self c.self.invariant c.cycle.ensures.config (cycle_begins w.channel c.cycle.new.self c.cycle.result c.cycle.ensures.ok c.cycle.ensures.err) b.in-Ok.ensures.stands
+      | in-Ok b ↦ whole_cycled w c.cycle.new.self c.self.invariant (λ idle. false≢true (sym c.if-is_empty.false ∙ c.is_empty.ensures.1 idle)) c.cycle.ensures.config (cycle_begins w.channel c.cycle.new.self c.cycle.result c.cycle.ensures.ok c.cycle.ensures.err) b.in-Ok.ensures.stands
       | in-Err b ↦ whole_uncycled w c.cycle.new.self c.self.invariant b.in-Err.ensures.err
     ]
 
