@@ -5,6 +5,7 @@ use Rattle.std.proofs.lemmas.Bool.Decides.{nat_tests}
 use Rattle.std.proofs.lemmas.List.Elements.{All-nil}
 use Rattle.std.proofs.lemmas.List.{append-nil}
 use Rattle.ddr_timing.specs.declared.config.Config.{Config}
+use Rattle.ddr_trace.specs.Traces.{Recorded}
 use Rattle.ddr_address_map.specs.Requests.{Request, Completion}
 use Rattle.ddr_reorder.specs.Sound.{IsSound}
 use Rattle.ddr_reorder.specs.State.{Outstanding, IsWithinLine}
@@ -13,13 +14,14 @@ use Rattle.ddr_workers.specs.declared.completions.Delivery.{Delivery}
 use Rattle.ddr_workers.specs.declared.requests.Item.{Item}
 use Rattle.ddr_workers.specs.declared.requests.Route.{Route}
 use Rattle.ddr_workers.specs.Counted.{AreWithinLines, IsCounted, numbers_put, numbers_filled}
-use Rattle.ddr_workers.specs.Ended.{IsEnded}
+use Rattle.ddr_workers.specs.Ended.{IsEnded, IsWorkerEnded}
 use Rattle.ddr_workers.specs.Open.{IsNewPut, new_port}
 use Rattle.ddr_workers.specs.Port.{PortState, PortEnded, first_with, after_ends}
 use Rattle.ddr_workers.specs.PortView.{IsSideTo, IsReady, IsAwaited, IsWhole}
 use Rattle.ddr_workers.specs.Requests.{has_end}
 use Rattle.ddr_workers.specs.Sides.{PutSide, TakeSide}
-use Rattle.ddr_workers.specs.Worker.{requests_of}
+use Rattle.ddr_workers.specs.Worker.{WorkerState, IsWorkDone, requests_of}
+use Rattle.ddr_workers.specs.WorkerView as worker
 use Rattle.ddr_workers.proofs.CountedLemmas.{numbers_of, sum_flat}
 use Rattle.ddr_workers.proofs.PortLemmas.{ends_ended, ends_core, ends_length}
 
@@ -89,3 +91,15 @@ ended_kept s t port whole counted working within nothing is number =
       within = counted.within;
       got = λ f. counted.got works f ∙ none_filled f t.taken t.core.reorder.outstanding none;
     }
+
+-- a worker at its end
+pub worker_ended : (w : WorkerState) (trace : Recorded) → worker.IsWhole w → IsWorkDone w.channel.config (record { id = w.id; number = w.number; requests = w.requests; completions = w.completions; trace = trace })
+    → IsWorkerEnded (record { id = w.id; number = w.number; requests = w.requests; completions = w.completions; trace = trace })
+worker_ended w trace whole done = record {
+  config = w.channel.config;
+  work = done;
+  route = whole.route;
+  count = whole.ports;
+  sides = whole.sides;
+  taken = whole.taken;
+}

@@ -8,5 +8,5 @@ pub mod Requests
 pub mod Sides
 pub mod Worker
 pub mod Counted
-pub mod Ended
 pub mod WorkerView
+pub mod Ended

@@ -10,10 +10,11 @@ use Rattle.ddr_channel.specs.Promise.{StandsFor}
 use Rattle.ddr_workers.specs.declared.completions.Delivery.{Delivery}
 use Rattle.ddr_workers.specs.declared.requests.Route.{Route}
 use Rattle.ddr_workers.specs.declared.worker.Worker.TheInside.{Inside}
+use Rattle.ddr_workers.specs.declared.worker.WorkerEnd.TheInside as end_inside
 use Rattle.ddr_workers.specs.Completions.{IsFrom}
 use Rattle.ddr_workers.specs.Requests.{IsPlaced, has_end, of_port}
 use Rattle.ddr_workers.specs.Sides.{PutSide}
-use Rattle.ddr_workers.specs.Worker.{WorkerState, AreBusy, AreSent, requests_of}
+use Rattle.ddr_workers.specs.Worker.{WorkerState, WorkerEnded, AreBusy, AreSent, requests_of}
 
 abbrev pub state_of : Inside → WorkerState
 state_of a = record {
@@ -25,6 +26,9 @@ state_of a = record {
   held = a.held;
   noted = a.noted.items;
 }
+
+abbrev pub ended_of : end_inside.Inside → WorkerEnded
+ended_of a = record { id = a.id; number = a.number; requests = a.requests; completions = a.completions.items; trace = a.trace }
 
 -- what the calls since `open` make of the channel
 abbrev pub history_of : Kept → List Call → History

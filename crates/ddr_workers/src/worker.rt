@@ -101,7 +101,12 @@ impl Model for WorkerEnd {
 
     ghost Value = { WorkerEnded };
 
-    ghost view = { λ a. record { id = a.id; number = a.number; requests = a.requests; completions = a.completions.items; trace = a.trace } };
+    ghost use Rattle.ddr_workers.specs.Ended.{IsWorkerEnded};
+    ghost use Rattle.ddr_workers.specs.WorkerView.{ended_of};
+
+    ghost view = { ended_of };
+
+    ghost invariant = { λ a. IsWorkerEnded (ended_of a) };
 }
 
 /// Pushes a completion on the side of its port. Where the queue is full it comes back.
