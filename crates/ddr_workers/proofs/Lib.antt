@@ -18,3 +18,4 @@ pub mod WorkerLemmas
 pub mod CountedLemmas
 pub mod PlaceLemmas
 pub mod EndedLemmas
+pub mod HeadlineLemmas

@@ -10,3 +10,4 @@ pub mod Worker
 pub mod Counted
 pub mod WorkerView
 pub mod Ended
+pub mod Headline
