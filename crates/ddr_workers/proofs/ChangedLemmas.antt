@@ -1,5 +1,5 @@
 -- A list of which one element was changed.
-use Rattle.std.proofs.Common.{◌≡◌, ℕ, zero, suc, ◌<◌, Bool, true, false, cond, eqb, eq-eqb, List, [], ◌∷◌, length, set, Option, Some, None, slice_get, refl, sym, ap, ◌∙◌, subst, arith}
+use Rattle.std.proofs.Common.{◌≡◌, ℕ, zero, suc, ◌<◌, Bool, true, false, cond, eqb, eq-eqb, List, [], ◌∷◌, ◌++◌, length, set, Option, Some, None, slice_get, refl, sym, ap, ◌∙◌, subst, arith}
 use Rattle.std.specs.Option.{option_map, option_map_or}
 use Rattle.std.proofs.lemmas.Bool.{eqb-true, false≢true}
 use Rattle.std.proofs.lemmas.Bool.Decides.{nat_tests}
@@ -20,6 +20,12 @@ pub some_there : {X : Type 0} (xs : List X) (k : ℕ) → k < length xs → (x :
 some_there [] k within = absurd (omega (arith, within))
 some_there (x ∷ xs) zero within = (x, refl)
 some_there (x ∷ xs) (suc k) within = some_there xs k (omega (arith, within))
+
+-- it stays there as more is added to the end
+pub there_still : {X : Type 0} (xs ys : List X) (k : ℕ) (x : X) → slice_get xs k ≡ Some x → slice_get (xs ++ ys) k ≡ Some x
+there_still [] ys k x is = cc
+there_still (z ∷ zs) ys zero x is = is
+there_still (z ∷ zs) ys (suc k) x is = there_still zs ys k x is
 
 module _ {X : Type 0} (change : X → X) where
   -- the element there is changed, the others are not

@@ -188,7 +188,7 @@ filled_head f n echo line first o os true e head tail any rest =
     omega (arith, ap (λ (xs : List Outstanding). sum_by f (numbers_filled xs)) list, filled_cons f (record o { line = Some line }) os, filled_cons f o os, before, number)
 filled_head f n echo line first o os false e head tail any rest =
     let other : filled n line o ≡ o = ap (λ b. cond b (record o { line = Some line }) o)
-        (ne_eqb o.number n (λ same. absurd (false≢true (sym (unawaited_below n echo (first + 1) os tail (omega (arith, same, head))) ∙ any)))) in
+    (ne_eqb o.number n (λ same. absurd (false≢true (sym (unawaited_below n echo (first + 1) os tail (omega (arith, same, head))) ∙ any)))) in
     omega (arith, ap (λ (x : Outstanding). sum_by f (numbers_filled (x ∷ map (filled n line) os))) other, filled_cons f o (map (filled n line) os), filled_cons f o os, rest any)
 
 pub numbers_filled-filled : (f : ℕ → ℕ) (n : ℕ) (echo : Echo) (line : List ℕ) (first : ℕ) (os : List Outstanding) → map (λ (o : Outstanding). o.number) os ≡ range_with_len first (length os)
@@ -209,7 +209,7 @@ counted_filled s d k side whole c awaited is popped =
       got = λ working f.
           let took = sum_last f (map (λ (x : Completion). x.number) s.completions.took) d.number in
           let list : sum_by f (map (λ (x : Completion). x.number) (s.completions.took ++ d ∷ [])) ≡ sum_by f (map (λ (x : Completion). x.number) s.completions.took ++ d.number ∷ []) =
-              ap (sum_by f) (map-append (λ (x : Completion). x.number) s.completions.took (d ∷ [])) in
+          ap (sum_by f) (map-append (λ (x : Completion). x.number) s.completions.took (d ∷ [])) in
           let new = numbers_filled-filled f d.number d.echo d.line (s.core.reorder.next - length os) os whole.sound.numbers awaited in
           omega (arith, took, list, new, c.got working f, sum_by-append f (range_with_len 0 s.taken) (numbers_filled os), sum_by-append f (range_with_len 0 s.taken) (numbers_filled (map (filled d.number d.line) os)));
     } in
@@ -232,11 +232,18 @@ counted_released s k o rest c list number has is =
       got = λ working f.
           let before = c.got working f in
           let old : sum_by f (numbers_filled s.core.reorder.outstanding) ≡ f s.taken + sum_by f (numbers_filled rest) =
-              ap (λ (os : List Outstanding). sum_by f (numbers_filled os)) list ∙ filled_cons f o rest ∙ ap₂ (λ (b : Bool) (n : ℕ). cond b (f n) 0 + sum_by f (numbers_filled rest)) has number in
+          ap (λ (os : List Outstanding). sum_by f (numbers_filled os)) list ∙ filled_cons f o rest ∙ ap₂ (λ (b : Bool) (n : ℕ). cond b (f n) 0 + sum_by f (numbers_filled rest)) has number in
           let new : sum_by f (numbers_filled (drop 1 s.core.reorder.outstanding)) ≡ sum_by f (numbers_filled rest) = ap (λ (os : List Outstanding). sum_by f (numbers_filled (drop 1 os))) list in
           let range = sum_next f s.taken in
-          omega (arith, before, old, new, range, sum_by-append f (range_with_len 0 s.taken) (numbers_filled s.core.reorder.outstanding),
-              sum_by-append f (range_with_len 0 (s.taken + 1)) (numbers_filled (drop 1 s.core.reorder.outstanding)));
+          omega (
+            arith,
+            before,
+            old,
+            new,
+            range,
+            sum_by-append f (range_with_len 0 s.taken) (numbers_filled s.core.reorder.outstanding),
+            sum_by-append f (range_with_len 0 (s.taken + 1)) (numbers_filled (drop 1 s.core.reorder.outstanding)),
+          );
     } in
     subst (λ (x : core.PortState). IsCounted (record s { core = x; taken = s.taken + 1 })) (sym is) counted
 
@@ -275,7 +282,7 @@ denied false is = cc
 pub line_kept : (k : core.PortState) (asked : Asked) → core.refusal_of k asked ≡ None → IsWithinLine (echo_of asked)
 line_kept k asked free =
     leb-true _ _ (denied (is_within_line asked) (none_free k.finished (is_none (place_of k.geometry (first_address asked))) (eqb (len_of asked) 0) (not (is_within_line asked))
-        Finished OutOfRange EmptyLength CrossesLine (option_map refusal_from (issue_refusal k.reorder)) free))
+    Finished OutOfRange EmptyLength CrossesLine (option_map refusal_from (issue_refusal k.reorder)) free))
 
 made_as : (k : core.PortState) (asked : Asked) (made : records.Request) (o : Option Place) → option_map (request_with k asked) o ≡ Some made → (made.number ≡ k.reorder.next) × (made.echo ≡ echo_of asked)
 made_as k asked made None e = cc
@@ -306,13 +313,13 @@ first_filled (o ∷ os) n is = (o, os, refl, by_line o.line refl is)
     by_line (Some line) has is = ap is_some has
     by_line None none is =
         let nothing : option_map (λ (a : Answer). a.number) (option_and_then answer_of (slice_get (take (cond (is_some o.line) (1 + prefix_len is_filled os) 0) (o ∷ os)) 0)) ≡ None =
-            ap (λ (l : Option (List ℕ)). option_map (λ (a : Answer). a.number) (option_and_then answer_of (slice_get (take (cond (is_some l) (1 + prefix_len is_filled os) 0) (o ∷ os)) 0))) none in
+        ap (λ (l : Option (List ℕ)). option_map (λ (a : Answer). a.number) (option_and_then answer_of (slice_get (take (cond (is_some l) (1 + prefix_len is_filled os) 0) (o ∷ os)) 0))) none in
         cc
 
 pub counted_release : (s : PortState) (k : core.PortState) (n : ℕ) → IsWhole s → IsCounted s → front_number s.core.reorder ≡ Some n → k ≡ core.after_release s.core → IsCounted (record s { core = k; taken = s.taken + 1 })
 counted_release s k n whole c is released =
     let first = first_filled s.core.reorder.outstanding n is in
     let numbers : map (λ (o : Outstanding). o.number) (first.0 ∷ first.1) ≡ range_with_len (s.core.reorder.next - length s.core.reorder.outstanding) (suc (length first.1)) =
-        ap (map (λ (o : Outstanding). o.number)) (sym first.2) ∙ whole.sound.numbers ∙ ap (λ (os : List Outstanding). range_with_len (s.core.reorder.next - length s.core.reorder.outstanding) (length os)) first.2 in
+    ap (map (λ (o : Outstanding). o.number)) (sym first.2) ∙ whole.sound.numbers ∙ ap (λ (os : List Outstanding). range_with_len (s.core.reorder.next - length s.core.reorder.outstanding) (length os)) first.2 in
     let head : first.0.number ≡ s.core.reorder.next - length s.core.reorder.outstanding = cc in
     counted_released s k first.0 first.1 c first.2 (omega (arith, head, whole.counted)) first.3 released
