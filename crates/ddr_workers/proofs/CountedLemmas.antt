@@ -1,15 +1,15 @@
 -- What each call of a port keeps of the numbers that it pushed and got back.
-use Rattle.std.proofs.Common.{◌≡◌, ℕ, zero, suc, ◌+◌, ◌-◌, ◌<◌, ◌≤◌, Bool, true, false, not, cond, ◌||◌, eqb, List, [], ◌∷◌, ◌++◌, All, length, map, drop, set, Option, Some, None, is_some, is_none, take, slice_get, refl, sym, ap, ap₂, ◌∙◌, subst, arith}
+use Rattle.std.proofs.Common.{◌≡◌, ℕ, zero, suc, ◌+◌, ◌-◌, ◌<◌, Bool, true, false, not, cond, ◌||◌, eqb, List, [], ◌∷◌, ◌++◌, All, length, map, drop, set, Option, Some, None, is_some, is_none, take, slice_get, refl, sym, ap, ap₂, ◌∙◌, subst, arith}
 use Rattle.std.specs.List.{sum_by, flat_map, filter, list_any, range_with_len, take_while, prefix_len}
 use Rattle.std.specs.Option.{option_map, option_map_or, option_and_then}
-use Rattle.std.proofs.lemmas.Bool.{false≢true, ne_eqb, eq-eqb, eqb-true, leb-true}
+use Rattle.std.proofs.lemmas.Bool.{false≢true, ne_eqb, eq-eqb, leb-true}
 use Rattle.std.proofs.lemmas.List.{map-append, append-nil}
 use Rattle.std.proofs.lemmas.List.Elements.{All-push}
 use Rattle.std.proofs.lemmas.List.Sums.{sum_by-cons, sum_by-append}
 use Rattle.ddr_timing.specs.declared.geometry.Digit.TheVariants.{Channel}
 use Rattle.ddr_address_map.specs.declared.place.Place.{Place}
 use Rattle.ddr_address_map.specs.declared.request.Echo.{Echo}
-use Rattle.ddr_address_map.specs.Map.{in_range, place_of}
+use Rattle.ddr_address_map.specs.Map.{place_of}
 use Rattle.ddr_address_map.proofs.MapLemmas.{IsInRange-test}
 use Rattle.ddr_address_map.specs.Requests as records
 use Rattle.ddr_address_map.specs.Requests.{Completion}
@@ -26,7 +26,7 @@ use Rattle.ddr_workers.specs.declared.completions.Delivery.{Delivery}
 use Rattle.ddr_workers.specs.declared.requests.Item.{Item}
 use Rattle.ddr_workers.specs.declared.requests.Item.TheVariants.{Request, End}
 use Rattle.ddr_workers.specs.declared.requests.Route.{Route}
-use Rattle.ddr_workers.specs.Counted.{AreAlike, AreWithinLines, IsCounted, numbers_put, numbers_filled}
+use Rattle.ddr_workers.specs.Counted.{AreWithinLines, IsCounted, numbers_put, numbers_filled}
 use Rattle.ddr_workers.specs.Port.{PortState, after_busy, after_end, finished}
 use Rattle.ddr_workers.specs.PortView.{IsWhole}
 use Rattle.ddr_workers.specs.Sides.{PutSide, TakeSide, after_push, after_full, after_pop, changed_at}

@@ -1,10 +1,9 @@
 -- What a worker has done at its end, and at any time.
-use Rattle.std.proofs.Common.{◌≡◌, ℕ, ◌<◌, Bool, true, false, List, [], ◌∷◌, ◌++◌, All, length, map, filter, Option, Some, None, slice_get, get_or, refl, sym, ap, ap₂, ◌∙◌, subst, arith}
+use Rattle.std.proofs.Common.{◌≡◌, ℕ, List, [], ◌∷◌, ◌++◌, length, map, filter, Some, slice_get, refl, sym, ap, ap₂, ◌∙◌, subst}
 use Rattle.std.specs.List.{range_with_len}
 use Rattle.std.specs.List.Sorted.{IsPermutation}
 use Rattle.std.specs.Option.{option_to_list}
 use Rattle.std.proofs.lemmas.List.{append-nil}
-use Rattle.std.proofs.lemmas.List.Elements.{All-get_or}
 use Rattle.ddr_timing.specs.declared.config.Config.{Config}
 use Rattle.ddr_trace.specs.declared.command.Entry.{Entry}
 use Rattle.ddr_trace.specs.Commands.{is_column}
@@ -12,13 +11,11 @@ use Rattle.ddr_trace.specs.Legality.{IsLegal}
 use Rattle.ddr_trace.specs.Traces.{Recorded}
 use Rattle.ddr_address_map.specs.Requests as records
 use Rattle.ddr_address_map.specs.Requests.{Completion}
-use Rattle.ddr_channel.specs.History.{Call, History, Owner, begun, run}
-use Rattle.ddr_channel.specs.Kept as kept
+use Rattle.ddr_channel.specs.History.{Call, Owner, begun, run}
 use Rattle.ddr_channel.specs.Promise as promise
 use Rattle.ddr_channel.specs.Promise.{AreCalls, KeepsPromise, right_answer, owned_entry}
 use Rattle.ddr_channel.specs.State.{State}
-use Rattle.ddr_workers.specs.Requests.{has_end, of_port}
-use Rattle.ddr_workers.specs.Worker.{WorkerState, WorkerEnded, AreBusy, AreSent, IsAtWork, IsSameWorker, IsEndOf, IsWorkDone, HasNothing, requests_of}
+use Rattle.ddr_workers.specs.Worker.{WorkerState, AreBusy, AreSent, IsAtWork, IsWorkDone, HasNothing}
 use Rattle.ddr_workers.specs.WorkerView.{IsWhole, history_of}
 
 abbrev Promised : Type 0

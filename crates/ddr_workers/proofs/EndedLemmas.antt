@@ -1,5 +1,5 @@
 -- What a new port begins with, and what a finished one leaves.
-use Rattle.std.proofs.Common.{◌≡◌, ℕ, zero, suc, ◌+◌, ◌-◌, ◌<◌, ◌≤◌, Bool, true, false, nat_lt, List, [], ◌∷◌, ◌++◌, All, length, map, Some, None, slice_get, refl, sym, ap, ap₂, ◌∙◌, subst, arith}
+use Rattle.std.proofs.Common.{◌≡◌, ℕ, zero, suc, ◌-◌, ◌≤◌, false, nat_lt, List, [], ◌∷◌, ◌++◌, All, length, map, Some, slice_get, refl, sym, ap, ◌∙◌, subst, arith}
 use Rattle.std.specs.List.{sum_by, range_with_len}
 use Rattle.std.proofs.lemmas.Bool.Decides.{nat_tests}
 use Rattle.std.proofs.lemmas.List.Elements.{All-nil}
@@ -13,16 +13,16 @@ use Rattle.ddr_ports.specs.State as core
 use Rattle.ddr_workers.specs.declared.completions.Delivery.{Delivery}
 use Rattle.ddr_workers.specs.declared.requests.Item.{Item}
 use Rattle.ddr_workers.specs.declared.requests.Route.{Route}
-use Rattle.ddr_workers.specs.Counted.{AreWithinLines, IsCounted, numbers_put, numbers_filled}
+use Rattle.ddr_workers.specs.Counted.{IsCounted, numbers_put, numbers_filled}
 use Rattle.ddr_workers.specs.Ended.{IsEnded, IsWorkerEnded}
 use Rattle.ddr_workers.specs.Open.{IsNewPut, new_port}
-use Rattle.ddr_workers.specs.Port.{PortState, PortEnded, first_with, after_ends}
+use Rattle.ddr_workers.specs.Port.{PortState, first_with, after_ends}
 use Rattle.ddr_workers.specs.PortView.{IsSideTo, IsReady, IsAwaited, IsWhole}
 use Rattle.ddr_workers.specs.Requests.{has_end}
 use Rattle.ddr_workers.specs.Sides.{PutSide, TakeSide}
 use Rattle.ddr_workers.specs.Worker.{WorkerState, IsWorkDone, requests_of}
 use Rattle.ddr_workers.specs.WorkerView as worker
-use Rattle.ddr_workers.proofs.CountedLemmas.{numbers_of, sum_flat}
+use Rattle.ddr_workers.proofs.CountedLemmas.{numbers_of}
 use Rattle.ddr_workers.proofs.PortLemmas.{ends_ended, ends_core, ends_length}
 
 abbrev Side : Type 0

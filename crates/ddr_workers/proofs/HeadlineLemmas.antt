@@ -1,14 +1,14 @@
 -- From the joined queues to the replies: each port got the right reply to each of its requests, once.
-use Rattle.std.proofs.Common.{◌≡◌, ◌≢◌, ℕ, zero, suc, ◌+◌, ◌%◌, ◌<◌, ◌≤◌, ◌⊎◌, Bool, true, false, cond, eqb, ltb, List, [], ◌∷◌, ◌++◌, All, length, map, take, filter, Option, Some, None, slice_get, refl, sym, ap, ap₂, ◌∙◌, subst, inl, inr, arith}
+use Rattle.std.proofs.Common.{◌≡◌, ◌≢◌, ℕ, zero, suc, ◌+◌, ◌%◌, ◌<◌, ◌≤◌, Bool, true, false, cond, eqb, ltb, List, [], ◌∷◌, ◌++◌, All, length, map, take, filter, Option, Some, None, slice_get, refl, sym, ap, ◌∙◌, subst, inl, inr, arith}
 use Rattle.std.specs.List.{sum_by, slice_range, range_with_len, AllByRecursion}
-use Rattle.std.specs.Option.{option_map, option_map_or}
+use Rattle.std.specs.Option.{option_map_or}
 use Rattle.std.proofs.lemmas.Bool.{eq-eqb, ne_eqb, eqb-true, ltb-true, ltb-false}
 use Rattle.std.proofs.lemmas.Bool.Decides.{eqb_tells}
-use Rattle.std.proofs.lemmas.List.{append-nil}
-use Rattle.std.proofs.lemmas.List.Elements.{All-head, All-tail}
+use Rattle.std.proofs.lemmas.List.{append-nil, length-append, length-map}
 use Rattle.std.proofs.lemmas.List.Sums.{sum_by-cons, length-filter}
-use Rattle.std.proofs.lemmas.Option.{slice_get_within}
-use Rattle.ddr_timing.specs.declared.geometry.Geometry.{Geometry}
+use Rattle.std.proofs.lemmas.List.Sorted.{sum_by-IsPermutation}
+use Rattle.std.proofs.lemmas.Option.{slice_get_within, get_or_from_slice_get}
+use Rattle.ddr_timing.specs.declared.config.Config.{Config}
 use Rattle.ddr_address_map.specs.declared.request.Kind.{Kind}
 use Rattle.ddr_address_map.specs.declared.request.Kind.TheVariants.{Read, Write}
 use Rattle.ddr_address_map.specs.Requests as records
@@ -24,6 +24,7 @@ use Rattle.ddr_reorder.specs.Replies.{Answer, asked_bytes}
 use Rattle.ddr_reorder.specs.State.{IsWithinLine}
 use Rattle.ddr_world.specs.Promise as core
 use Rattle.ddr_world.specs.Promise.{bytes_after, bytes_for}
+use Rattle.ddr_world.proofs.CoreCounts.{sum_ones}
 use Rattle.ddr_world.proofs.CoreReplies.{some_of_map}
 use Rattle.ddr_world.proofs.LineBytes as lines
 use Rattle.ddr_world.proofs.LineBytes.{asked_of_line}
@@ -31,17 +32,16 @@ use Rattle.ddr_workers.specs.declared.completions.Delivery.{Delivery}
 use Rattle.ddr_workers.specs.declared.requests.Item.{Item}
 use Rattle.ddr_workers.specs.declared.requests.Item.TheVariants.{Request, End}
 use Rattle.ddr_workers.specs.declared.requests.Route.{Route}
-use Rattle.ddr_workers.specs.Completions.{of_channel, source_of}
-use Rattle.ddr_workers.specs.Counted.{AreWithinLines, numbers_put}
-use Rattle.ddr_workers.specs.Ended.{IsEnded, IsWorkerEnded}
+use Rattle.ddr_workers.specs.Completions.{source_of}
 use Rattle.ddr_workers.specs.Headline.{AreJoined, accepted_by, IsReplied, GotAll}
 use Rattle.ddr_workers.specs.Port.{PortEnded, reply_of}
-use Rattle.ddr_workers.specs.Requests.{IsPlaced, of_port, port_of}
+use Rattle.ddr_workers.specs.Requests.{of_port}
 use Rattle.ddr_workers.specs.Sides.{PutSide}
 use Rattle.ddr_workers.specs.Worker.{WorkerEnded, IsWorkDone, requests_of, to_port}
 use Rattle.ddr_workers.specs.WorkerView.{IsTaken}
 use Rattle.ddr_workers.proofs.ChangedLemmas.{some_there, there_still}
 use Rattle.ddr_workers.proofs.CountedLemmas.{numbers_of, sum_flat}
+use Rattle.ddr_workers.proofs.TotalLemmas.{total}
 
 -- sums over lists
 
@@ -380,3 +380,73 @@ got_all ports workers left p e j at = record {
   one = λ c d place other r q r_there q_there r_port q_port number. one_place ports workers left p e c d place other r q j at r_there q_there r_port q_port number;
   replied = λ n below. replied ports workers left p n e j at below;
 }
+
+-- nothing is left in a completion queue: as much was pushed on it as its port got
+
+told_places : {X : Type 0} (h : X → ℕ) (g : ℕ → ℕ) (a : ℕ) (xs : List X) → ((k : ℕ) → g (a + k) ≡ option_map_or h (slice_get xs k) 0) → sum_by g (range_with_len a (length xs)) ≡ sum_by h xs
+told_places h g a [] told = refl
+told_places h g a (x ∷ xs) told =
+    let here : g a ≡ h x = ap g (omega arith) ∙ told 0 in
+    omega (arith, here, sum_by-cons g a (range_with_len (a + 1) (length xs)), sum_by-cons h x xs, told_places h g (a + 1) xs (λ k. ap g (omega arith) ∙ told (suc k)))
+
+-- a completion is of its request's port
+abbrev port_at : ℕ → List records.Request → ℕ → ℕ
+port_at p accepted place = option_map_or (weigh (λ n. 1) p) (slice_get accepted place) 0
+
+answer_port : (config : Config) (p : ℕ) (accepted : List records.Request) (o : Owner) (d : Completion) → right_answer config accepted o ≡ Some d → cond (eqb d.port p) 1 0 ≡ port_at p accepted o.place
+answer_port config p accepted o d is =
+    let request = some_of_map (answer_to config accepted o) (slice_get accepted o.place) d is in
+    let same : d.port ≡ request.0.port = ap (λ (x : Completion). x.port) (sym request.2) in
+    ap (λ n. cond (eqb n p) 1 0) same ∙ ap (λ (x : Option records.Request). option_map_or (weigh (λ n. 1) p) x 0) (sym request.1)
+
+answers_ports : (config : Config) (p : ℕ) (accepted : List records.Request) (dones : List Completion) (owners : List Owner) → map Some dones ≡ map (right_answer config accepted) owners
+    → sum_by (λ (d : Completion). cond (eqb d.port p) 1 0) dones ≡ sum_by (λ (o : Owner). port_at p accepted o.place) owners
+answers_ports config p accepted [] [] same = refl
+answers_ports config p accepted [] (o ∷ os) same = cc
+answers_ports config p accepted (d ∷ ds) [] same = cc
+answers_ports config p accepted (d ∷ ds) (o ∷ os) same =
+    let first : right_answer config accepted o ≡ Some d = cc in
+    let rest : map Some ds ≡ map (right_answer config accepted) os = cc in
+    omega (arith, answer_port config p accepted o d first, sum_by-cons (λ (x : Completion). cond (eqb x.port p) 1 0) d ds, sum_by-cons (λ (x : Owner). port_at p accepted x.place) o os, answers_ports config p accepted ds os rest)
+
+-- a worker pushed as many completions for a port as it took requests of it
+pushed_count : (w : WorkerEnded) (config : Config) (p : ℕ) (side : PutSide Delivery Completion) → (work : IsWorkDone config w) → slice_get w.completions p ≡ Some side → length side.put ≡ of_worker (λ n. 1) p w
+pushed_count w config p side work there =
+    let accepted = requests_of w.requests.took in
+    let sent : to_port p work.dones ≡ side.put = work.sent.sent p side there ∙ append-nil side.put in
+    let count = length-filter (λ (d : Completion). eqb d.port p) work.dones in
+    let ports = answers_ports config p accepted work.dones work.owners work.answers in
+    let places = sum_mapped (port_at p accepted) (λ (o : Owner). o.place) work.owners in
+    let permuted = sum_by-IsPermutation (port_at p accepted) (range_with_len 0 (length accepted)) (map (λ (o : Owner). o.place) work.owners) work.each_once in
+    let all = told_places (weigh (λ n. 1) p) (port_at p accepted) 0 accepted (λ k. ap (port_at p accepted) (omega arith)) in
+    omega (arith, ap length sent, count, ports, places, permuted, all)
+
+abbrev put_of : ℕ → WorkerEnded → List Completion
+put_of p w = option_map_or (λ (side : PutSide Delivery Completion). side.put) (slice_get w.completions p) []
+
+nothing_behind : {X : Type 0} (xs ys : List X) → length (xs ++ ys) ≡ length xs → ys ≡ []
+nothing_behind xs [] same = refl
+nothing_behind xs (y ∷ ys) same = absurd (omega (arith, same, length-append xs (y ∷ ys)))
+
+pub none_left : (ports : List PortEnded) (workers : List WorkerEnded) (left : ℕ → List Completion) (p : ℕ) (e : PortEnded) → AreJoined ports workers left → slice_get ports p ≡ Some e → left p ≡ []
+none_left ports workers left p e j at =
+    let purpose = e.completions.who.queue.purpose in
+    let all = e.completions.took ++ left p in
+    let ended = (j.port p e at).1 in
+    let lists = map (put_of p) workers in
+    let count : length lists ≡ length workers = length-map workers (put_of p) in
+    let whole = total (source_of purpose) lists all (subst (λ n. All (λ x. source_of purpose x < n) all) (sym count) (j.delivered p e at)) (λ c below.
+    let worker = some_there workers c (omega (arith, below, count)) in
+    let side = some_there worker.0.completions p (omega (arith, slice_get_within ports p e at, j.ports_are c worker.0 worker.1)) in
+    let put : put_of p worker.0 ≡ side.0.put = ap (λ (o : Option (PutSide Delivery Completion)). option_map_or (λ s. s.put) o []) side.1 in
+    j.completions p c e worker.0 side.0 at worker.1 side.1 ∙ sym put ∙ sym (get_or_from_slice_get lists c (put_of p worker.0) [] (mapped_at (put_of p) workers c worker.0 worker.1))) in
+    let pushed = sum_alike (length) (of_worker (λ n. 1) p) lists workers count (λ c list w list_is w_is.
+    let side = some_there w.completions p (omega (arith, slice_get_within ports p e at, j.ports_are c w w_is)) in
+    let same : Some list ≡ Some (put_of p w) = sym list_is ∙ mapped_at (put_of p) workers c w w_is in
+    let list_put : list ≡ put_of p w = cc in
+    let put : put_of p w ≡ side.0.put = ap (λ (o : Option (PutSide Delivery Completion)). option_map_or (λ s. s.put) o []) side.1 in
+    ap length (list_put ∙ put) ∙ pushed_count w (j.worker c w w_is).1.config p side.0 (j.worker c w w_is).1.work side.1) in
+    let asked = port_weighs ports workers left (λ n. 1) p e j at in
+    let got : sum_by (λ (d : Completion). 1) e.completions.took ≡ sum_by (λ n. 1) (range_with_len 0 e.taken) = sym (sum_mapped (λ n. 1) (λ (d : Completion). d.number) e.completions.took) ∙ ended.got (λ n. 1) in
+    let length_got : sum_by (λ (d : Completion). 1) e.completions.took ≡ length e.completions.took = sum_ones e.completions.took in
+    nothing_behind e.completions.took (left p) (omega (arith, whole, pushed, asked, got, length_got))

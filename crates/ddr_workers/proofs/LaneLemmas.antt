@@ -1,5 +1,5 @@
 -- Queues that are opened one after another, and whose sides are handed out.
-use Rattle.std.proofs.Common.{◌≡◌, ℕ, zero, suc, ◌+◌, ◌<◌, ◌≤◌, ◌⊎◌, inl, inr, ⊎_elim, List, [], ◌∷◌, ◌++◌, length, map, take, drop, set, replicate, get_or, Some, slice_get, length-append, append_assoc, refl, sym, ap, ap₂, ◌∙◌, subst, arith}
+use Rattle.std.proofs.Common.{◌≡◌, ℕ, zero, suc, ◌+◌, ◌<◌, ⊎_elim, List, [], ◌∷◌, ◌++◌, length, take, drop, set, replicate, get_or, Some, slice_get, length-append, append_assoc, refl, sym, ap, ◌∙◌, subst, arith}
 use Rattle.std.specs.List.{remove}
 use Rattle.std.specs.Global.{Vec}
 use Rattle.std.specs.Option.{option_map}
@@ -7,7 +7,7 @@ use Rattle.std.proofs.lemmas.List.{length-map, append-nil}
 use Rattle.std.proofs.lemmas.Option.{slice_get_within, slice_get-map}
 use Rattle.ddr_workers.specs.Lanes.{lists, each_with, AreLanes, AreEach, AreFrom}
 use Rattle.ddr_workers.specs.Open.{IsNewQueue}
-use Rattle.ddr_workers.specs.Sides.{PutSide, TakeSide, AreOpened, new_put, put_id}
+use Rattle.ddr_workers.specs.Sides.{PutSide, TakeSide, AreOpened, new_put}
 use Rattle.ddr_workers.proofs.SideLemmas.{slice_get-last, each_pushed}
 
 -- rows

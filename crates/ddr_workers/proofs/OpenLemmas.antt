@@ -3,17 +3,16 @@ use Rattle.std.proofs.Common.{◌≡◌, ℕ, suc, false, replicate, ◌+◌, �
 use Rattle.std.proofs.lemmas.List.Elements.{All-nil, All-cons}
 use Rattle.std.proofs.lemmas.Option.{slice_get_within}
 use Rattle.ddr_timing.specs.declared.config.Config.{Config}
-use Rattle.ddr_timing.specs.declared.geometry.Geometry.{Geometry}
 use Rattle.ddr_address_map.specs.Requests.{Completion}
 use Rattle.ddr_workers.specs.declared.completions.Delivery.{Delivery}
 use Rattle.ddr_workers.specs.declared.requests.Item.{Item}
 use Rattle.ddr_workers.specs.declared.requests.Route.{Route}
 use Rattle.ddr_workers.specs.Lanes.{AreLanes, AreEach, AreFrom}
-use Rattle.ddr_workers.specs.Open.{IsNewPut, IsNewDonePut, IsNewQueue, IsNewWorker, IsOpened, IsPortOf, IsPortRow, IsWorkerRow, IsWorkerTake, new_port}
+use Rattle.ddr_workers.specs.Open.{IsNewQueue, IsNewWorker, IsOpened, IsPortOf, IsPortRow, IsWorkerRow, IsWorkerTake, new_port}
 use Rattle.ddr_workers.specs.Port.{PortState}
 use Rattle.ddr_workers.specs.Sides.{PutSide, TakeSide, new_put}
 use Rattle.ddr_workers.specs.Worker.{WorkerState}
-use Rattle.ddr_workers.proofs.LaneLemmas.{IsEach, each_at, each_length, from_each, some_at}
+use Rattle.ddr_workers.proofs.LaneLemmas.{each_at, each_length, from_each, some_at}
 
 from_none : (k : ℕ) → k ≡ 0 + k
 from_none k = omega arith

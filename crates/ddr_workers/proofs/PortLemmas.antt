@@ -1,22 +1,19 @@
 -- What each call of a port keeps.
-use Rattle.std.proofs.Common.{◌≡◌, ℕ, zero, suc, ◌+◌, ◌-◌, ◌<◌, ◌≤◌, Bool, true, false, cond, ◌||◌, ◌&&◌, nat_lt, eqb, List, [], ◌∷◌, ◌++◌, All, length, map, drop, Option, Some, None, IfSome, is_none, IsTrue, slice_get, Result, Ok, Err, refl, sym, ap, ap₂, ◌∙◌, subst, arith}
+use Rattle.std.proofs.Common.{◌≡◌, ℕ, zero, suc, ◌+◌, ◌-◌, ◌<◌, ◌≤◌, Bool, true, false, cond, ◌||◌, nat_lt, List, [], ◌∷◌, ◌++◌, length, Option, Some, None, IfSome, slice_get, refl, sym, ap, ◌∙◌, subst, arith}
 use Rattle.std.specs.List.{take_while}
 use Rattle.std.specs.Option.{option_map, option_and_then}
-use Rattle.std.specs.Result.{result_err}
-use Rattle.std.proofs.lemmas.Bool.{false≢true, and_parts, ltb-true}
+use Rattle.std.proofs.lemmas.Bool.{false≢true}
 use Rattle.std.proofs.lemmas.Bool.Decides.{nat_tests}
 use Rattle.std.proofs.lemmas.List.{length-append, length-drop, length-map}
 use Rattle.std.proofs.lemmas.List.Elements.{All-push, All-drop, All-weaker}
 use Rattle.std.proofs.lemmas.List.Folds.{list_any-append}
-use Rattle.ddr_timing.specs.declared.geometry.Geometry.{Geometry}
-use Rattle.ddr_timing.specs.declared.units.TheConstants.{CLOCK_STOP}
 use Rattle.ddr_address_map.specs.declared.place.Place.{Place}
-use Rattle.ddr_address_map.specs.Map.{in_range, place_of}
+use Rattle.ddr_address_map.specs.Map.{place_of}
 use Rattle.ddr_address_map.specs.Requests as records
 use Rattle.ddr_address_map.specs.Requests.{Completion}
 use Rattle.ddr_reorder.specs.Replies.{Answer, answer_of, is_filled, front_number}
 use Rattle.ddr_reorder.specs.Sound.{IsSound}
-use Rattle.ddr_reorder.specs.State.{Outstanding, ReorderState, awaits, is_awaited, filled}
+use Rattle.ddr_reorder.specs.State.{Outstanding, ReorderState, awaits, filled}
 use Rattle.ddr_ports.specs.Asked.{Asked, echo_of, first_address}
 use Rattle.ddr_ports.specs.declared.refusal.PortError.{PortError}
 use Rattle.ddr_ports.specs.declared.refusal.PortError.TheVariants.{Finished}
@@ -26,7 +23,7 @@ use Rattle.ddr_workers.specs.declared.completions.Delivery.{Delivery}
 use Rattle.ddr_workers.specs.declared.requests.Item.{Item}
 use Rattle.ddr_workers.specs.declared.requests.Item.TheVariants.{Request, End}
 use Rattle.ddr_workers.specs.declared.requests.Route.{Route}
-use Rattle.ddr_workers.specs.Port.{PortState, WasBusy, IsHeldUp, first_with, finished, after_busy, after_end, after_ends}
+use Rattle.ddr_workers.specs.Port.{PortState, WasBusy, IsHeldUp, finished, after_busy, after_end, after_ends}
 use Rattle.ddr_workers.specs.PortView.{IsSideTo, IsReady, IsAwaited, IsWhole}
 use Rattle.ddr_workers.specs.Requests.{has_end, is_end, IsPlaced}
 use Rattle.ddr_workers.specs.Sides.{PutSide, TakeSide, after_push, after_full, after_pop, changed_at}

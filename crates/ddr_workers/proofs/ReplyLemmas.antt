@@ -1,16 +1,14 @@
 -- The first completion of each number, as more of them come.
-use Rattle.std.proofs.Common.{◌≡◌, ℕ, zero, suc, ◌+◌, ◌-◌, ◌<◌, ◌≤◌, Bool, true, false, cond, ◌||◌, ◌&&◌, eqb, nat_eq, eq-eqb, List, [], ◌∷◌, ◌++◌, All, length, map, filter, Option, Some, None, IfSome, is_none, slice_get, refl, sym, ap, ◌∙◌, subst, arith}
+use Rattle.std.proofs.Common.{◌≡◌, ℕ, ◌+◌, ◌<◌, Bool, true, false, cond, ◌||◌, ◌&&◌, eqb, nat_eq, eq-eqb, List, [], ◌∷◌, ◌++◌, All, length, map, filter, Option, Some, None, IfSome, is_none, slice_get, refl, sym, ap, ◌∙◌, arith}
 use Rattle.std.specs.Option.{option_map}
 use Rattle.std.specs.List.{list_any, range_with_len}
 use Rattle.std.proofs.lemmas.Bool.{eqb-true, ne_eqb, and_parts, false≢true}
-use Rattle.std.proofs.lemmas.Bool.Decides.{nat_tests}
-use Rattle.std.proofs.lemmas.List.{append-nil}
-use Rattle.std.proofs.lemmas.List.Elements.{filter-append, All-nil, All-cons, All-head, All-tail, All-weaker, All-map, All-push}
+use Rattle.std.proofs.lemmas.List.Elements.{filter-append, All-nil, All-cons, All-head, All-tail, All-weaker, All-map}
 use Rattle.ddr_address_map.specs.declared.request.Echo.{Echo}
 use Rattle.ddr_address_map.specs.declared.request.Kind.{Kind}
 use Rattle.ddr_address_map.specs.declared.request.Kind.TheVariants.{Read, Write}
 use Rattle.ddr_address_map.specs.Requests.{Completion}
-use Rattle.ddr_reorder.specs.Replies.{Answer, answer_of, lent_bytes}
+use Rattle.ddr_reorder.specs.Replies.{Answer, answer_of}
 use Rattle.ddr_reorder.specs.State.{Outstanding, is_same_kind, is_same_echo, is_awaited, filled}
 use Rattle.ddr_workers.specs.Port.{first_with, reply_of}
 use Rattle.ddr_workers.specs.PortView.{IsReady, IsAwaited}

@@ -1,9 +1,9 @@
 -- What a worker has sent, as completions are held and pushed, and what it took, as items come.
-use Rattle.std.proofs.Common.{◌≡◌, ◌≢◌, ℕ, zero, suc, ◌+◌, ◌<◌, ◌≤◌, Bool, true, false, cond, ◌||◌, eqb, eq-eqb, ltb, List, [], ◌∷◌, ◌++◌, All, length, map, filter, take, Option, Some, None, IfSome, slice_get, get_or, set, refl, sym, ap, ◌∙◌, subst, arith}
+use Rattle.std.proofs.Common.{◌≡◌, ℕ, zero, suc, ◌<◌, Bool, true, false, cond, ◌||◌, eqb, eq-eqb, ltb, List, [], ◌∷◌, ◌++◌, All, length, map, take, Option, Some, None, IfSome, slice_get, get_or, set, refl, sym, ap, ◌∙◌, subst}
 use Rattle.std.specs.Option.{option_map, option_to_list}
 use Rattle.std.proofs.lemmas.Bool.{eqb-true, ne_eqb, ltb-true, ltb-false, false≢true}
-use Rattle.std.proofs.lemmas.List.{append-nil, append_assoc, get_or-set_same, get_or-set_other}
-use Rattle.std.proofs.lemmas.List.Elements.{filter-append, All-nil, All-cons, All-head, All-tail, All-append, All-push}
+use Rattle.std.proofs.lemmas.List.{append-nil, get_or-set_same, get_or-set_other}
+use Rattle.std.proofs.lemmas.List.Elements.{filter-append, All-nil, All-cons, All-head, All-tail, All-append}
 use Rattle.std.proofs.lemmas.List.Folds.{list_any-append}
 use Rattle.ddr_timing.specs.declared.config.Config.{Config}
 use Rattle.ddr_timing.specs.declared.geometry.Geometry.{Geometry}
@@ -13,13 +13,12 @@ use Rattle.ddr_address_map.specs.Requests as records
 use Rattle.ddr_address_map.specs.Requests.{Completion}
 use Rattle.ddr_address_map.proofs.MapLemmas.{place_of-below, place_of-past, place-in_range}
 use Rattle.ddr_channel.specs.History.{History, Owner}
-use Rattle.ddr_channel.specs.Promise.{IsNextAnswer, right_answer, answer_to}
+use Rattle.ddr_channel.specs.Promise.{IsNextAnswer, answer_to}
 use Rattle.ddr_workers.specs.declared.completions.Delivery.{Delivery}
 use Rattle.ddr_workers.specs.declared.requests.Item.{Item}
 use Rattle.ddr_workers.specs.declared.requests.Item.TheVariants.{Request, End}
 use Rattle.ddr_workers.specs.declared.requests.Route.{Route}
-use Rattle.ddr_workers.specs.Completions.{IsFrom, channel_of}
-use Rattle.ddr_workers.specs.Requests.{port_of, of_port, has_end, is_end, IsPlaced}
+use Rattle.ddr_workers.specs.Requests.{port_of, of_port, has_end, is_end}
 use Rattle.ddr_workers.specs.Sides.{PutSide, after_push, after_full, changed_at}
 use Rattle.ddr_workers.specs.Worker.{AreSent, to_port, requests_of}
 use Rattle.ddr_workers.specs.WorkerView.{IsTaken, IsGiven}

@@ -1,5 +1,5 @@
 -- What each step of a turn keeps.
-use Rattle.std.proofs.Common.{◌≡◌, ℕ, zero, suc, replicate, ◌+◌, ◌<◌, Bool, true, false, cond, eqb, List, [], ◌∷◌, ◌++◌, All, length, map, take, Option, Some, None, IfSome, is_some, Result, Ok, Err, IsTrue, ◌↔◌, slice_get, get_or, set, refl, sym, ap, ap₂, ◌∙◌, subst, arith}
+use Rattle.std.proofs.Common.{◌≡◌, ℕ, zero, suc, replicate, ◌<◌, Bool, true, false, cond, eqb, List, [], ◌∷◌, ◌++◌, All, length, map, take, Option, Some, None, IfSome, is_some, Result, Ok, Err, IsTrue, ◌↔◌, slice_get, get_or, set, refl, sym, ap, ap₂, ◌∙◌, subst, arith}
 use Rattle.std.specs.List.{fold}
 use Rattle.std.specs.Option.{option_to_list}
 use Rattle.std.specs.Result.{IsOk, IsErr, IsErrOf, OnOk, OnErr}
@@ -8,7 +8,6 @@ use Rattle.std.proofs.lemmas.List.{length-set}
 use Rattle.std.proofs.lemmas.List.Elements.{All-push, All-nil}
 use Rattle.std.proofs.lemmas.List.Sums.{fold-append}
 use Rattle.ddr_timing.specs.declared.config.Config.{Config}
-use Rattle.ddr_timing.specs.declared.geometry.Geometry.{Geometry}
 use Rattle.ddr_timing.specs.declared.units.TheConstants.{CLOCK_STOP}
 use Rattle.ddr_address_map.specs.declared.request.Kind.{Kind}
 use Rattle.ddr_address_map.specs.declared.request.Kind.TheVariants.{Read, Write}
@@ -25,7 +24,6 @@ use Rattle.ddr_channel.specs.History.{Call, Admit, Cycle, Pop, History, begun, w
 use Rattle.ddr_channel.specs.Kept as kept
 use Rattle.ddr_channel.specs.Kept.{Kept}
 use Rattle.ddr_channel.specs.Promise.{AreCalls, StandsFor, IsNextAnswer}
-use Rattle.ddr_channel.specs.State as state
 use Rattle.ddr_channel.specs.State.{State, after_admit, after_pop, is_queue_full}
 use Rattle.ddr_channel.proofs.StandsLemmas.{cycle_start}
 use Rattle.ddr_workers.specs.declared.completions.Delivery.{Delivery}
@@ -38,7 +36,7 @@ use Rattle.ddr_workers.specs.Requests.{IsNext, has_end, of_port}
 use Rattle.ddr_workers.specs.Sides as sides
 use Rattle.ddr_workers.specs.Sides.{PutSide, TakeSide, after_push, after_full, changed_at}
 use Rattle.ddr_workers.specs.Worker.{WorkerState, AreBusy, AreSent, IsBusy, IsIdle, IsSameWorker, cause_of, requests_of, to_port}
-use Rattle.ddr_workers.specs.WorkerView.{IsSideOf, IsTaken, IsGiven, StandsAt, IsWhole, history_of}
+use Rattle.ddr_workers.specs.WorkerView.{IsSideOf, IsTaken, IsGiven, IsWhole, history_of}
 use Rattle.ddr_workers.proofs.ChangedLemmas.{length-changed, each_changed}
 use Rattle.ddr_workers.proofs.SentLemmas.{first_as_list, map-changed, sent_held, sent_pushed, sent_full, given, requests_last, requests_ended, ends_asked, noted_ended, in_range_of}
 

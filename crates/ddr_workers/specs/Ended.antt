@@ -1,5 +1,5 @@
 -- What a finished port and a worker at its end leave keeps, for the closing of the system.
-use Rattle.std.specs.Prelude.{◌≡◌, ℕ, List, All, length, map, Some, slice_get}
+use Rattle.std.specs.Prelude.{◌≡◌, ℕ, All, length, map, Some, slice_get}
 use Rattle.std.specs.List.{range_with_len}
 use Rattle.ddr_timing.specs.declared.config.Config.{Config}
 use Rattle.ddr_timing.specs.declared.geometry.Geometry.{Geometry}

@@ -1,9 +1,9 @@
 -- What the fields of a port stand for, and what they keep.
-use Rattle.std.specs.Prelude.{◌≡◌, ℕ, ◌+◌, ◌≤◌, Bool, false, List, All, length, nat_lt, Some, None, IfSome, slice_get}
+use Rattle.std.specs.Prelude.{◌≡◌, ℕ, ◌+◌, ◌≤◌, false, List, All, length, nat_lt, Some, None, IfSome, slice_get}
 use Rattle.std.specs.Option.{option_map}
 use Rattle.ddr_timing.specs.declared.geometry.Geometry.{Geometry}
 use Rattle.ddr_address_map.specs.Requests.{Completion}
-use Rattle.ddr_reorder.specs.Replies.{Answer, answer_of}
+use Rattle.ddr_reorder.specs.Replies.{answer_of}
 use Rattle.ddr_reorder.specs.Sound.{IsSound}
 use Rattle.ddr_reorder.specs.State.{Outstanding}
 use Rattle.ddr_workers.specs.declared.port.Port.TheInside.{Inside}

@@ -21,7 +21,7 @@ use Rattle.ddr_workers.specs.declared.requests.Route.{Route}
 use Rattle.ddr_workers.specs.declared.worker.Cause.{Cause}
 use Rattle.ddr_workers.specs.declared.worker.Cause.TheVariants.{ClockSpent, OutOfMemory}
 use Rattle.ddr_workers.specs.Requests.{has_end, of_port}
-use Rattle.ddr_workers.specs.Sides.{PutSide, TakeSide, TakeId, PutId}
+use Rattle.ddr_workers.specs.Sides.{PutSide, TakeSide}
 
 pub record WorkerState : Type 0 where
   -- by which call it was opened

@@ -1,5 +1,5 @@
 -- What the fields of a worker stand for, and what they keep.
-use Rattle.std.specs.Prelude.{◌≡◌, ℕ, ◌<◌, true, false, List, All, length, IfSome, Some, slice_get, slice_index_or}
+use Rattle.std.specs.Prelude.{◌≡◌, ℕ, ◌<◌, false, List, All, length, IfSome, Some, slice_get, slice_index_or}
 use Rattle.std.specs.Option.{option_to_list}
 use Rattle.ddr_timing.specs.declared.geometry.Geometry.{Geometry}
 use Rattle.ddr_address_map.specs.Requests as records

@@ -6,6 +6,8 @@
 //! with several put sides and one take side, and `law` is what the sides know of each other, which the queue's rule
 //! speaks of.
 //!
+//! `headline` is the law of what every port has got once all queues were joined.
+//!
 //! Below stand one port (`ddr_ports`), one channel (`ddr_channel`), the requests (`ddr_address_map`) and the configuration
 //! (`ddr_timing`). No call starts a thread: ports and workers are moved into threads of the caller.
 #![tactic(auto)]
@@ -13,6 +15,7 @@
 pub mod completions;
 mod error;
 pub mod gate;
+pub mod headline;
 mod lane;
 mod law;
 pub mod port;

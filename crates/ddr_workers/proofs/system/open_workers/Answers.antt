@@ -1,4 +1,4 @@
-use Rattle.std.proofs.Common.{◌≡◌, ◌+◌, ◌<◌, [], All, length, arith, refl, sym, ap, ◌∙◌, subst}
+use Rattle.std.proofs.Common.{◌+◌, ◌<◌, length, arith, sym, ap, subst}
 use Rattle.std.specs.List.{remove}
 use Rattle.std.proofs.lemmas.List.{length-map}
 use Rattle.ddr_workers.specs.Lanes.{lists, AreFrom}

@@ -1,4 +1,4 @@
-use Rattle.std.proofs.Common.{◌≡◌, ◌+◌, [], length}
+use Rattle.std.proofs.Common.{◌≡◌, ◌+◌, length}
 use Rattle.ddr_workers.specs.Lanes.{lists, AreFrom}
 use Rattle.ddr_workers.specs.Open.{IsWorkerRow, IsWorkerTake, IsNewWorker}
 use Rattle.ddr_workers.proofs.LaneLemmas.{Completes}

@@ -1,4 +1,4 @@
-use Rattle.std.proofs.Common.{◌<◌, length, arith, sym, ap, subst, ◌∙◌}
+use Rattle.std.proofs.Common.{arith}
 use Rattle.ddr_workers.proofs.PortLemmas.{may_end, still_finished, one_end_more, held_up}
 use Rattle.ddr_workers.proofs.port.Port.end_all.Goals as goal
 

@@ -1,5 +1,5 @@
 -- A new port.
-use Rattle.std.proofs.Common.{◌≡◌, false, sym, ap, subst}
+use Rattle.std.proofs.Common.{false, sym, ap, subst}
 use Rattle.ddr_reorder.specs.Sound.{IsSound}
 use Rattle.ddr_ports.specs.State as core
 use Rattle.ddr_workers.specs.Counted.{IsCounted}

@@ -1,7 +1,6 @@
-use Rattle.std.proofs.Common.{Some, refl, sym, ap, subst, ◌∙◌}
+use Rattle.std.proofs.Common.{ap, subst, ◌∙◌}
 use Rattle.ddr_channel.specs.Kept as kept
 use Rattle.ddr_channel.specs.State.{is_queue_full}
-use Rattle.ddr_workers.specs.declared.requests.Item.TheVariants.{Request, End}
 use Rattle.ddr_workers.specs.Requests.{IsNext}
 use Rattle.ddr_workers.specs.Sides.{after_pop}
 use Rattle.ddr_workers.specs.WorkerView.{state_of}
