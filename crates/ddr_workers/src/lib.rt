@@ -24,6 +24,8 @@ pub mod requests;
 mod system;
 #[cfg(test)]
 mod testing;
+#[cfg(test)]
+mod tests;
 pub mod worker;
 
 pub use error::OpenError;
