@@ -1,4 +1,13 @@
 pub mod Completions
+pub mod Lanes
 pub mod Law
+pub mod Open
+pub mod Port
+pub mod PortView
 pub mod Requests
 pub mod Sides
+pub mod Worker
+pub mod Counted
+pub mod WorkerView
+pub mod Ended
+pub mod Headline

@@ -1,6 +1,7 @@
 -- What contracts see of the two kinds of side of a queue, and what a call makes of it. S is what a queue was
 -- opened for, T what goes through it.
-use Rattle.std.specs.Prelude.{◌≡◌, ℕ, ◌+◌, ◌<◌, List, [], ◌∷◌, ◌++◌, length, All, slice_get, Some}
+use Rattle.std.specs.Prelude.{◌≡◌, ℕ, ◌+◌, ◌<◌, List, [], ◌∷◌, ◌++◌, length, All, slice_get, slice_set, Some}
+use Rattle.std.specs.Option.{option_map_or}
 use Rattle.atomic_table.specs.Seated.{TableId}
 use Rattle.ddr_workers.specs.declared.law.View.{View}
 use Rattle.ddr_workers.specs.declared.law.View.TheVariants.{Put, Take}
@@ -148,3 +149,7 @@ module _ {S T : Type 0} where
 
   abbrev pub take_view : TakeSide S T → View S T
   take_view t = Take (record { purpose = t.who.queue.purpose; count = t.who.count; took = t.took; back = []; empty = t.empty })
+
+-- the list with what this makes of its element at that place
+abbrev pub changed_at : {X : Type 0} → ℕ → (X → X) → List X → List X
+changed_at place change xs = option_map_or (λ x. slice_set xs place (change x)) (slice_get xs place) xs

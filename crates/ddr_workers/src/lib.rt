@@ -1,17 +1,32 @@
-//! Ports and channels in threads: the queues between them.
+//! Ports and channels in threads.
 //!
-//! Below stand the requests (`ddr_address_map`) and the configuration (`ddr_timing`). `requests` has the queue
-//! that leads from every port to one channel, `completions` the one from every channel to one port; `lane` is the
-//! queue with several put sides and one take side that both are made of, and `law` what the sides know of each
-//! other, which the queue's rule speaks of.
+//! `system` opens everything: for each port a `Port`, which pushes requests and pops completions, and for each channel a
+//! `Worker`, which drives it turn by turn under a `Gate`. Between them stand the queues: `requests` has the one that leads
+//! from every port to one channel, `completions` the one from every channel to one port. Both are made of `lane`, a queue
+//! with several put sides and one take side, and `law` is what the sides know of each other, which the queue's rule
+//! speaks of.
+//!
+//! `headline` is the law of what every port has got once all queues were joined.
+//!
+//! Below stand one port (`ddr_ports`), one channel (`ddr_channel`), the requests (`ddr_address_map`) and the configuration
+//! (`ddr_timing`). No call starts a thread: ports and workers are moved into threads of the caller.
 #![tactic(auto)]
 
 pub mod completions;
 mod error;
+pub mod gate;
+pub mod headline;
 mod lane;
 mod law;
+pub mod port;
+pub mod refusal;
 pub mod requests;
+mod system;
 #[cfg(test)]
 mod testing;
+#[cfg(test)]
+mod tests;
+pub mod worker;
 
 pub use error::OpenError;
+pub use system::open;

@@ -1,0 +1,6 @@
+use Rattle.ddr_workers.specs.Lanes.{AreLanes, lists}
+use Rattle.ddr_workers.proofs.system.completion_lanes.Given as goal
+
+abbrev pub invariant-loop-port : goal.invariant-loop-port
+invariant-loop-port l =
+    AreLanes (λ port. record { geometry = l.config.geometry; port = port }) l.config.limits.window l.config.geometry.channels l.port (lists l.rows.items) l.takes.items

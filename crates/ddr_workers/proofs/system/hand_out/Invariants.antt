@@ -1,0 +1,10 @@
+use Rattle.std.proofs.Common.{◌≡◌, ◌+◌, ◌++◌, length, take, drop}
+use Rattle.ddr_workers.specs.Lanes.{lists, each_with}
+use Rattle.ddr_workers.proofs.system.hand_out.Given as goal
+
+abbrev pub invariant-loop-place : goal.invariant-loop-place
+invariant-loop-place g l = record {
+  left : l.place + length l.items.items ≡ length l.initial.items.items;
+  rows_are : length l.rows.items ≡ length l.initial.items.items;
+  rest : take l.place (lists l.rows.items) ++ each_with (drop l.place (lists l.rows.items)) l.items.items ≡ each_with (lists l.initial.rows.items) l.initial.items.items;
+}

@@ -1,0 +1,16 @@
+use Rattle.std.proofs.Common.{ℕ, ◌+◌, List, [], ◌∷◌, ◌++◌, sym, subst}
+use Rattle.ddr_workers.specs.declared.requests.Item.{Item}
+use Rattle.ddr_workers.specs.declared.requests.Route.{Route}
+use Rattle.ddr_workers.specs.Lanes.{AreLanes, lists}
+use Rattle.ddr_workers.specs.Sides.{PutSide, TakeSide}
+use Rattle.ddr_workers.proofs.LaneLemmas.{one_lane_more}
+use Rattle.ddr_workers.proofs.system.request_lanes.Goals as goal
+
+pub loop-channel-preserved : goal.loop-channel-preserved
+loop-channel-preserved c =
+    let config = c.args.config.now in
+    let aim : ℕ → Route = λ (channel : ℕ). record { geometry = config.geometry; channel = channel } in
+    let n = c.loop-channel.channel in
+    subst (λ (ts : List (TakeSide Route Item)). AreLanes aim config.limits.intake config.limits.ports (n + 1) (lists c.hand_out.new.rows.items) ts) (sym c.in_ok-push.ensures.items)
+    (subst (λ (rs : List (List (PutSide Route Item))). AreLanes aim config.limits.intake config.limits.ports (n + 1) rs (c.loop-channel.takes.items ++ c.in_ok-puts.take ∷ [])) (sym c.in_ok-hand_out.ensures)
+    (one_lane_more aim config.limits.intake config.limits.ports n (lists c.loop-channel.rows.items) c.loop-channel.takes.items c.in_ok-puts.puts.items c.in_ok-puts.take c.loop-channel.invariant c.in_ok-puts.ensures))

@@ -1,0 +1,10 @@
+use Rattle.std.proofs.Common.{sym, ap, ◌∙◌}
+use Rattle.ddr_channel.specs.Choice.{choice_of}
+use Rattle.ddr_channel.specs.Cycle.{at_choice}
+use Rattle.ddr_channel.specs.Kept as kept
+use Rattle.ddr_workers.specs.Worker.{WorkerState}
+use Rattle.ddr_workers.proofs.worker.Worker.run.Goals as goal
+
+pub returns-in-Err-clause-memory : goal.returns-in-Err-clause-memory
+returns-in-Err-clause-memory g c = λ memory nothing. c.in-Err.ensures.memory (sym c.stopped-in-Err.ensures.cause ∙ memory)
+    (ap (λ (w : WorkerState). choice_of (at_choice (kept.state_of w.channel))) (sym c.stopped-in-Err.ensures.worker) ∙ nothing)

@@ -1,0 +1,136 @@
+//! Opens the queues of a configuration, and the ports and workers at their ends.
+ghost use Rattle.std.specs.Prelude.{◌≡◌, ℕ, length, [], replicate, List, Some, All, IfOk, OnOk, slice_get};
+ghost use Rattle.ddr_address_map.specs.Requests.{Completion};
+ghost use Rattle.ddr_workers.specs.declared.completions.Delivery.{Delivery};
+ghost use Rattle.ddr_workers.specs.declared.requests.Item.{Item};
+ghost use Rattle.ddr_workers.specs.declared.requests.Route.{Route};
+ghost use Rattle.ddr_workers.specs.Lanes.{AreLanes, AreEach, AreFrom, lists, each_with};
+ghost use Rattle.ddr_workers.specs.Open.{IsOpened, IsNewWorker, IsPortRow, IsPortOf, IsWorkerRow, IsWorkerTake};
+
+use crate::completions::{DonePut, DoneTake};
+use crate::error::OpenError;
+use crate::port::Port;
+use crate::requests::{RequestPut, RequestTake};
+use crate::worker::Worker;
+use crate::{completions, requests};
+use ddr_ports::port::PortCore;
+use ddr_timing::config::Config;
+use std::alloc::{AllocError, Global};
+
+/// Empty rows, as many as that.
+fn empty_rows<T: Drop>(alloc: Global, count: u32) -> Result<Vec<Vec<T>>, AllocError>
+    ensures { IfOk result (λ rows. lists rows.items ≡ replicate count []) }
+{
+    let mut rows = Vec::with_capacity(alloc, count as usize)?;
+    for _ in 0..count {
+        rows.push_reserved(Vec::new(alloc));
+    }
+    Ok(rows)
+}
+
+/// Adds to each row the item of its place.
+fn hand_out<T: Drop>(rows: &mut Vec<Vec<T>>, mut items: Vec<T>) -> Result<(), OpenError>
+    requires { length items.items ≡ length rows.old.items }
+    ensures { OnOk result (lists rows.new.items ≡ each_with (lists rows.old.items) items.items) }
+{
+    for place in 0..rows.len() {
+        let item = items.remove(0);
+        let row = &mut rows[place];
+        row.push(item)?;
+    }
+    Ok(())
+}
+
+/// The sides of the request queues: of each port its put sides, and of each channel its take side.
+fn request_lanes(
+    alloc: Global,
+    config: &Config,
+) -> Result<(Vec<Vec<RequestPut>>, Vec<RequestTake>), OpenError>
+    ensures { IfOk result (λ lanes. AreLanes (λ channel. record { geometry = config.now.geometry; channel = channel }) config.now.limits.intake config.now.limits.ports config.now.geometry.channels (lists lanes.0.items) lanes.1.items) }
+{
+    let mut rows = empty_rows(alloc, config.limits.ports)?;
+    let mut takes = Vec::new(alloc);
+    for channel in 0..config.geometry.channels {
+        let (puts, take) = requests::open(alloc, config, channel)?;
+        hand_out(&mut rows, puts)?;
+        takes.push(take)?;
+    }
+    Ok((rows, takes))
+}
+
+/// The sides of the completion queues: of each channel its put sides, and of each port its take side.
+fn completion_lanes(
+    alloc: Global,
+    config: &Config,
+) -> Result<(Vec<Vec<DonePut>>, Vec<DoneTake>), OpenError>
+    ensures { IfOk result (λ lanes. AreLanes (λ port. record { geometry = config.now.geometry; port = port }) config.now.limits.window config.now.geometry.channels config.now.limits.ports (lists lanes.0.items) lanes.1.items) }
+{
+    let mut rows = empty_rows(alloc, config.geometry.channels)?;
+    let mut takes = Vec::new(alloc);
+    for port in 0..config.limits.ports {
+        let (puts, take) = completions::open(alloc, config, port)?;
+        hand_out(&mut rows, puts)?;
+        takes.push(take)?;
+    }
+    Ok((rows, takes))
+}
+
+/// The ports, each over its row of put sides and its take side.
+fn open_ports(
+    alloc: Global,
+    config: &Config,
+    id: u64,
+    mut rows: Vec<Vec<RequestPut>>,
+    mut takes: Vec<DoneTake>,
+) -> Result<Vec<Port>, OpenError>
+    requires rows { length rows.items ≡ config.now.limits.ports }
+    requires takes { length takes.items ≡ config.now.limits.ports }
+    requires row { AreFrom (IsPortRow config.now.geometry) 0 (lists rows.items) }
+    requires take { All (λ take. take.took ≡ []) takes.items }
+    ensures { IfOk result (λ ports. AreEach (IsPortOf config.now id) 0 (lists rows.items) takes.items ports.items) }
+{
+    let mut ports = Vec::new(alloc);
+    for number in 0..config.limits.ports {
+        let row = rows.remove(0);
+        let take = takes.remove(0);
+        let core = PortCore::open(alloc, config, number, 0)?;
+        ports.push(Port::new(config, id, number, core, row, take))?;
+    }
+    Ok(ports)
+}
+
+/// The workers, each over its row of put sides and its take side.
+fn open_workers(
+    alloc: Global,
+    config: &Config,
+    id: u64,
+    mut rows: Vec<Vec<DonePut>>,
+    mut takes: Vec<RequestTake>,
+) -> Result<Vec<Worker>, OpenError>
+    requires rows { length rows.items ≡ config.now.geometry.channels }
+    requires takes { length takes.items ≡ config.now.geometry.channels }
+    requires row { AreFrom (IsWorkerRow config.now.geometry config.now.limits.ports) 0 (lists rows.items) }
+    requires take { AreFrom (IsWorkerTake config.now.geometry config.now.limits.ports) 0 takes.items }
+    ensures { IfOk result (λ workers. AreEach (IsNewWorker config.now id) 0 (lists rows.items) takes.items workers.items) }
+{
+    let mut workers = Vec::new(alloc);
+    for number in 0..config.geometry.channels {
+        let row = rows.remove(0);
+        let take = takes.remove(0);
+        workers.push(Worker::open(alloc, config, id, number, take, row)?)?;
+    }
+    Ok(workers)
+}
+
+/// Opens the ports and the workers of a configuration, with a queue from every port to each channel and one from every
+/// channel to each port. No thread is started: the caller moves them into threads. What was opened by one call can be
+/// told by `id`. The numbers and the clocks begin at 0.
+pub fn open(alloc: Global, config: &Config, id: u64) -> Result<(Vec<Port>, Vec<Worker>), OpenError>
+    ensures { IfOk result (λ both. IsOpened config.now id both.0.items both.1.items) }
+{
+    let (port_rows, worker_takes) = request_lanes(alloc, config)?;
+    let (worker_rows, port_takes) = completion_lanes(alloc, config)?;
+    let ports = open_ports(alloc, config, id, port_rows, port_takes)?;
+    let workers = open_workers(alloc, config, id, worker_rows, worker_takes)?;
+    Ok((ports, workers))
+}
