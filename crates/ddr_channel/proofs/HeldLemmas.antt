@@ -60,9 +60,12 @@ held_completed weigh s =
 held_served_at : (weigh : ℕ → ℕ → ℕ) (place : ℕ) (o : Option Waiting) (s : State) → slice_get s.pending place ≡ o → held weigh (served_at place o s) ≡ held weigh s
 held_served_at weigh place None s is = refl
 held_served_at weigh place (Some w) s is =
-    omega (arith, ap (sum_by (weigh_request weigh)) (map-remove (λ (x : Waiting). x.request) s.pending place),
-        sum_removed (weigh_request weigh) (requests_of s.pending) place w.request (mapped_at (λ (x : Waiting). x.request) s.pending place w is),
-        sum_last (weigh_done weigh) s.flight (completion_of s w.request))
+    omega (
+      arith,
+      ap (sum_by (weigh_request weigh)) (map-remove (λ (x : Waiting). x.request) s.pending place),
+      sum_removed (weigh_request weigh) (requests_of s.pending) place w.request (mapped_at (λ (x : Waiting). x.request) s.pending place w is),
+      sum_last (weigh_done weigh) s.flight (completion_of s w.request),
+    )
 
 held_served : (weigh : ℕ → ℕ → ℕ) (c : Choice) (s : State) → held weigh (served_by c s) ≡ held weigh s
 held_served weigh choice.Nothing s = refl
