@@ -10,6 +10,7 @@ use std::alloc::Global;
 use std::test::Fail;
 
 mod chance;
+mod replies;
 
 /// A read of a byte at address 0, from port 0.
 const READ: Event<'static> = Event::Submit(0, Request::Read { addr: 0, len: 1 });
