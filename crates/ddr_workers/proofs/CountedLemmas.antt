@@ -22,6 +22,7 @@ use Rattle.ddr_ports.specs.declared.refusal.PortError.TheVariants.{Finished, Out
 use Rattle.ddr_ports.specs.Refusals.{refusal_from}
 use Rattle.ddr_ports.specs.State as core
 use Rattle.ddr_ports.specs.State.{request_at, request_with}
+use Rattle.ddr_world.proofs.PlaceLemmas.{placed_in_range}
 use Rattle.ddr_workers.specs.declared.completions.Delivery.{Delivery}
 use Rattle.ddr_workers.specs.declared.requests.Item.{Item}
 use Rattle.ddr_workers.specs.declared.requests.Item.TheVariants.{Request, End}
@@ -32,7 +33,6 @@ use Rattle.ddr_workers.specs.PortView.{IsWhole}
 use Rattle.ddr_workers.specs.Sides.{PutSide, TakeSide, after_push, after_full, after_pop, changed_at}
 use Rattle.ddr_workers.specs.Worker.{requests_of}
 use Rattle.ddr_workers.proofs.ChangedLemmas.{each_changed, some_there}
-use Rattle.ddr_workers.proofs.PlaceLemmas.{place-in_range}
 use Rattle.ddr_workers.proofs.PortLemmas.{made_at}
 use Rattle.ddr_workers.proofs.ReplyLemmas.{awaited_parts, unawaited_below}
 
@@ -293,7 +293,7 @@ made_as k asked made (Some place) e =
 channel_there : (s : PortState) (asked : Asked) (made : records.Request) (channel : ℕ) → IsWhole s → request_at s.core asked ≡ Some made → made.place.channel ≡ channel → channel < length s.requests
 channel_there s asked made channel whole is at =
     let placed = made_at s.core asked made (place_of s.core.geometry (first_address asked)) refl is in
-    let inside = place-in_range s.core.geometry made.echo.addr made.place placed.placed in
+    let inside = placed_in_range s.core.geometry made.echo.addr made.place placed.placed in
     let below : made.place.channel < s.core.geometry.channels = (IsInRange-test s.core.geometry made.place inside).digits Channel in
     omega (arith, below, at, whole.channels)
 

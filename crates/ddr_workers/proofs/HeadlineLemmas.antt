@@ -1,6 +1,6 @@
 -- From the joined queues to the replies: each port got the right reply to each of its requests, once.
 use Rattle.std.proofs.Common.{◌≡◌, ◌≢◌, ℕ, zero, suc, ◌+◌, ◌%◌, ◌<◌, ◌≤◌, Bool, true, false, cond, eqb, ltb, List, [], ◌∷◌, ◌++◌, All, length, map, take, filter, Option, Some, None, slice_get, refl, sym, ap, ◌∙◌, subst, inl, inr, arith}
-use Rattle.std.specs.List.{sum_by, slice_range, range_with_len, AllByRecursion}
+use Rattle.std.specs.List.{sum_by, range_with_len}
 use Rattle.std.specs.Option.{option_map_or}
 use Rattle.std.proofs.lemmas.Bool.{eq-eqb, ne_eqb, eqb-true, ltb-true, ltb-false}
 use Rattle.std.proofs.lemmas.Bool.Decides.{eqb_tells}
@@ -9,23 +9,19 @@ use Rattle.std.proofs.lemmas.List.Sums.{sum_by-cons, length-filter}
 use Rattle.std.proofs.lemmas.List.Sorted.{sum_by-IsPermutation}
 use Rattle.std.proofs.lemmas.Option.{slice_get_within, get_or_from_slice_get}
 use Rattle.ddr_timing.specs.declared.config.Config.{Config}
-use Rattle.ddr_address_map.specs.declared.request.Kind.{Kind}
-use Rattle.ddr_address_map.specs.declared.request.Kind.TheVariants.{Read, Write}
 use Rattle.ddr_address_map.specs.Requests as records
 use Rattle.ddr_address_map.specs.Requests.{Completion}
-use Rattle.ddr_channel.specs.Cycle.{line_served}
 use Rattle.ddr_channel.specs.History.{Owner}
 use Rattle.ddr_channel.specs.Memory.{line_of, line_after}
 use Rattle.ddr_channel.specs.Promise.{answer_to, right_answer}
 use Rattle.ddr_address_map.specs.Map.{place_of}
 use Rattle.ddr_channel.proofs.HeldLemmas.{part_of_sum}
 use Rattle.ddr_channel.proofs.ListLemmas.{at_map, mapped_at, All-at}
-use Rattle.ddr_reorder.specs.Replies.{Answer, asked_bytes}
 use Rattle.ddr_reorder.specs.State.{IsWithinLine}
 use Rattle.ddr_world.specs.Promise as core
 use Rattle.ddr_world.specs.Promise.{bytes_after, bytes_for}
 use Rattle.ddr_world.proofs.CoreCounts.{sum_ones}
-use Rattle.ddr_world.proofs.CoreReplies.{some_of_map}
+use Rattle.ddr_world.proofs.CoreReplies.{all_taken, same_answer, served_bytes, some_of_map}
 use Rattle.ddr_world.proofs.LineBytes as lines
 use Rattle.ddr_world.proofs.LineBytes.{asked_of_line}
 use Rattle.ddr_workers.specs.declared.completions.Delivery.{Delivery}
@@ -280,19 +276,6 @@ placed ports workers left c w j at i r there =
       within = within;
     }
 
-each_of_first : {X : Type 0} (P : X → Type 0) (xs : List X) (n : ℕ) → ((i : ℕ) (x : X) → slice_get xs i ≡ Some x → P x) → AllByRecursion P (take n xs)
-each_of_first P xs zero each = tt
-each_of_first P [] (suc n) each = tt
-each_of_first P (x ∷ xs) (suc n) each = (each 0 x refl, each_of_first P xs n (λ i y is. each (suc i) y is))
-
-served_bytes : (kind : Kind) (off len addr : ℕ) (burst line : List ℕ) (earlier : List records.Request) → slice_range burst off (off + len) ≡ bytes_after earlier addr len
-    → asked_bytes kind off len (line_served kind burst line) ≡ bytes_for kind earlier addr len
-served_bytes Read off len addr burst line earlier is = is
-served_bytes Write off len addr burst line earlier is = refl
-
-same_answer : (a b : Answer) → a.number ≡ b.number → a.echo ≡ b.echo → a.bytes ≡ b.bytes → a ≡ b
-same_answer a b number echo bytes = λ i. record { number = number i; echo = echo i; bytes = bytes i }
-
 -- a right answer is the reply to its request
 right_reply : (ports : List PortEnded) (workers : List WorkerEnded) (left : ℕ → List Completion) (c : ℕ) (w : WorkerEnded) (j : AreJoined ports workers left) → (at : slice_get workers c ≡ Some w)
     → (owner : Owner) (r : records.Request) (d : Completion) → slice_get (requests_of w.requests.took) owner.place ≡ Some r → answer_to (j.worker c w at).1.config (requests_of w.requests.took) owner r ≡ d
@@ -304,7 +287,7 @@ right_reply ports workers left c w j at owner r d there is =
     let burst = line_after earlier (line_of r.place) in
     let off = r.echo.addr % 64 in
     let its = placed ports workers left c w j at in
-    let asked = asked_of_line geometry c r earlier (its owner.place r there) (each_of_first (lines.IsPlaced geometry c) accepted owner.place its) in
+    let asked = asked_of_line geometry c r earlier (its owner.place r there) (all_taken (lines.IsPlaced geometry c) accepted owner.place its) in
     ap reply_of (sym is) ∙ same_answer (reply_of (answer_to (j.worker c w at).1.config accepted owner r)) (core.reply_of earlier r) refl refl
     (served_bytes r.echo.kind off r.echo.len r.echo.addr burst r.line earlier asked)
 

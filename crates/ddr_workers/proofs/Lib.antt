@@ -16,6 +16,5 @@ pub mod TotalLemmas
 pub mod TwoSideLemmas
 pub mod WorkerLemmas
 pub mod CountedLemmas
-pub mod PlaceLemmas
 pub mod EndedLemmas
 pub mod HeadlineLemmas

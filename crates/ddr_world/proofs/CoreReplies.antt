@@ -30,7 +30,7 @@ use Rattle.ddr_world.proofs.LineBytes.{IsPlaced, asked_of_line}
 
 -- a completion that is done
 
-all_taken : {X : Type 0} (P : X → Type 0) (xs : List X) (n : ℕ) → ((i : ℕ) (x : X) → slice_get xs i ≡ Some x → P x) → AllByRecursion P (take n xs)
+pub all_taken : {X : Type 0} (P : X → Type 0) (xs : List X) (n : ℕ) → ((i : ℕ) (x : X) → slice_get xs i ≡ Some x → P x) → AllByRecursion P (take n xs)
 all_taken P xs zero each = tt
 all_taken P [] (suc n) each = tt
 all_taken P (x ∷ xs) (suc n) each = (each 0 x refl, all_taken P xs n (λ i y is. each (suc i) y is))
@@ -44,7 +44,7 @@ some_of_map f None y is = cc
 some_of_map f (Some x) y is = (x, refl, (let same : f x ≡ y = cc in same))
 
 -- a read is served with what earlier requests left, a write with what it wrote; and so is lent
-served_bytes : (kind : Kind) (off len addr : ℕ) (burst line : List ℕ) (earlier : List Request) → slice_range burst off (off + len) ≡ bytes_after earlier addr len
+pub served_bytes : (kind : Kind) (off len addr : ℕ) (burst line : List ℕ) (earlier : List Request) → slice_range burst off (off + len) ≡ bytes_after earlier addr len
     → asked_bytes kind off len (line_served kind burst line) ≡ bytes_for kind earlier addr len
 served_bytes Read off len addr burst line earlier is = is
 served_bytes Write off len addr burst line earlier is = refl
@@ -196,7 +196,7 @@ is_front s a is = by_list s.outstanding refl
         let found = front_by e rest a e.line (is_filled e) refl refl here in
         record { entry = e; line = found.0; there = ap (λ (es : List Outstanding). slice_get es 0) some; filled = found.1; answer = found.2 }
 
-same_answer : (a b : Answer) → a.number ≡ b.number → a.echo ≡ b.echo → a.bytes ≡ b.bytes → a ≡ b
+pub same_answer : (a b : Answer) → a.number ≡ b.number → a.echo ≡ b.echo → a.bytes ≡ b.bytes → a ≡ b
 same_answer a b number echo bytes = λ i. record { number = number i; echo = echo i; bytes = bytes i }
 
 -- it is the next one of the port's replies
