@@ -1,5 +1,5 @@
 -- How often a request is held in a channel, whatever becomes of it: for who follows a channel by what it was given and gave back.
-use Rattle.std.proofs.Common.{◌≡◌, ℕ, zero, suc, ◌+◌, ◌<◌, ◌≤◌, Bool, true, false, not, cond, eqb, List, [], ◌∷◌, ◌++◌, Option, Some, None, map, length, drop, set, get_or, refl, sym, ap, subst, ◌∙◌, arith}
+use Rattle.std.proofs.Common.{◌≡◌, ℕ, ◌+◌, ◌≤◌, Bool, true, false, not, cond, eqb, List, [], ◌∷◌, ◌++◌, Option, Some, None, drop, set, refl, sym, ap, subst, ◌∙◌, arith}
 use Rattle.std.specs.List.{sum_by, filter, remove, slice_get}
 use Rattle.std.proofs.lemmas.List.Sums.{sum_by-cons, sum_by-append, sum_by-set, sum_by-remove, get_or-le-sum_by}
 use Rattle.std.proofs.lemmas.Option.{slice_get_within, get_or_from_slice_get}
@@ -8,7 +8,7 @@ use Rattle.ddr_arbiter.specs.declared.choice.Choice.{Choice}
 use Rattle.ddr_arbiter.specs.declared.choice.Choice.TheVariants as choice
 use Rattle.ddr_arbiter.specs.Laws.{command_of}
 use Rattle.ddr_channel.specs.Choice.{choice_of}
-use Rattle.ddr_channel.specs.Cycle.{completed, at_choice, recorded, completion_of, served, served_at, served_by, after_cycle}
+use Rattle.ddr_channel.specs.Cycle.{completed, at_choice, recorded, completion_of, served_at, served_by, after_cycle}
 use Rattle.ddr_channel.specs.Promise.{requests_of}
 use Rattle.ddr_channel.specs.State.{State}
 use Rattle.ddr_channel.proofs.ListLemmas.{map-remove, mapped_at}

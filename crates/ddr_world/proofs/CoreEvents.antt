@@ -1,22 +1,20 @@
 -- What a made event keeps of the core, one event after another.
-use Rattle.std.proofs.Common.{◌≡◌, ◌≢◌, ℕ, zero, suc, ◌+◌, ◌<◌, ◌≤◌, Bool, true, false, cond, eqb, List, [], ◌∷◌, ◌++◌, Option, Some, None, IfSome, is_none, map, take, drop, length, set, refl, sym, ap, ap₂, subst, ◌∙◌, inl, inr, arith}
+use Rattle.std.proofs.Common.{◌≡◌, ℕ, suc, ◌+◌, Bool, true, false, cond, eqb, List, [], ◌∷◌, ◌++◌, Option, Some, None, is_none, map, take, drop, length, set, refl, sym, ap, ap₂, subst, ◌∙◌, inl, inr, arith}
 use Rattle.std.specs.List.{sum_by, slice_get, range_with_len}
-use Rattle.std.proofs.lemmas.Bool.{ne_eqb, eq-eqb, eqb-true, eqb-false}
-use Rattle.std.proofs.lemmas.List.{length-set, length-map, length-append, append_assoc, append-nil, map-append, take_more}
+use Rattle.std.proofs.lemmas.Bool.{ne_eqb, eq-eqb, eqb-true}
+use Rattle.std.proofs.lemmas.List.{length-set, length-map, length-append, append-nil, map-append, take_more}
 use Rattle.std.proofs.lemmas.List.Sums.{sum_by-cons}
 use Rattle.std.proofs.lemmas.Option.{slice_get_within, get_or_from_slice_get}
 use Rattle.circular_buffer.proofs.Places.{slice_get-drop, slice_get-append_right}
-use Rattle.ddr_address_map.specs.Map.{in_range, place_of}
-use Rattle.ddr_address_map.specs.declared.place.Place.{Place}
 use Rattle.ddr_address_map.specs.declared.request.Kind.TheVariants.{Read, Write}
 use Rattle.ddr_address_map.specs.Requests.{Request, Completion}
 use Rattle.ddr_channel.proofs.HeldLemmas.{weigh_request, weigh_done, held, sum_replaced, sum_dropped, sum_last}
-use Rattle.ddr_channel.proofs.ListLemmas.{at_map, mapped_at}
+use Rattle.ddr_channel.proofs.ListLemmas.{at_map}
 use Rattle.ddr_channel.specs.Promise.{requests_of}
 use Rattle.ddr_channel.specs.State.{is_queue_full}
 use Rattle.ddr_reorder.specs.Replies.{Answer, lent_bytes, nth_answer}
 use Rattle.ddr_reorder.specs.State.{Outstanding, filled, awaits}
-use Rattle.ddr_ports.specs.State.{PortState, after_fill}
+use Rattle.ddr_ports.specs.State.{after_fill}
 use Rattle.ddr_world.specs.declared.item.Item.{Item}
 use Rattle.ddr_world.specs.declared.item.Item.TheVariants as item
 use Rattle.ddr_world.specs.History.{Opening, Whereabouts, History, with_next}
@@ -25,9 +23,8 @@ use Rattle.ddr_world.specs.State.{PortSide, ChannelSide}
 use Rattle.ddr_world.specs.Step.{with_port, with_channel, queued, after_take, sent, after_deliver, after_collect, after_release, after_end}
 use Rattle.ddr_world.proofs.CoreCounts.{requests_in-append, number_at, weigh_waiting, sum_filled}
 use Rattle.ddr_world.proofs.CoreFrames.{with_next_other, with_next_same, before_or_last, channels_after, ports_after, channel_changed, port_changed, admitted_keeps, popped_keeps}
-use Rattle.ddr_world.proofs.CoreKeeps.{requests_in, ChannelKeeps, Settled, Right, IsSettledAt, PortKeeps, IsSentBack, IsSent, CoreKeeps, weight, held_in, delivered_in, waiting_in, Grows, grows_none, replaced_at}
-use Rattle.ddr_world.proofs.CoreReplies.{IsAwaited, awaited, awaited_test, done_right, same_request, IsFront, is_front, lent_next}
-use Rattle.ddr_world.proofs.LineBytes.{IsPlaced}
+use Rattle.ddr_world.proofs.CoreKeeps.{requests_in, ChannelKeeps, Right, IsSettledAt, PortKeeps, CoreKeeps, weight, held_in, delivered_in, waiting_in, grows_none, replaced_at}
+use Rattle.ddr_world.proofs.CoreReplies.{awaited, awaited_test, done_right, same_request, IsFront, is_front, lent_next}
 use Rattle.ddr_world.proofs.PlaceLemmas.{placed_in_range}
 
 -- Take

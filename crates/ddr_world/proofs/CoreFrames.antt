@@ -1,25 +1,24 @@
 -- Events that change one channel alone, or one port alone.
-use Rattle.std.proofs.Common.{◌≡◌, ◌≢◌, ℕ, zero, suc, ◌+◌, ◌<◌, ◌≤◌, ◌⊎◌, Bool, true, false, cond, eqb, List, [], ◌∷◌, ◌++◌, Option, Some, None, map, take, drop, length, set, refl, sym, ap, ap₂, subst, ◌∙◌, inl, inr, arith, append-nil}
-use Rattle.std.specs.List.{sum_by, slice_get, AllByRecursion}
+use Rattle.std.proofs.Common.{◌≡◌, ◌≢◌, ℕ, zero, suc, ◌+◌, ◌≤◌, ◌⊎◌, Bool, true, false, cond, eqb, List, [], ◌∷◌, ◌++◌, Some, map, take, drop, length, set, refl, sym, ap, ap₂, subst, ◌∙◌, inl, inr, arith}
+use Rattle.std.specs.List.{sum_by, slice_get}
 use Rattle.std.proofs.lemmas.Bool.{ne_eqb, eq-eqb, eqb-true, eqb-false}
 use Rattle.std.proofs.lemmas.List.{length-set, append_assoc}
 use Rattle.std.proofs.lemmas.List.Sums.{fold-append}
 use Rattle.std.proofs.lemmas.Option.{slice_get_within}
-use Rattle.circular_buffer.proofs.Places.{slice_get-last, slice_get-push}
 use Rattle.ddr_timing.specs.declared.units.TheConstants.{CLOCK_STOP}
 use Rattle.ddr_timing.specs.declared.config.Config.{Config}
 use Rattle.ddr_address_map.specs.declared.request.Kind.TheVariants.{Read, Write}
-use Rattle.ddr_address_map.specs.Map.{in_range, place_of}
+use Rattle.ddr_address_map.specs.Map.{in_range}
 use Rattle.ddr_address_map.specs.Requests.{Request}
 use Rattle.ddr_reorder.specs.Replies.{Answer}
 use Rattle.ddr_channel.specs.Choice.{choice_of}
 use Rattle.ddr_channel.specs.Cycle.{at_choice, after_cycle}
 use Rattle.ddr_channel.specs.History as channel
 use Rattle.ddr_channel.specs.History.{Call, Admit, Cycle, Pop, begun, after_call, with_owner}
-use Rattle.ddr_channel.specs.Promise.{MayCall, AreCalls}
+use Rattle.ddr_channel.specs.Promise.{MayCall}
 use Rattle.ddr_channel.specs.State as channel_state
 use Rattle.ddr_channel.specs.State.{after_admit, after_pop, is_queue_full}
-use Rattle.ddr_channel.proofs.HeldLemmas.{weigh_request, weigh_done, held, held_cycle, sum_replaced, sum_last}
+use Rattle.ddr_channel.proofs.HeldLemmas.{weigh_request, held_cycle, sum_replaced}
 use Rattle.ddr_channel.proofs.ListLemmas.{All-last}
 use Rattle.ddr_channel.proofs.StandsLemmas.{cycle_accepted}
 use Rattle.ddr_world.specs.declared.item.Item.{Item}
@@ -27,8 +26,7 @@ use Rattle.ddr_world.specs.declared.item.Item.TheVariants as item
 use Rattle.ddr_world.specs.History.{Opening, Whereabouts, History, with_next}
 use Rattle.ddr_world.specs.Promise.{replies_of_port}
 use Rattle.ddr_world.specs.State.{PortSide, ChannelSide}
-use Rattle.ddr_world.specs.Step.{with_port, with_channel, queued, after_take, sent, after_end}
-use Rattle.ddr_world.proofs.CoreCounts.{requests_in-append}
+use Rattle.ddr_world.specs.Step.{with_port, with_channel, after_take, sent}
 use Rattle.ddr_world.proofs.CoreKeeps.{requests_in, ChannelKeeps, PortKeeps, CoreKeeps, weight, held_in, delivered_in, waiting_in, Grows, grows_none, grown, port_still, replaced_at}
 use Rattle.ddr_world.proofs.SideLemmas.{free_kind}
 

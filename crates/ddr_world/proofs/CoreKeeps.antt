@@ -1,11 +1,10 @@
 -- What every record of events keeps of the core, from which its promise follows.
-use Rattle.std.proofs.Common.{◌≡◌, ◌≢◌, ℕ, zero, suc, ◌+◌, ◌%◌, ◌<◌, ◌≤◌, ◌⊎◌, Bool, true, false, cond, eqb, List, [], ◌∷◌, ◌++◌, Option, Some, None, IfSome, is_none, map, take, drop, length, set, append-nil, refl, sym, ap, ap₂, subst, ◌∙◌, inl, inr, arith}
-use Rattle.std.specs.List.{sum_by, range_with_len, slice_get, AllByRecursion}
+use Rattle.std.proofs.Common.{◌≡◌, ◌≢◌, ℕ, ◌+◌, ◌≤◌, ◌⊎◌, true, cond, eqb, List, [], ◌∷◌, ◌++◌, Some, IfSome, is_none, map, take, length, set, append-nil, refl, sym, ap, subst, ◌∙◌, inl, inr, arith}
+use Rattle.std.specs.List.{sum_by, range_with_len, slice_get}
 use Rattle.std.proofs.lemmas.Bool.Decides.{eqb_tells}
-use Rattle.std.proofs.lemmas.Option.{slice_get_past, slice_get_within}
-use Rattle.std.proofs.lemmas.List.{take-append-le, length-set}
+use Rattle.std.proofs.lemmas.Option.{slice_get_within}
+use Rattle.std.proofs.lemmas.List.{take-append-le}
 use Rattle.circular_buffer.proofs.Places.{slice_get-append_left, slice_get-set_same, slice_get-set_other}
-use Rattle.ddr_timing.specs.declared.geometry.Geometry.{Geometry}
 use Rattle.ddr_address_map.specs.Requests.{Request, Completion}
 use Rattle.ddr_reorder.specs.Replies.{Answer, lent_bytes}
 use Rattle.ddr_reorder.specs.State.{Outstanding}
@@ -16,7 +15,7 @@ use Rattle.ddr_channel.proofs.HeldLemmas.{weigh_request, held}
 use Rattle.ddr_world.specs.declared.item.Item.{Item}
 use Rattle.ddr_world.specs.declared.item.Item.TheVariants as item
 use Rattle.ddr_world.specs.History.{Opening, Whereabouts, History}
-use Rattle.ddr_world.specs.Promise.{IsCounted, reply_of, replies_of_port}
+use Rattle.ddr_world.specs.Promise.{reply_of, replies_of_port}
 use Rattle.ddr_world.specs.State.{PortSide, ChannelSide}
 use Rattle.ddr_world.proofs.LineBytes.{IsPlaced}
 

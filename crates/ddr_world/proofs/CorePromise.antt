@@ -1,12 +1,12 @@
 -- The core's promise, from what every record of events keeps.
-use Rattle.std.proofs.Common.{◌≡◌, ◌≢◌, ℕ, zero, suc, ◌+◌, ◌<◌, ◌≤◌, Bool, true, false, not, cond, eqb, List, [], ◌∷◌, ◌++◌, Option, Some, None, IfSome, is_none, Err, map, take, length, refl, sym, ap, ap₂, subst, ◌∙◌, inl, inr, arith}
-use Rattle.std.specs.List.{sum_by, count_by, slice_get, range_with_len, All}
+use Rattle.std.proofs.Common.{◌≡◌, ℕ, suc, ◌+◌, ◌≤◌, Bool, true, false, cond, List, [], ◌∷◌, ◌++◌, Option, Some, None, IfSome, is_none, Err, map, take, length, refl, sym, ap, ap₂, subst, ◌∙◌, inl, inr, arith}
+use Rattle.std.specs.List.{sum_by, slice_get, range_with_len}
 use Rattle.std.specs.Option.{option_map, option_map_or, option_and_then, unwrap_or}
 use Rattle.std.specs.Result.{IsErr}
 use Rattle.std.proofs.lemmas.Bool.{eq-eqb, eqb-true}
 use Rattle.std.proofs.lemmas.List.{length-map, take_all, append-nil}
 use Rattle.std.proofs.lemmas.List.Sums.{count_by-le-length}
-use Rattle.std.proofs.lemmas.Option.{slice_get_past, slice_get_within}
+use Rattle.std.proofs.lemmas.Option.{slice_get_within}
 use Rattle.std.proofs.Math.Seq.{take-append_seam}
 use Rattle.circular_buffer.proofs.Places.{below_or_not, slice_get-some}
 use Rattle.ddr_address_map.specs.Requests.{Request, Completion}
@@ -15,7 +15,7 @@ use Rattle.ddr_channel.proofs.ListLemmas.{All-at}
 use Rattle.ddr_channel.proofs.PromiseLemmas.{promise_kept}
 use Rattle.ddr_channel.specs.State as channel_state
 use Rattle.ddr_trace.specs.Legality.{IsLegal}
-use Rattle.ddr_reorder.specs.Replies.{Answer, answer_of, nth_answer, is_filled}
+use Rattle.ddr_reorder.specs.Replies.{Answer, nth_answer}
 use Rattle.ddr_reorder.specs.State.{Outstanding}
 use Rattle.ddr_ports.specs.Asked.{Asked}
 use Rattle.ddr_world.specs.declared.event.Refusal.TheVariants as refusal
@@ -24,9 +24,9 @@ use Rattle.ddr_world.specs.declared.event.Outcome.TheVariants as outcome
 use Rattle.ddr_world.specs.declared.item.Item.{Item}
 use Rattle.ddr_world.specs.Events.{Event, Submit, Take, Cycle, Deliver, Collect, Release, End}
 use Rattle.ddr_world.specs.History.{Opening, Answered, Whereabouts, History, front_of, run}
-use Rattle.ddr_world.specs.Promise.{reply_of, reply_at, replies_of_port, IsCounted, IsOver, IsFinished, KeepsPromise}
+use Rattle.ddr_world.specs.Promise.{reply_of, reply_at, replies_of_port, IsOver, KeepsPromise}
 use Rattle.ddr_world.specs.State.{PortSide, ChannelSide, is_completion_queue_full, IsPortDrained, IsChannelDrained, IsDrained}
-use Rattle.ddr_world.specs.Step.{Step, made, with_port, with_channel, at_channel, sent, after_deliver, deliver_to, push_completion, deliver_by, submit_by, collect_by, release_by, change_channel, taken, end_at, step}
+use Rattle.ddr_world.specs.Step.{made, with_port, with_channel, at_channel, sent, after_deliver, deliver_to, push_completion, deliver_by, submit_by, collect_by, release_by, change_channel, taken, end_at}
 use Rattle.ddr_world.proofs.CoreCounts.{sum_ones}
 use Rattle.ddr_world.proofs.CoreKeeps.{requests_in, CoreKeeps, held_in, weight}
 use Rattle.ddr_world.proofs.CoreReplies.{awaited, awaited_test, done_right, lent_next}

@@ -1,11 +1,10 @@
 -- A completion that is done is the right one, its port waits for it, and the reply that a port lends is the next.
-use Rattle.std.proofs.Common.{◌≡◌, ◌≢◌, ℕ, zero, suc, ◌+◌, ◌%◌, ◌<◌, ◌≤◌, Bool, true, false, cond, eqb, ◌&&◌, ◌||◌, List, [], ◌∷◌, ◌++◌, Option, Some, None, IfSome, is_none, map, take, length, refl, sym, ap, ap₂, subst, ◌∙◌, arith}
-use Rattle.std.specs.List.{sum_by, slice_get, slice_range, list_any, take_while, prefix_len, range_with_len, AllByRecursion}
+use Rattle.std.proofs.Common.{◌≡◌, ℕ, zero, suc, ◌+◌, ◌%◌, ◌≤◌, Bool, true, false, cond, ◌||◌, List, [], ◌∷◌, ◌++◌, Option, Some, None, IfSome, take, length, refl, sym, ap, subst, ◌∙◌, arith}
+use Rattle.std.specs.List.{sum_by, slice_get, slice_range, list_any, take_while, prefix_len, AllByRecursion}
 use Rattle.std.specs.Option.{option_map, option_and_then}
 use Rattle.std.proofs.lemmas.Bool.{eq-eqb}
 use Rattle.std.proofs.lemmas.List.{append_assoc}
-use Rattle.circular_buffer.proofs.Places.{slice_get-append_left, slice_get-append_right}
-use Rattle.std.proofs.lemmas.Option.{slice_get_within}
+use Rattle.circular_buffer.proofs.Places.{slice_get-append_right}
 use Rattle.ddr_address_map.specs.declared.request.Echo.{Echo}
 use Rattle.ddr_address_map.specs.declared.request.Kind.{Kind}
 use Rattle.ddr_address_map.specs.declared.request.Kind.TheVariants.{Read, Write}
@@ -22,10 +21,10 @@ use Rattle.ddr_channel.proofs.PromiseLemmas.{promise_kept}
 use Rattle.ddr_reorder.specs.Replies.{Answer, asked_bytes, lent_bytes, answer_of, is_filled, nth_answer}
 use Rattle.ddr_reorder.specs.State.{Outstanding, ReorderState, is_same_kind, is_same_echo, is_awaited, awaits}
 use Rattle.ddr_world.specs.History.{Opening, Whereabouts, History}
-use Rattle.ddr_world.specs.Promise.{bytes_after, bytes_for, reply_of, reply_at, request_there, replies_of_port}
+use Rattle.ddr_world.specs.Promise.{bytes_after, bytes_for, reply_of, reply_at, replies_of_port}
 use Rattle.ddr_world.specs.State.{PortSide, ChannelSide}
-use Rattle.ddr_world.proofs.CoreCounts.{number_at, is_number, weigh_waiting, Waits, waits_there}
-use Rattle.ddr_world.proofs.CoreKeeps.{requests_in, ChannelKeeps, Settled, Right, IsSettledAt, PortKeeps, IsSentBack, IsSent, CoreKeeps, held_in, delivered_in, waiting_in, Grows, grows_by, there_still, before_still}
+use Rattle.ddr_world.proofs.CoreCounts.{number_at, is_number, weigh_waiting, waits_there}
+use Rattle.ddr_world.proofs.CoreKeeps.{requests_in, Right, CoreKeeps, Grows, grows_by, there_still, before_still}
 use Rattle.ddr_world.proofs.LineBytes.{IsPlaced, asked_of_line}
 
 -- a completion that is done

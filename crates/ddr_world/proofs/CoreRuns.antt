@@ -1,11 +1,10 @@
 -- Every record of events keeps the core.
-use Rattle.std.proofs.Common.{◌≡◌, ◌≢◌, ℕ, zero, suc, ◌+◌, ◌*◌, ◌<◌, ◌≤◌, ◌||◌, Bool, true, false, not, cond, eqb, List, [], ◌∷◌, ◌++◌, Option, Some, None, Result, Ok, Err, map, take, drop, length, replicate, refl, sym, ap, ap₂, subst, ◌∙◌, arith}
+use Rattle.std.proofs.Common.{◌≡◌, ℕ, zero, suc, ◌+◌, ◌||◌, Bool, true, false, not, cond, eqb, List, [], ◌∷◌, Option, Some, None, Result, Ok, Err, drop, length, replicate, refl, sym, ap, subst, ◌∙◌, arith}
 use Rattle.std.specs.List.{sum_by, slice_get, range_with_len, fold}
 use Rattle.std.specs.Option.{option_map, option_map_or, option_and_then, unwrap_or}
 use Rattle.std.proofs.lemmas.List.{length-replicate}
 use Rattle.std.proofs.lemmas.List.Folds.{sum_by-replicate}
 use Rattle.ddr_timing.specs.declared.units.TheConstants.{CLOCK_STOP}
-use Rattle.ddr_timing.specs.declared.config.Config.{Config}
 use Rattle.ddr_address_map.specs.declared.request.Kind.TheVariants.{Read, Write}
 use Rattle.ddr_address_map.specs.Requests.{Request, Completion}
 use Rattle.ddr_channel.proofs.ListLemmas.{at_map, neither}
@@ -25,11 +24,10 @@ use Rattle.ddr_world.specs.Events.{Event, Submit, Take, Cycle, Deliver, Collect,
 use Rattle.ddr_world.specs.History.{Opening, Answered, History, begun, accept, admit, give, request_of, next_item, front_of, note, after_step, after_answer, after, run}
 use Rattle.ddr_world.specs.Refusals.{refusal_from}
 use Rattle.ddr_world.specs.State.{PortSide, ChannelSide, opened_port, opened_channel, is_busy, is_completion_queue_full}
-use Rattle.ddr_world.specs.Step.{Step, made, with_port, with_channel, at_port, at_channel, change_channel, queued, after_submit, push_on, push_request, submit_by, after_take, taken, cycled, sent, after_deliver, deliver_to, push_completion, deliver_by, after_collect, collect_by, after_release, release_by, after_end, end_at, step}
+use Rattle.ddr_world.specs.Step.{made, with_port, with_channel, at_channel, change_channel, queued, after_submit, push_on, push_request, submit_by, after_take, taken, cycled, sent, after_deliver, deliver_to, push_completion, deliver_by, after_collect, collect_by, after_release, release_by, after_end, end_at, step}
 use Rattle.ddr_world.proofs.CoreFrames.{cycle_keeps}
 use Rattle.ddr_world.proofs.CoreEvents.{take_request_keeps, take_end_keeps, deliver_keeps, collect_keeps, release_keeps, end_keeps}
 use Rattle.ddr_world.proofs.CoreKeeps.{ChannelKeeps, PortKeeps, CoreKeeps, held_in, delivered_in, waiting_in}
-use Rattle.ddr_world.proofs.CoreReplies.{some_of_map}
 use Rattle.ddr_world.proofs.CoreSubmit.{submit_keeps}
 
 -- before the first event

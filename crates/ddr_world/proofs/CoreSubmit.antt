@@ -1,24 +1,20 @@
 -- What a submitted request keeps of the core.
-use Rattle.std.proofs.Common.{◌≡◌, ◌≢◌, ℕ, zero, suc, ◌+◌, ◌<◌, ◌≤◌, Bool, true, false, not, cond, eqb, List, [], ◌∷◌, ◌++◌, Option, Some, None, IfSome, is_none, map, take, drop, length, set, refl, sym, ap, ap₂, subst, ◌∙◌, inl, inr, arith}
+use Rattle.std.proofs.Common.{◌≡◌, ℕ, zero, suc, ◌+◌, ◌<◌, ◌≤◌, Bool, true, false, not, cond, eqb, List, [], ◌∷◌, ◌++◌, Option, Some, None, is_none, map, take, length, set, refl, sym, ap, ap₂, subst, ◌∙◌, inl, inr, arith}
 use Rattle.std.specs.List.{sum_by, slice_get, range_with_len}
 use Rattle.std.specs.Option.{option_map}
-use Rattle.std.proofs.lemmas.Bool.{ne_eqb, eq-eqb, eqb-true, eqb-false, leb-true, false≢true}
-use Rattle.std.proofs.lemmas.List.{length-set, length-map, length-append, length-take, append_assoc, map-append, take-append-le}
-use Rattle.std.proofs.lemmas.List.Sums.{sum_by-append}
-use Rattle.std.proofs.lemmas.Option.{slice_get_within}
+use Rattle.std.proofs.lemmas.Bool.{ne_eqb, eq-eqb, eqb-true, eqb-false, leb-true}
+use Rattle.std.proofs.lemmas.List.{length-set, length-map, length-append, length-take, append_assoc, map-append}
 use Rattle.circular_buffer.proofs.Places.{slice_get-last}
 use Rattle.ddr_address_map.specs.Map.{place_of}
-use Rattle.ddr_address_map.specs.declared.place.Place.{Place}
-use Rattle.ddr_address_map.specs.Requests.{Request, Completion}
-use Rattle.ddr_channel.proofs.HeldLemmas.{weigh_request, held, sum_replaced, sum_last}
+use Rattle.ddr_address_map.specs.Requests.{Request}
+use Rattle.ddr_channel.proofs.HeldLemmas.{weigh_request, sum_replaced, sum_last}
 use Rattle.ddr_reorder.specs.Replies.{Answer}
 use Rattle.ddr_reorder.specs.State.{Outstanding, IsWithinLine, issue_refusal}
 use Rattle.ddr_ports.specs.Asked.{Asked, echo_of, first_address, len_of, is_within_line}
-use Rattle.ddr_ports.specs.State.{PortState, refusal_of, request_with, request_at}
+use Rattle.ddr_ports.specs.State.{refusal_of, request_with, request_at}
 use Rattle.ddr_ports.specs.Refusals.{refusal_from}
 use Rattle.ddr_ports.specs.declared.refusal.PortError.{PortError}
 use Rattle.ddr_ports.specs.declared.refusal.PortError.TheVariants as cause
-use Rattle.ddr_world.specs.declared.item.Item.{Item}
 use Rattle.ddr_world.specs.declared.item.Item.TheVariants as item
 use Rattle.ddr_world.specs.History.{Opening, Whereabouts, History, with_next, accept}
 use Rattle.ddr_world.specs.Promise.{reply_of, reply_at, replies_of_port}
@@ -26,7 +22,7 @@ use Rattle.ddr_world.specs.State.{PortSide, ChannelSide}
 use Rattle.ddr_world.specs.Step.{with_port, with_channel, queued, after_submit}
 use Rattle.ddr_world.proofs.CoreCounts.{requests_in-append, weigh_waiting}
 use Rattle.ddr_world.proofs.CoreFrames.{with_next_other, with_next_same, with_next_grows, before_or_last, channels_after, ports_after, past_other}
-use Rattle.ddr_world.proofs.CoreKeeps.{requests_in, ChannelKeeps, Settled, Right, IsSettledAt, PortKeeps, IsSentBack, IsSent, CoreKeeps, weight, held_in, delivered_in, waiting_in, Grows, grown, grows_by, grows_none, there_still, before_still, take_still, settled_at_still, right_still, replaced_at}
+use Rattle.ddr_world.proofs.CoreKeeps.{requests_in, IsSettledAt, PortKeeps, IsSentBack, IsSent, CoreKeeps, weight, held_in, delivered_in, waiting_in, Grows, grown, grows_by, grows_none, there_still, before_still, take_still, settled_at_still, right_still, replaced_at}
 use Rattle.ddr_world.proofs.CoreReplies.{some_of_map}
 use Rattle.ddr_world.proofs.LineBytes.{IsPlaced}
 

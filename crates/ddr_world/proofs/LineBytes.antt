@@ -1,5 +1,5 @@
 -- The bytes of an address, and the line that a channel keeps: what requests leave is the same by both.
-use Rattle.std.proofs.Common.{◌≡◌, ℕ, zero, suc, ◌+◌, ◌-◌, ◌*◌, ◌/◌, ◌%◌, ◌<◌, ◌≤◌, Bool, true, false, ◌&&◌, cond, eqb, List, [], ◌∷◌, Option, Some, None, map, take, drop, refl, sym, ap, ap₂, subst, ◌∙◌, inl, inr, arith, bit_xor}
+use Rattle.std.proofs.Common.{◌≡◌, ℕ, zero, suc, ◌+◌, ◌-◌, ◌*◌, ◌/◌, ◌%◌, ◌<◌, ◌≤◌, Bool, true, false, ◌&&◌, cond, eqb, List, [], ◌∷◌, Some, map, take, drop, refl, sym, ap, ap₂, ◌∙◌, arith, bit_xor}
 use Rattle.std.specs.List.{fold, range_with_len, AllByRecursion, slice_index, slice_range}
 use Rattle.std.specs.Int.{bit_at}
 use Rattle.std.proofs.lemmas.Bool.{eqb-true, eq-eqb, and_parts}
@@ -7,9 +7,9 @@ use Rattle.ddr_timing.specs.declared.geometry.Digit.{Digit}
 use Rattle.ddr_timing.specs.declared.geometry.Digit.TheVariants.{Channel, Group, Bank, Column, Row}
 use Rattle.ddr_timing.specs.declared.geometry.Geometry.{Geometry}
 use Rattle.ddr_address_map.specs.declared.place.Place.{Place}
-use Rattle.ddr_address_map.specs.Map.{size_of, capacity_of, digit_of, number_of, digit_in, place_with, with_bank_xor, in_range, place_of, address_of}
+use Rattle.ddr_address_map.specs.Map.{size_of, digit_of, number_of, digit_in, place_with, with_bank_xor, in_range, place_of, address_of}
 use Rattle.ddr_address_map.specs.Requests.{Request}
-use Rattle.ddr_address_map.proofs.MapLemmas.{IsInRange, IsInRange-test, digits_at, address_of-inside, place-in_range, address_of-place}
+use Rattle.ddr_address_map.proofs.MapLemmas.{IsInRange-test, digits_at, address_of-inside, place-in_range, address_of-place}
 use Rattle.ddr_address_map.proofs.Radix.{number_of-same}
 use Rattle.ddr_channel.specs.Memory.{LineAddress, line_of, is_same_line, is_write_kind, writes_byte, byte_over, line_after}
 use Rattle.ddr_reorder.specs.State.{IsWithinLine}

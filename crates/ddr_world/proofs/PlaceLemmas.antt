@@ -1,5 +1,5 @@
 -- A place that an address has lies in the geometry.
-use Rattle.std.proofs.Common.{◌≡◌, ℕ, ◌<◌, ◌≤◌, true, Option, Some, None, sym, ap, ◌∙◌, inl, inr}
+use Rattle.std.proofs.Common.{◌≡◌, ℕ, ◌<◌, true, Some, ap, ◌∙◌, inl, inr}
 use Rattle.circular_buffer.proofs.Places.{below_or_not}
 use Rattle.ddr_timing.specs.declared.geometry.Geometry.{Geometry}
 use Rattle.ddr_address_map.specs.declared.place.Place.{Place}

@@ -1,16 +1,16 @@
 -- What users of the calls have of the promise, for every record that a core stands for.
-use Rattle.std.proofs.Common.{◌≡◌, ℕ, zero, suc, ◌+◌, ◌<◌, List, [], ◌∷◌, Option, Some, None, IfSome, map, length, refl, sym, ap, ap₂, subst, ◌∙◌, arith}
+use Rattle.std.proofs.Common.{◌≡◌, ℕ, suc, ◌+◌, List, [], ◌∷◌, Option, Some, None, IfSome, map, length, refl, sym, ap, ap₂, subst, ◌∙◌, arith}
 use Rattle.std.specs.List.{slice_get, range_with_len}
 use Rattle.std.specs.Option.{option_map, option_and_then}
 use Rattle.ddr_channel.proofs.ListLemmas.{All-at}
 use Rattle.ddr_reorder.specs.declared.reply.Reply.{Reply}
 use Rattle.ddr_reorder.specs.Replies.{Answer, said, nth_answer}
 use Rattle.ddr_world.specs.declared.world.Closed.{Closed}
-use Rattle.ddr_world.specs.Close.{IsWhole, GaveAll, counts_of}
-use Rattle.ddr_world.specs.History.{Opening, Answered, History, front_of, run}
+use Rattle.ddr_world.specs.Close.{GaveAll}
+use Rattle.ddr_world.specs.History.{front_of, run}
 use Rattle.ddr_world.specs.Kept.{Kept, state_of}
 use Rattle.ddr_world.specs.Promise.{replies_of_port}
-use Rattle.ddr_world.specs.Record.{IsNext, StandsFor}
+use Rattle.ddr_world.specs.Record.{IsNext}
 use Rattle.ddr_world.specs.State.{PortSide, State, IsPortDrained, IsDrained}
 use Rattle.ddr_world.proofs.CorePromise.{core_keeps_promise}
 

@@ -3,7 +3,7 @@
 use Rattle.std.specs.Prelude.{◌≡◌, ◌≢◌, ℕ, ◌+◌, ◌/◌, ◌%◌, Bool, true, ◌&&◌, ◌==◌, List, [], length, take, map, fold, if◌then◌else◌, slice_get, slice_index, Option, Some, Err, IfSome, IsErr}
 use Rattle.std.specs.List.{range_with_len}
 use Rattle.std.specs.Int.{bit_at}
-use Rattle.std.specs.Option.{option_map, option_and_then}
+use Rattle.std.specs.Option.{option_map}
 use Rattle.ddr_timing.specs.declared.units.TheConstants.{LINE_BYTES}
 use Rattle.ddr_trace.specs.Legality.{IsLegal}
 use Rattle.ddr_address_map.specs.declared.request.Kind.{Kind}

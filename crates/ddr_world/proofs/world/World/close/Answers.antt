@@ -1,5 +1,5 @@
 -- What is closed gave all.
-use Rattle.std.proofs.Common.{List, map, sym, ap, subst, ◌∙◌}
+use Rattle.std.proofs.Common.{map, sym, ap, subst, ◌∙◌}
 use Rattle.ddr_world.specs.Close.{GaveAll}
 use Rattle.ddr_world.specs.Kept.{Kept, state_of}
 use Rattle.ddr_world.specs.State.{PortSide, IsDrained}
