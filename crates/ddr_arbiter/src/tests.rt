@@ -413,8 +413,8 @@ fn row_that_no_candidate_wants_is_closed(rt: HostRuntime) -> Result<(), Fail> {
     Ok(())
 }
 
-// Place 0 is a read of line 5 of row 7 in bank 2 of group 1, place 1 a write of line 6 of row 9 in bank 0 of
-// group 3.
+// The older request is a read in bank 2 of group 1, the younger one a write in bank 0 of group 3; each names its
+// own DRAM row and line.
 #[test]
 fn command_of_each_choice(rt: HostRuntime) -> Result<(), Fail> {
     let alloc = rt.alloc();

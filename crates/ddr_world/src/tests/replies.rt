@@ -32,8 +32,8 @@ fn cycles(port: &mut PortCore, channel: &mut Channel, count: u32) -> Result<(), 
     Ok(())
 }
 
-/// Rows 0 and 1 of a bank, and a line of row 0 again: the younger row hit comes back in cycle 17, and the read of row 1
-/// in cycle 28.
+/// Reads of two DRAM rows of a bank, and then another line of the first of them: that younger row hit comes back in
+/// cycle 17, and the read of the second DRAM row in cycle 28.
 #[test]
 fn a_younger_reply_waits_for_the_older_one(rt: HostRuntime) -> Result<(), Fail> {
     let config = Config::read(rt.alloc(), PROFILE_S)?;
