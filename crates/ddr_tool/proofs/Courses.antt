@@ -1,5 +1,5 @@
 -- How the parts of a run follow one another.
-use Rattle.std.proofs.Common.{◌≡◌, ◌<◌, ◌≤◌, ◌-◌, ◌+◌, ℕ, zero, suc, Bool, true, false, cond, List, [], ◌++◌, Option, Some, None, Result, Ok, Err, IsTrue, is_ok, length, drop, map, get_or, IfErr, OnOk, ◌⊎◌, inl, inr, eq-eqb, refl, sym, ap, ap₂, subst, ◌∙◌, arith}
+use Rattle.std.proofs.Common.{◌≡◌, ◌<◌, ◌≤◌, ◌-◌, ◌+◌, ℕ, zero, suc, Bool, true, false, cond, List, [], ◌++◌, Option, Some, None, Result, Ok, Err, IsTrue, is_ok, length, drop, map, get_or, IfErr, OnOk, ◌⊎◌, inl, inr, refl, sym, ap, ap₂, subst, ◌∙◌, arith}
 use Rattle.std.specs.Io.KnownBytes.{Appends}
 use Rattle.std.specs.List.{slice_get}
 use Rattle.std.specs.Option.{option_map, option_and_then, option_map_or}
@@ -24,8 +24,8 @@ use Rattle.ddr_world.specs.Step.{IsRefusedFor, Made, Step, after_release, made, 
 use Rattle.ddr_tool.specs.declared.fault.Fault.{Fault}
 use Rattle.ddr_tool.specs.declared.fault.Fault.TheVariants as faults
 use Rattle.ddr_tool.specs.Replies.{refused_text, reply_text}
-use Rattle.ddr_tool.specs.Rounds.{Run, Course, ◌then◌, after, channel_served, channels_served, items_of, made_state, outstanding, port_served, ports_served, replied, round, rounds, round_closed, stopped, until_refused}
-use Rattle.ddr_tool.specs.Runs.{after_submit, all_followed, channel_text, channels_ended, drained, ended, followed, ports_ended, submitted}
+use Rattle.ddr_tool.specs.Rounds.{Run, Course, ◌then◌, after, channel_served, channels_served, items_of, outstanding, port_served, ports_served, replied, round, rounds, round_closed, stopped, until_refused}
+use Rattle.ddr_tool.specs.Runs.{after_submit, all_followed, channel_text, channels_ended, drained, followed, ports_ended, submitted}
 use Rattle.ddr_tool.specs.Script.{view}
 use Rattle.ddr_tool.specs.declared.script.Instruction as kept
 use Rattle.std.proofs.lemmas.List.{at_drop_more, at_drop_all}
@@ -65,19 +65,9 @@ after_take_answer k next c r a = after_answer k next (Take c) r a (λ cause is. 
 
 -- a channel's part of a round
 
-pub channel_served_is : (s taken cycled next : State) (c : ℕ) (o : Outcome) → taken ≡ until_refused (Take c) s → step taken (Cycle c) ≡ made cycled o → next ≡ until_refused (Deliver c) cycled → channel_served c s ≡ Some next
-channel_served_is s taken cycled next c o p q r =
-    ap (λ t. option_map (until_refused (Deliver c)) (made_state (step t (Cycle c)))) (sym p)
-    ∙ ap (λ (m : Step). option_map (until_refused (Deliver c)) (made_state m)) q ∙ ap (λ t. Some t) (sym r)
-
 named_refusal : (cause : Refusal) (r : Step) → (cause ≡ refusal.OutOfMemory → ⊥) → IsRefusedFor cause r → r ≡ Err cause
 named_refusal cause (Ok m) other is = absurd (other is)
 named_refusal cause (Err name) other is = ap (λ n. Err n) (sym is)
-
-pub channel_spent : (s taken : State) (c : ℕ) (cause : Refusal) → taken ≡ until_refused (Take c) s → (cause ≡ refusal.OutOfMemory → ⊥) → IsRefusedFor cause (step taken (Cycle c)) → channel_served c s ≡ None
-channel_spent s taken c cause p other is =
-    ap (λ t. option_map (until_refused (Deliver c)) (made_state (step t (Cycle c)))) (sym p)
-    ∙ ap (λ (m : Step). option_map (until_refused (Deliver c)) (made_state m)) (named_refusal cause (step taken (Cycle c)) other is)
 
 -- the channels before were served
 pub channel_more : (s now next : State) (c n : ℕ) → channels_served c s ≡ Some now → channel_served c now ≡ Some next → n ≡ suc c → channels_served n s ≡ Some next
@@ -259,10 +249,6 @@ write_failed f a b ca cb fault is = λ begin text printed. subst (λ (e : Fault)
 
 -- a round
 
-pub round_limited : (config : Config) (a : Simulated) (ca : Option (List ℕ)) → a.left ≡ 0 → Leads (round config) a ca a ca (Err faults.ScriptLimit)
-round_limited config a ca none = λ begin text printed.
-    (text, ap (λ (b : Bool). cond b (stopped faults.ScriptLimit (run_at a text)) (round_closed config (run_at a text) (channels_served config.geometry.channels (state_of a.world)))) (eq-eqb a.left 0 none), printed)
-
 round_made : (config : Config) (a : Simulated) (text : List ℕ) (o : Option State) → (a.left == 0) ≡ false → channels_served config.geometry.channels (state_of a.world) ≡ o → round config (run_at a text) ≡ round_closed config (run_at a text) o
 round_made config a text o some is =
     ap (λ (b : Bool). cond b (stopped faults.ScriptLimit (run_at a text)) (round_closed config (run_at a text) (channels_served config.geometry.channels (state_of a.world)))) some
@@ -272,13 +258,6 @@ pub round_stopped : (config : Config) (a b : Simulated) (ca : Option (List ℕ))
 round_stopped config a b ca faults.ClockSpent some silent is = λ begin text printed. (text, round_made config a text None some is, subst (λ k. Prints k begin ca text) (sym silent) printed)
 round_stopped config a b ca faults.OutOfMemory some silent is = λ begin text printed. (text, round_grows config (run_at a text), subst (λ k. Prints k begin ca text) (sym silent) printed)
 round_stopped config a b ca _ some silent is = absurd is
-
-pub round_led : (config : Config) (a b d : Simulated) (ca cd : Option (List ℕ)) (r : Result (Unit {0}) Fault) → (a.left == 0) ≡ false → channels_served config.geometry.channels (state_of a.world) ≡ Some (state_of b.world) → b.left ≡ a.left - 1 → b.silent ≡ a.silent
-    → Leads (λ run. Ok (ports_served config.limits.ports run)) b ca d cd r → Leads (round config) a ca d cd r
-round_led config a b d ca cd r some served left silent q = λ begin text printed.
-    subst (ComesTo begin d cd r)
-    (ap (λ (l : ℕ). Ok (ports_served config.limits.ports (record { state = state_of b.world; text = text; left = l }))) left ∙ sym (round_made config a text (Some (state_of b.world)) some served))
-    (q begin text (subst (λ k. Prints k begin ca text) (sym silent) printed))
 
 -- one turn of a loop, its stop and its end
 
@@ -376,14 +355,6 @@ followed_turn config xs i x run within is =
 
 pub followed_end : (config : Config) (xs : List kept.Instruction) (i : ℕ) (run : Run) → length xs ≤ i → all_followed config (map view (drop i xs)) run ≡ Ok run
 followed_end config xs i run out = at_drop_all (λ ys. all_followed config (map view ys) run) xs i out
-
--- the Ends at the end of a run
-pub ended_led : (config : Config) (a b : Simulated) (ca : Option (List ℕ)) (v : Unit {0}) → state_of b.world ≡ channels_ended config.limits.ports config.geometry.channels (state_of a.world) → b.left ≡ a.left → b.silent ≡ a.silent → Leads (λ run. Ok (ended config run)) a ca b ca (Ok v)
-ended_led config a b ca v state left silent = λ begin text printed. (
-  text,
-  ap₂ (λ (s : State) (l : ℕ). Ok (record { state = s; text = text; left = l })) (sym state) (sym left),
-  subst (λ k. Prints k begin ca text) (sym silent) printed,
-)
 
 -- the trace of a channel
 

@@ -270,12 +270,6 @@ whole_finished s k whole is =
 
 -- so many Ends more
 
-no_end_next : (n k : ℕ) → n ≡ k → nat_lt k n ≡ false
-no_end_next n k e = grind (arith, nat_tests, e)
-
-pub no_end_yet : (s : PortState) → IsWhole s → (side : Side) → slice_get s.requests s.ended ≡ Some side → has_end side.put ≡ false
-no_end_yet s whole side there = (whole.sides s.ended side there).ends ∙ no_end_next s.ended s.ended refl
-
 pub ends_ended : (n : ℕ) (s : PortState) → (after_ends n s).ended ≡ s.ended + n
 ends_ended zero s = omega arith
 ends_ended (suc n) s = omega (arith, ends_ended n s)
