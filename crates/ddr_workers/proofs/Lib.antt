@@ -18,3 +18,4 @@ pub mod WorkerLemmas
 pub mod CountedLemmas
 pub mod EndedLemmas
 pub mod HeadlineLemmas
+pub mod SamePort

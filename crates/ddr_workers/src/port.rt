@@ -13,7 +13,7 @@ ghost use Rattle.ddr_workers.specs.declared.requests.Item.{Item};
 ghost use Rattle.ddr_workers.specs.declared.requests.Route.{Route};
 ghost use Rattle.ddr_workers.specs.Open.{IsNewPut, new_port};
 ghost use Rattle.ddr_workers.specs.declared.requests.Item.TheVariants.{Request as Asking, End};
-ghost use Rattle.ddr_workers.specs.Port.{PortState, IsSubmitted, IsNotSubmitted, IsPolled, IsNotPolled, IsFinished, IsNotFinished, IsHeldUp, IsOfFirst, WasBusy, after_busy, after_end, after_ends, after_release, finished};
+ghost use Rattle.ddr_workers.specs.Port.{PortState, IsEndOfPort, IsSamePort, IsSubmitted, IsNotSubmitted, IsPolled, IsNotPolled, IsFinished, IsNotFinished, IsHeldUp, IsOfFirst, WasBusy, after_busy, after_end, after_ends, after_release, finished};
 ghost use Rattle.ddr_workers.specs.Requests.{has_end, IsPlaced, WasFull};
 ghost use Rattle.ddr_workers.specs.Sides.{PutSide, after_full, after_push, changed_at};
 
@@ -162,6 +162,7 @@ impl Port {
     /// Makes a request of what the host asks for, with the port's next number, and pushes it on the queue of its
     /// channel. Where that is not done, nothing is pushed and the number stays the next one.
     pub fn submit<R: Wait>(&mut self, rt: &R, request: Request<'_>) -> Result<u64, SubmitError>
+        ensures same { IsSamePort self.old self.new }
         ensures ok { IfOk result (IsSubmitted self.old self.new (asked_of request.entry)) }
         ensures err { IfErr result (IsNotSubmitted self.old self.new (asked_of request.entry)) }
     {
@@ -183,6 +184,7 @@ impl Port {
     /// Pops a completion, if there is one, and puts its line in its place. A completion that the port does not wait
     /// for is dropped, and the port is broken from then on.
     pub fn poll<R: Wait>(&mut self, rt: &R) -> Result<PollAnswer, PollError>
+        ensures same { IsSamePort self.old self.new }
         ensures ok { IfOk result (IsPolled self.old self.new) }
         ensures err { IfErr result (IsNotPolled self.old self.new) }
     {
@@ -231,6 +233,7 @@ impl Port {
 
     /// Gives up the oldest reply, where it is ready, and tells its number: 0 at first, and then one more each time.
     pub fn release(&mut self) -> Option<u64>
+        ensures same { IsSamePort self.old self.new }
         ensures number { result ≡ front_number self.old.core.reorder }
         ensures next { IfSome result (λ number. number ≡ self.old.taken) }
         ensures some { OnSome result (self.new ≡ after_release self.old) }
@@ -300,6 +303,8 @@ impl Port {
     pub fn finish<R: Wait>(mut self, rt: &R) -> Result<PortEnd, (Port, FinishError)>
         ensures ok { IfOk result (IsFinished self) }
         ensures err { IfErr result (λ back. IsNotFinished self back.0 back.1) }
+        ensures end { IfOk result (IsEndOfPort self) }
+        ensures same { IfErr result (λ back. IsSamePort self back.0) }
     {
         if self.broken {
             return Err((self, FinishError::Broken));
