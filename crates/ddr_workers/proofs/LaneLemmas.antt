@@ -38,7 +38,7 @@ slice_get-replicate zero x y k there = cc
 slice_get-replicate (suc n) x y zero there = cc
 slice_get-replicate (suc n) x y (suc k) there = slice_get-replicate n x y k there
 
-length-replicate : {X : Type 0} (n : ℕ) (x : X) → length (replicate n x) ≡ n
+pub length-replicate : {X : Type 0} (n : ℕ) (x : X) → length (replicate n x) ≡ n
 length-replicate zero x = refl
 length-replicate (suc n) x = ap suc (length-replicate n x)
 

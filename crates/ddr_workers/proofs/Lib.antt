@@ -19,3 +19,9 @@ pub mod CountedLemmas
 pub mod EndedLemmas
 pub mod HeadlineLemmas
 pub mod SamePort
+pub mod OneOpen
+pub mod GatherLemmas
+pub mod ColumnLemmas
+pub mod ClosedLemmas
+pub mod OrderLemmas
+pub mod ReadyLemmas

@@ -69,7 +69,7 @@ worker_takes config rows takes lanes =
     from_each (IsWorkerTake config.geometry config.limits.ports) 0 takes (λ k take there. subst (λ n. IsWorkerTake config.geometry config.limits.ports n take) (from_none k)
     (let new = lanes.new k take there in record { route = new.purpose; ports_are = new.count; took = new.took }))
 
-all_from : {X : Type 0} (P : X → Type 0) (xs : List X) → ((k : ℕ) (x : X) → slice_get xs k ≡ Some x → P x) → All P xs
+pub all_from : {X : Type 0} (P : X → Type 0) (xs : List X) → ((k : ℕ) (x : X) → slice_get xs k ≡ Some x → P x) → All P xs
 all_from P [] each = All-nil P
 all_from P (x ∷ xs) each = All-cons P x xs (each 0 x refl) (all_from P xs (λ k y there. each (suc k) y there))
 
@@ -103,6 +103,9 @@ opened config id rows takes done_rows done_takes ports workers routes deliveries
             held = is.held;
             noted = is.noted ∙ ap (λ xs. replicate (length xs) false) (sym is.completions_are);
           });
+      sides = λ p port there.
+          let e = port_at p port there in
+          ap (λ (s : PortState). length s.requests) e.is ∙ routes.row p e.row e.row_there;
       intake = λ c w there.
           let e = worker_at c w there in
           subst (IsNewQueue (aim c) config.limits.intake config.limits.ports) (sym e.is.requests_are) (routes.new c e.y e.y_there);

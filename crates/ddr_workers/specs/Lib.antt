@@ -11,3 +11,6 @@ pub mod Counted
 pub mod WorkerView
 pub mod Ended
 pub mod Headline
+pub mod Closing
+pub mod Gathered
+pub mod Joined

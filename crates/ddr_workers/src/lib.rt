@@ -12,9 +12,12 @@
 //! (`ddr_timing`). No call starts a thread: ports and workers are moved into threads of the caller.
 #![tactic(auto)]
 
+pub mod closing;
 pub mod completions;
+mod ends;
 mod error;
 pub mod gate;
+mod gathered;
 pub mod headline;
 mod lane;
 mod law;
@@ -28,5 +31,6 @@ mod testing;
 mod tests;
 pub mod worker;
 
+pub use closing::close;
 pub use error::OpenError;
 pub use system::open;

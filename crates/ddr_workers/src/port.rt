@@ -11,6 +11,7 @@ ghost use Rattle.ddr_ports.specs.Asked.{asked_of};
 ghost use Rattle.ddr_ports.specs.State.{opened};
 ghost use Rattle.ddr_workers.specs.declared.requests.Item.{Item};
 ghost use Rattle.ddr_workers.specs.declared.requests.Route.{Route};
+ghost use Rattle.ddr_workers.specs.Ended.{IsEnded};
 ghost use Rattle.ddr_workers.specs.Open.{IsNewPut, new_port};
 ghost use Rattle.ddr_workers.specs.declared.requests.Item.TheVariants.{Request as Asking, End};
 ghost use Rattle.ddr_workers.specs.Port.{PortState, IsEndOfPort, IsSamePort, IsSubmitted, IsNotSubmitted, IsPolled, IsNotPolled, IsFinished, IsNotFinished, IsHeldUp, IsOfFirst, WasBusy, after_busy, after_end, after_ends, after_release, finished};
@@ -18,6 +19,7 @@ ghost use Rattle.ddr_workers.specs.Requests.{has_end, IsPlaced, WasFull};
 ghost use Rattle.ddr_workers.specs.Sides.{PutSide, after_full, after_push, changed_at};
 
 use crate::completions::DoneTake;
+use crate::ends::Numbered;
 use crate::refusal::{FinishError, PollError, SubmitError};
 use crate::requests::{Full, RequestPut};
 use ddr_address_map::request::Req;
@@ -89,6 +91,47 @@ impl Model for PortEnd {
     ghost view = { ended_of };
 
     ghost invariant = { λ a. IsEnded (ended_of a) };
+}
+
+impl Numbered for PortEnd {
+    ghost use Rattle.std.specs.Prelude.{length};
+
+    ghost id_of = { λ e. e.id };
+
+    ghost number_of = { λ e. e.port };
+
+    ghost reach_of = { λ e. length e.requests };
+
+    fn id(&self) -> u64 {
+        self.id
+    }
+
+    fn number(&self) -> u32 {
+        self.port
+    }
+
+    fn reach(&self) -> usize {
+        self.requests.len()
+    }
+}
+
+impl PortEnd {
+    /// Its put sides by channel, its take side, and how many replies it gave up.
+    pub(crate) fn into_parts(self) -> (Vec<RequestPut>, DoneTake, u64)
+        ensures ended { IsEnded self }
+        ensures requests { result.0.items ≡ self.requests }
+        ensures completions { result.1 ≡ self.completions }
+        ensures taken { result.2 ≡ self.taken }
+    {
+        let PortEnd {
+            id: _,
+            port: _,
+            taken,
+            requests,
+            completions,
+        } = self;
+        (requests, completions, taken)
+    }
 }
 
 /// Pushes a request on the side of its channel. Where the queue is full the request comes back.

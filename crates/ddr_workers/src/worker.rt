@@ -13,11 +13,13 @@ ghost use Rattle.ddr_workers.specs.declared.worker.Cause.TheVariants.{OutOfMemor
 ghost use Rattle.ddr_workers.specs.Completions.{IsFrom, WasFull};
 ghost use Rattle.ddr_address_map.specs.Requests.{Completion};
 ghost use Rattle.ddr_workers.specs.declared.completions.Delivery.{Delivery};
+ghost use Rattle.ddr_workers.specs.Ended.{IsWorkerEnded};
 ghost use Rattle.ddr_workers.specs.Open.{IsNewDonePut, IsNewWorker};
 ghost use Rattle.ddr_workers.specs.Sides.{PutSide, after_full, after_push, changed_at};
 ghost use Rattle.ddr_workers.specs.Worker.{WorkerState, IsAtWork, IsEndOf, IsSameWorker, IsWorkDone, HasNothing, cause_of};
 
 use crate::completions::DonePut;
+use crate::ends::Numbered;
 use crate::error::OpenError;
 use crate::gate::{Gate, Turn};
 use crate::requests::{Item, RequestTake};
@@ -107,6 +109,47 @@ impl Model for WorkerEnd {
     ghost view = { ended_of };
 
     ghost invariant = { λ a. IsWorkerEnded (ended_of a) };
+}
+
+impl Numbered for WorkerEnd {
+    ghost use Rattle.std.specs.Prelude.{length};
+
+    ghost id_of = { λ e. e.id };
+
+    ghost number_of = { λ e. e.number };
+
+    ghost reach_of = { λ e. length e.completions };
+
+    fn id(&self) -> u64 {
+        self.id
+    }
+
+    fn number(&self) -> u32 {
+        self.number
+    }
+
+    fn reach(&self) -> usize {
+        self.completions.len()
+    }
+}
+
+impl WorkerEnd {
+    /// Its put sides by port, its take side, and its channel's trace.
+    pub(crate) fn into_parts(self) -> (Vec<DonePut>, RequestTake, Trace)
+        ensures ended { IsWorkerEnded self }
+        ensures completions { result.0.items ≡ self.completions }
+        ensures requests { result.1 ≡ self.requests }
+        ensures trace { result.2 ≡ self.trace }
+    {
+        let WorkerEnd {
+            id: _,
+            number: _,
+            requests,
+            completions,
+            trace,
+        } = self;
+        (completions, requests, trace)
+    }
 }
 
 /// Pushes a completion on the side of its port. Where the queue is full it comes back.

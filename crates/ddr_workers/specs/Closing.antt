@@ -1,0 +1,129 @@
+-- The closing of a system: which ends it takes, what each refusal means, and what it gives.
+use Rattle.std.specs.Prelude.{◌≡◌, ℕ, ◌==◌, Bool, true, false, not, ◌||◌, if◌then◌else◌, List, [], ◌∷◌, length, map, filter, flat_map, Option, Some, None, IsPermutation, slice_get, vec_capacity}
+use Rattle.std.specs.Global.{Vec}
+use Rattle.std.specs.List.{list_any, list_all, range_with_len}
+use Rattle.ddr_address_map.specs.Requests as records
+use Rattle.ddr_workers.specs.declared.closing.CloseError.{CloseError}
+use Rattle.ddr_workers.specs.declared.closing.CloseError.TheVariants.{Foreign, Missing, OutOfMemory}
+use Rattle.ddr_workers.specs.declared.closing.Ends.{Ends}
+use Rattle.ddr_workers.specs.declared.closing.Room.{Room}
+use Rattle.ddr_workers.specs.declared.closing.SystemClosed.{SystemClosed}
+use Rattle.ddr_workers.specs.Gathered.{nothing_of}
+use Rattle.ddr_workers.specs.Headline.{AreJoined, GotAll, accepted_by}
+use Rattle.ddr_workers.specs.Port.{PortState, PortEnded, IsEndOfPort}
+use Rattle.ddr_workers.specs.Sides.{put_id}
+use Rattle.ddr_workers.specs.Worker.{WorkerState, WorkerEnded, IsEndOf, requests_of}
+
+-- Of the channel's queue the worker has the take side and the port the put side of its number, and of the port's queue the
+-- other way round.
+pub record AreOpposite (e : PortEnded) (w : WorkerEnded) : Type 0 where
+  pub requests : slice_get (map (λ side. side.who) e.requests) w.number ≡ Some (put_id w.requests.who e.port)
+  pub completions : slice_get (map (λ side. side.who) w.completions) e.port ≡ Some (put_id e.completions.who w.number)
+  -- the port's queue has a put side for each channel that the port leads to
+  pub channels : e.completions.who.count ≡ length e.requests
+
+-- The ends that carry this id come from one call of `open`: any port and any worker of it are at the two ends of the same queues.
+abbrev pub AreOfOneOpen : ℕ → List PortEnded → List WorkerEnded → Type 0
+AreOfOneOpen id ports workers =
+    (k m : ℕ) (e : PortEnded) (w : WorkerEnded) → slice_get ports k ≡ Some e → slice_get workers m ≡ Some w → e.id ≡ id → w.id ≡ id → AreOpposite e w
+
+-- each end is that of the port, or of the worker, of its number
+pub record AreEndsOf (ports : List PortState) (workers : List WorkerState) (port_ends : List PortEnded) (worker_ends : List WorkerEnded) : Type 0 where
+  pub port : (k : ℕ) (e : PortEnded) → slice_get port_ends k ≡ Some e → (s : PortState) × (slice_get ports e.port ≡ Some s) × IsEndOfPort s e
+  pub worker : (k : ℕ) (w : WorkerEnded) → slice_get worker_ends k ≡ Some w → (s : WorkerState) × (slice_get workers w.number ≡ Some s) × IsEndOf s w
+
+-- refusals
+
+-- one of them has this number
+abbrev pub has_number : {X : Type 0} → (X → ℕ) → ℕ → List X → Bool
+has_number key n xs = list_any (λ x. key x == n) xs
+
+-- two of them have the same number
+abbrev pub has_twice : {X : Type 0} → (X → ℕ) → List X → Bool
+has_twice key [] = false
+has_twice key (x ∷ xs) = has_number key (key x) xs || has_twice key xs
+
+-- each number below the count is that of one of them
+abbrev pub has_each : {X : Type 0} → (X → ℕ) → ℕ → List X → Bool
+has_each key count xs = list_all (λ n. has_number key n xs) (range_with_len 0 count)
+
+abbrev pub port_of : PortEnded → ℕ
+port_of e = e.port
+
+abbrev pub channel_of : WorkerEnded → ℕ
+channel_of w = w.number
+
+-- an end carries another id, or a port or a channel stands twice
+abbrev pub is_foreign : ℕ → List PortEnded → List WorkerEnded → Bool
+is_foreign id ports workers =
+    list_any (λ e. not (e.id == id)) ports || (list_any (λ w. not (w.id == id)) workers || (has_twice port_of ports || has_twice channel_of workers))
+
+-- there is no port's end or no worker's, or a port leads to a channel that has no end, or a channel to a port that has none
+abbrev pub is_missing : List PortEnded → List WorkerEnded → Bool
+is_missing ports workers =
+    length ports == 0 || (length workers == 0 || (list_any (λ e. not (has_each channel_of (length e.requests) workers)) ports
+    || list_any (λ w. not (has_each port_of (length w.completions) ports)) workers))
+
+-- all ends come back as they were
+pub record AreBack (ports : List PortEnded) (workers : List WorkerEnded) (ends : Ends) : Type 0 where
+  pub ports_are : ends.ports.items ≡ ports
+  pub workers_are : ends.workers.items ≡ workers
+
+-- The ends are not closed, for this cause: the first that applies
+abbrev pub IsNotClosed : ℕ → List PortEnded → List WorkerEnded → CloseError → Type 0
+IsNotClosed id ports workers (Foreign ends) = (is_foreign id ports workers ≡ true) × AreBack ports workers ends
+IsNotClosed id ports workers (Missing ends) = (is_foreign id ports workers ≡ false) × (is_missing ports workers ≡ true) × AreBack ports workers ends
+IsNotClosed id ports workers (OutOfMemory ends) = (is_foreign id ports workers ≡ false) × (is_missing ports workers ≡ false) × AreBack ports workers ends
+
+-- joining
+
+-- nothing yet, with room for so many
+pub record HasRoomFor {X : Type 0} (count : ℕ) (v : Vec X) : Type 0 where
+  pub empty : v.items ≡ []
+  pub room : vec_capacity v ≡ count
+
+pub record IsRoomFor (ports workers : ℕ) (room : Room) : Type 0 where
+  pub port_sides : room.ports ≡ nothing_of ports workers
+  pub worker_sides : room.workers ≡ nothing_of workers ports
+  pub accepted : HasRoomFor ports room.accepted
+  pub taken : HasRoomFor ports room.taken
+  pub traces : HasRoomFor workers room.traces
+
+-- Ports and workers in the order of their numbers, from one call of `open`
+pub record AreReady (ports : List PortEnded) (workers : List WorkerEnded) : Type 0 where
+  pub port : (p : ℕ) (e : PortEnded) → slice_get ports p ≡ Some e → e.port ≡ p
+  pub worker : (c : ℕ) (w : WorkerEnded) → slice_get workers c ≡ Some w → w.number ≡ c
+  pub channels : (p : ℕ) (e : PortEnded) → slice_get ports p ≡ Some e → length e.requests ≡ length workers
+  pub ports_are : (c : ℕ) (w : WorkerEnded) → slice_get workers c ≡ Some w → length w.completions ≡ length ports
+  -- a port's queue has a put side for each channel
+  pub windows : (p : ℕ) (e : PortEnded) → slice_get ports p ≡ Some e → e.completions.who.count ≡ length workers
+  pub opposite : (p c : ℕ) (e : PortEnded) (w : WorkerEnded) → slice_get ports p ≡ Some e → slice_get workers c ≡ Some w → AreOpposite e w
+
+-- what is given
+
+-- the requests of a port that were accepted, channel by channel
+abbrev pub accepted_of : List WorkerEnded → ℕ → List records.Request
+accepted_of workers p = flat_map (λ w. filter (λ r. r.port == p) (requests_of w.requests.took)) workers
+
+-- What is given where every queue of ports and workers was joined, which stand in the order of their numbers
+pub record IsEmptied (ports : List PortEnded) (workers : List WorkerEnded) (closed : SystemClosed) : Type 0 where
+  -- what each side took is what the opposite sides pushed, and nothing is left
+  pub joined : AreJoined ports workers (λ p. [])
+  -- each port got the right reply to each of its requests, once
+  pub got : (p : ℕ) (e : PortEnded) → slice_get ports p ≡ Some e → GotAll (accepted_by workers) p e
+  -- as many requests of each port were accepted as replies were given up
+  pub accepted : closed.accepted.items ≡ map (λ p. length (accepted_of workers p)) (range_with_len 0 (length ports))
+  pub taken : closed.taken.items ≡ map (λ e. e.taken) ports
+  pub same : closed.accepted.items ≡ closed.taken.items
+  pub traces : closed.traces.items ≡ map (λ w. w.trace) workers
+
+-- No end is refused, and every queue was joined
+pub record IsClosed (id : ℕ) (ports : List PortEnded) (workers : List WorkerEnded) (closed : SystemClosed) : Type 0 where
+  pub own : is_foreign id ports workers ≡ false
+  pub whole : is_missing ports workers ≡ false
+  -- the ends in the order of their numbers
+  pub by_port : List PortEnded
+  pub by_channel : List WorkerEnded
+  pub ports_are : IsPermutation ports by_port
+  pub workers_are : IsPermutation workers by_channel
+  pub emptied : IsEmptied by_port by_channel closed
