@@ -86,11 +86,13 @@ module _ (ports : List PortEnded) (workers : List WorkerEnded) (ready : AreReady
     pub was_left : (p : ℕ) (e : PortEnded) → slice_get ports p ≡ Some e → (left : List Completion) × WasLeft p e left
     was_left p e e_there =
         let j = windows p e e_there in
-        let row = j.0 in
-        (j.2.left, record {
-          completions = λ c w side w_there there. j.2.told.order c side (j.1.of_each c w w_there ∙ there);
-          delivered = subst (λ n. All (λ d. source_of e.completions.who.queue.purpose d < n) (e.completions.took ++ j.2.left)) (ready.windows p e e_there) j.2.told.proper.made;
-        })
+        let row = j.0 in (
+          j.2.left,
+          record {
+            completions = λ c w side w_there there. j.2.told.order c side (j.1.of_each c w w_there ∙ there);
+            delivered = subst (λ n. All (λ d. source_of e.completions.who.queue.purpose d < n) (e.completions.took ++ j.2.left)) (ready.windows p e e_there) j.2.told.proper.made;
+          },
+        )
 
     pub chosen : (p : ℕ) (o : Option PortEnded) → slice_get ports p ≡ o → (left : List Completion) × ((e : PortEnded) → slice_get ports p ≡ Some e → WasLeft p e left)
     chosen p None none = ([], λ e there. cc)
@@ -162,7 +164,7 @@ as_many ports workers joined p e there =
     let alike = (joined.port p e there).1.asked (λ n. 1) in
     flat_same of_worker of_side workers e.requests (sym (joined.channels p e there))
     (λ c w side w_there side_there.
-        ap length (sym (requests_of-port p w.requests.took)) ∙ ap (λ l. length (requests_of l)) (joined.requests p c e w side there w_there side_there) ∙ sym (numbers_length side.put))
+    ap length (sym (requests_of-port p w.requests.took)) ∙ ap (λ l. length (requests_of l)) (joined.requests p c e w side there w_there side_there) ∙ sym (numbers_length side.put))
     ∙ sym (sum_ones (numbers_put e.requests)) ∙ alike ∙ sum_ones (range_with_len 0 e.taken) ∙ length_range 0 e.taken
 
 from_range : {E : Type 0} (f : ℕ → ℕ) (g : E → ℕ) (base : ℕ) (es : List E) → ((k : ℕ) (e : E) → slice_get es k ≡ Some e → f (base + k) ≡ g e) → map f (range_with_len base (length es)) ≡ map g es

@@ -63,7 +63,7 @@ module _ {P T E : Type 0} (puts : E → List P) (take : E → T) where
       let found = some_at (puts e) q (omega (arith, slice_get_within g.puts q old there, each 0 e refl)) in
       let next = with_one g (puts e) (take e) in
       let rest = column next es q (old ++ found.0 ∷ []) (longer_at g.puts (puts e) q old found.0 there found.1)
-          (λ p d h. each (suc p) d h ∙ sym (length-each_with g.puts (puts e))) in
+      (λ p d h. each (suc p) d h ∙ sym (length-each_with g.puts (puts e))) in
       record {
         row = rest.row;
         there = rest.there;

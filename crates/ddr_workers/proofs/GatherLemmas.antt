@@ -77,13 +77,22 @@ module _ {X : Type 0} where
       (one_less row row' spare spare' 1 (first_has spare row old all) (let e = ap (λ l. length (get_or l 0 [])) same in omega (arith, e, length-append row.items (x ∷ []), row.ok.0, row'.ok.0)) less (ap (λ l. get_or l 0 0) room))
       (room_after old new xs spare spare' less (all_behind (HasSpare spare) row old all) (ap (drop 1) same) (ap (drop 1) room))
 
-  pub room_first : (rows : List (Vec X)) (queues holders spare : ℕ) → spare ≤ holders → lists rows ≡ replicate queues [] → All (λ row. vec_capacity row ≡ holders) rows → All (HasSpare spare) rows
+  pub room_first : (rows : List (Vec X)) (queues holders spare : ℕ) → spare ≤ holders → lists rows ≡ replicate queues [] → map vec_capacity rows ≡ replicate queues holders → All (HasSpare spare) rows
   room_first [] queues holders spare less empty room = λ k d below. absurd (omega (arith, below))
   room_first (row ∷ rows) zero holders spare less empty room = cc
   room_first (row ∷ rows) (suc queues) holders spare less empty room =
       All-cons (HasSpare spare) row rows
-      (let e = ap (λ l. length (get_or l 0 [])) empty in let f = room 0 row (omega arith) in omega (arith, e, f, row.ok.0, less))
-      (room_first rows queues holders spare less (ap (drop 1) empty) (λ k d below. room (suc k) d (omega (arith, below))))
+      (let e = ap (λ l. length (get_or l 0 [])) empty in let f : vec_capacity row ≡ holders = ap (λ l. get_or l 0 0) room in omega (arith, e, f, row.ok.0, less))
+      (room_first rows queues holders spare less (ap (drop 1) empty) (ap (drop 1) room))
+
+  -- rows of one length, in which there is room for more
+  pub room_in : (rows : List (Vec X)) (count most n : ℕ) → map vec_capacity rows ≡ replicate count most → ((k : ℕ) (row : List X) → slice_get (lists rows) k ≡ Some row → length row ≡ n) → n < most → All (λ row. vec_len row < vec_capacity row) rows
+  room_in [] count most n room each below = λ k d there. absurd (omega (arith, there))
+  room_in (row ∷ rows) zero most n room each below = cc
+  room_in (row ∷ rows) (suc count) most n room each below =
+      All-cons (λ row. vec_len row < vec_capacity row) row rows
+      (let e : vec_capacity row ≡ most = ap (λ l. get_or l 0 0) room in omega (arith, e, row.ok.0, each 0 row.items refl, below))
+      (room_in rows count most n (ap (drop 1) room) (λ k r there. each (suc k) r there) below)
 
 -- queues that are joined one after another
 
@@ -115,23 +124,27 @@ module _ {X Y : Type 0} (P : List X → Y → Type 0) (rows : List (List X)) (ys
       subst (λ (z : List X × Y). P z.0 z.1)
       (λ i. (same_some (slice_get rows n) row row' there (ap (slice_get rows) (sym same) ∙ at) i, same_some (slice_get ys n) y y' there' (ap (slice_get ys) (sym same) ∙ at') i)) is
 
-  -- the queue at the place is the one that is taken off, and once it is joined, one more is
-  module _ (n : ℕ) (left_rows : List (Vec X)) (left_ys : List Y) (row : Vec X) (y : Y) (rows_are : lists left_rows ≡ drop n rows) (ys_are : left_ys ≡ drop n ys)
-      (some_row : 0 < length left_rows) (some : 0 < length left_ys) (row_is : row ≡ get_or left_rows 0 row) (y_is : y ≡ get_or left_ys 0 y) where
+  -- the queue at a place was taken off, and once it is joined, one more is
+  pub record IsTakenOff (n : ℕ) (left_rows : List (Vec X)) (left_ys : List Y) (row : Vec X) (y : Y) : Type 0 where
     pub row_there : slice_get rows n ≡ Some row.items
-    row_there = row_off left_rows rows n row rows_are some_row row_is
-
     pub y_there : slice_get ys n ≡ Some y
-    y_there = first_off left_ys ys n y ys_are some y_is
-
     pub rows_left : lists (remove left_rows 0) ≡ drop (n + 1) rows
-    rows_left = rows_off left_rows rows n rows_are some_row
-
     pub ys_left : remove left_ys 0 ≡ drop (n + 1) ys
-    ys_left = rest_off left_ys ys n ys_are some
+    pub joined : BelowEach P n rows ys → P row.items y → BelowEach P (n + 1) rows ys
 
-    pub joined_more : BelowEach P n rows ys → P row.items y → BelowEach P (n + 1) rows ys
-    joined_more before is q row' y' = one_more n row.items y before row_there y_there is q row' y' (ltb q n) refl
+  pub taken_off : (n : ℕ) (left_rows : List (Vec X)) (left_ys : List Y) (row : Vec X) (y : Y) → lists left_rows ≡ drop n rows → left_ys ≡ drop n ys → length left_rows ≡ length left_ys → 0 < length left_ys
+      → row ≡ get_or left_rows 0 row → y ≡ get_or left_ys 0 y → IsTakenOff n left_rows left_ys row y
+  taken_off n left_rows left_ys row y rows_are ys_are beside some row_is y_is =
+      let some_row : 0 < length left_rows = omega (arith, beside, some) in
+      let row_there = row_off left_rows rows n row rows_are some_row row_is in
+      let y_there = first_off left_ys ys n y ys_are some y_is in
+      record {
+        row_there = row_there;
+        y_there = y_there;
+        rows_left = rows_off left_rows rows n rows_are some_row;
+        ys_left = rest_off left_ys ys n ys_are some;
+        joined = λ before is q row' y'. one_more n row.items y before row_there y_there is q row' y' (ltb q n) refl;
+      }
 
   pub all_joined : (n : ℕ) → length ys ≤ n → BelowEach P n rows ys → OfEach P rows ys
   all_joined n all before q row y at at' = before q row y (omega (arith, slice_get_within ys q y at', all)) at at'

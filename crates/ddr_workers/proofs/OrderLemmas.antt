@@ -138,6 +138,7 @@ module _ {X : Type 0} (key : X → ℕ) where
             let whole = these.within (suc k) y there in
             (behind base x y xs k here (these.few base) whole.0 there, omega (arith, whole.1));
       }
+
   in_front : (base count : ℕ) (x : X) (xs : List X) → key x ≡ base → AreInPlace (base + 1) count xs → (k : ℕ) (y : X) → slice_get (x ∷ xs) k ≡ Some y → key y ≡ base + k
   in_front base count x xs first rest zero y there = let same : x ≡ y = cc in ap key (sym same) ∙ first ∙ omega arith
   in_front base count x xs first rest (suc k) y there = omega (arith, rest.place k y there)

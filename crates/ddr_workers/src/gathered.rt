@@ -1,10 +1,11 @@
 //! The sides of several queues, gathered from those who held one side of each.
 //!
-//! Above stands `closing`.
-ghost use Rattle.std.specs.Prelude.{◌≡◌, ℕ, ◌+◌, ◌<◌, [], ◌∷◌, ◌++◌, All, IfOk, length, map, replicate, vec_capacity, vec_len};
+//! Below stands `rows`, and above stands `closing`.
+ghost use Rattle.std.specs.Prelude.{◌≡◌, ◌<◌, IfOk, length};
 ghost use Rattle.ddr_workers.specs.Gathered.{nothing_of, with_one};
-ghost use Rattle.ddr_workers.specs.Lanes.{each_with, lists};
+ghost use Rattle.ddr_workers.specs.Lanes.{lists};
 
+use crate::rows::{add_to_each, rows_with_room};
 use std::alloc::{AllocError, Global};
 use std::marker::Model;
 
@@ -26,36 +27,6 @@ impl<P, T> Model for Gathered<P, T> {
     ghost view = { gathering };
 
     ghost invariant = { HasRoom };
-}
-
-/// Empty rows with room for so many.
-fn rows_with_room<T: Drop>(
-    alloc: Global,
-    count: usize,
-    room: usize,
-) -> Result<Vec<Vec<T>>, AllocError>
-    ensures empty { IfOk result (λ rows. lists rows.items ≡ replicate count []) }
-    ensures room { IfOk result (λ rows. All (λ row. vec_capacity row ≡ room) rows.items) }
-{
-    let mut rows = Vec::with_capacity(alloc, count)?;
-    for _ in 0..count {
-        rows.push_reserved(Vec::with_capacity(alloc, room)?);
-    }
-    Ok(rows)
-}
-
-/// Adds to each row the item of its place. There is room for it.
-fn add_to_each<T: Drop>(rows: &mut Vec<Vec<T>>, mut items: Vec<T>)
-    requires each { length items.items ≡ length rows.old.items }
-    requires room { All (λ row. vec_len row < vec_capacity row) rows.old.items }
-    ensures added { lists rows.new.items ≡ each_with (lists rows.old.items) items.items }
-    ensures room { map vec_capacity rows.new.items ≡ map vec_capacity rows.old.items }
-{
-    for place in 0..rows.len() {
-        let item = items.remove(0);
-        let row = &mut rows[place];
-        row.push_reserved(item);
-    }
 }
 
 impl<P: Drop, T: Drop> Gathered<P, T> {

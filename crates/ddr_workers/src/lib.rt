@@ -6,7 +6,9 @@
 //! with several put sides and one take side, and `law` is what the sides know of each other, which the queue's rule
 //! speaks of.
 //!
-//! `headline` is the law of what every port has got once all queues were joined.
+//! At the end `closing` joins every queue: `ends` checks what finished ports and workers leave and puts it in order, and
+//! `gathered` sorts their sides by queue. What every port has got is then told by `headline`, a law over the lists that
+//! the sides carried.
 //!
 //! Below stand one port (`ddr_ports`), one channel (`ddr_channel`), the requests (`ddr_address_map`) and the configuration
 //! (`ddr_timing`). No call starts a thread: ports and workers are moved into threads of the caller.
@@ -24,6 +26,7 @@ mod law;
 pub mod port;
 pub mod refusal;
 pub mod requests;
+mod rows;
 mod system;
 #[cfg(test)]
 mod testing;

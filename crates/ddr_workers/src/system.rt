@@ -1,45 +1,22 @@
 //! Opens the queues of a configuration, and the ports and workers at their ends.
-ghost use Rattle.std.specs.Prelude.{◌≡◌, ℕ, length, [], replicate, List, Some, All, IfOk, OnOk, slice_get};
+ghost use Rattle.std.specs.Prelude.{◌≡◌, ℕ, length, [], List, Some, All, IfOk, slice_get};
 ghost use Rattle.ddr_address_map.specs.Requests.{Completion};
 ghost use Rattle.ddr_workers.specs.declared.completions.Delivery.{Delivery};
 ghost use Rattle.ddr_workers.specs.declared.requests.Item.{Item};
 ghost use Rattle.ddr_workers.specs.declared.requests.Route.{Route};
-ghost use Rattle.ddr_workers.specs.Lanes.{AreLanes, AreEach, AreFrom, lists, each_with};
+ghost use Rattle.ddr_workers.specs.Lanes.{AreLanes, AreEach, AreFrom, lists};
 ghost use Rattle.ddr_workers.specs.Open.{IsOpened, IsNewWorker, IsPortRow, IsPortOf, IsWorkerRow, IsWorkerTake};
 
 use crate::completions::{DonePut, DoneTake};
 use crate::error::OpenError;
 use crate::port::Port;
 use crate::requests::{RequestPut, RequestTake};
+use crate::rows::{add_to_each, rows_with_room};
 use crate::worker::Worker;
 use crate::{completions, requests};
 use ddr_ports::port::PortCore;
 use ddr_timing::config::Config;
-use std::alloc::{AllocError, Global};
-
-/// Empty rows, as many as that.
-fn empty_rows<T: Drop>(alloc: Global, count: u32) -> Result<Vec<Vec<T>>, AllocError>
-    ensures { IfOk result (λ rows. lists rows.items ≡ replicate count []) }
-{
-    let mut rows = Vec::with_capacity(alloc, count as usize)?;
-    for _ in 0..count {
-        rows.push_reserved(Vec::new(alloc));
-    }
-    Ok(rows)
-}
-
-/// Adds to each row the item of its place.
-fn hand_out<T: Drop>(rows: &mut Vec<Vec<T>>, mut items: Vec<T>) -> Result<(), OpenError>
-    requires { length items.items ≡ length rows.old.items }
-    ensures { OnOk result (lists rows.new.items ≡ each_with (lists rows.old.items) items.items) }
-{
-    for place in 0..rows.len() {
-        let item = items.remove(0);
-        let row = &mut rows[place];
-        row.push(item)?;
-    }
-    Ok(())
-}
+use std::alloc::Global;
 
 /// The sides of the request queues: of each port its put sides, and of each channel its take side.
 fn request_lanes(
@@ -48,11 +25,15 @@ fn request_lanes(
 ) -> Result<(Vec<Vec<RequestPut>>, Vec<RequestTake>), OpenError>
     ensures { IfOk result (λ lanes. AreLanes (λ channel. record { geometry = config.now.geometry; channel = channel }) config.now.limits.intake config.now.limits.ports config.now.geometry.channels (lists lanes.0.items) lanes.1.items) }
 {
-    let mut rows = empty_rows(alloc, config.limits.ports)?;
+    let mut rows = rows_with_room(
+        alloc,
+        config.limits.ports as usize,
+        config.geometry.channels as usize,
+    )?;
     let mut takes = Vec::new(alloc);
     for channel in 0..config.geometry.channels {
         let (puts, take) = requests::open(alloc, config, channel)?;
-        hand_out(&mut rows, puts)?;
+        add_to_each(&mut rows, puts);
         takes.push(take)?;
     }
     Ok((rows, takes))
@@ -65,11 +46,15 @@ fn completion_lanes(
 ) -> Result<(Vec<Vec<DonePut>>, Vec<DoneTake>), OpenError>
     ensures { IfOk result (λ lanes. AreLanes (λ port. record { geometry = config.now.geometry; port = port }) config.now.limits.window config.now.geometry.channels config.now.limits.ports (lists lanes.0.items) lanes.1.items) }
 {
-    let mut rows = empty_rows(alloc, config.geometry.channels)?;
+    let mut rows = rows_with_room(
+        alloc,
+        config.geometry.channels as usize,
+        config.limits.ports as usize,
+    )?;
     let mut takes = Vec::new(alloc);
     for port in 0..config.limits.ports {
         let (puts, take) = completions::open(alloc, config, port)?;
-        hand_out(&mut rows, puts)?;
+        add_to_each(&mut rows, puts);
         takes.push(take)?;
     }
     Ok((rows, takes))

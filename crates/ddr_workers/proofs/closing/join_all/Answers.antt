@@ -12,9 +12,9 @@ join_requests-requires-clause-count g c =
     let ports = c.args.ports.items in
     let workers = c.args.workers.items in
     let p = parts_of puts_of window_of c.args.room.ports c.gather_ports-port_sides.result.0 ports (length ports) (length workers) (lists c.into_sides-request_puts.result.0.items) c.into_sides-request_puts.result.1.items
-        c.into_sides-request_puts.ensures.puts c.into_sides-request_puts.ensures.takes c.gather_ports-port_sides.ensures.sides c.requires.room.port_sides in
+    c.into_sides-request_puts.ensures.puts c.into_sides-request_puts.ensures.takes c.gather_ports-port_sides.ensures.sides c.requires.room.port_sides in
     let w = parts_of dones_of intake_of c.args.room.workers c.gather_workers-worker_sides.result.0 workers (length workers) (length ports) (lists c.into_sides-completion_puts.result.0.items) c.into_sides-completion_puts.result.1.items
-        c.into_sides-completion_puts.ensures.puts c.into_sides-completion_puts.ensures.takes c.gather_workers-worker_sides.ensures.sides c.requires.room.worker_sides in
+    c.into_sides-completion_puts.ensures.puts c.into_sides-completion_puts.ensures.takes c.gather_workers-worker_sides.ensures.sides c.requires.room.worker_sides in
     sym (length-map c.into_sides-request_puts.result.0.items (λ row. row.items)) ∙ as_many_queues puts_of window_of intake_of ports workers (lists c.into_sides-request_puts.result.0.items) c.into_sides-completion_puts.result.1.items p.0 w.1 c.requires.ready.channels
 
 pub join_requests-requires-clause-sides : goal.join_requests-requires-clause-sides
@@ -22,9 +22,9 @@ join_requests-requires-clause-sides g c =
     let ports = c.args.ports.items in
     let workers = c.args.workers.items in
     let p = parts_of puts_of window_of c.args.room.ports c.gather_ports-port_sides.result.0 ports (length ports) (length workers) (lists c.into_sides-request_puts.result.0.items) c.into_sides-request_puts.result.1.items
-        c.into_sides-request_puts.ensures.puts c.into_sides-request_puts.ensures.takes c.gather_ports-port_sides.ensures.sides c.requires.room.port_sides in
+    c.into_sides-request_puts.ensures.puts c.into_sides-request_puts.ensures.takes c.gather_ports-port_sides.ensures.sides c.requires.room.port_sides in
     let w = parts_of dones_of intake_of c.args.room.workers c.gather_workers-worker_sides.result.0 workers (length workers) (length ports) (lists c.into_sides-completion_puts.result.0.items) c.into_sides-completion_puts.result.1.items
-        c.into_sides-completion_puts.ensures.puts c.into_sides-completion_puts.ensures.takes c.gather_workers-worker_sides.ensures.sides c.requires.room.worker_sides in
+    c.into_sides-completion_puts.ensures.puts c.into_sides-completion_puts.ensures.takes c.gather_workers-worker_sides.ensures.sides c.requires.room.worker_sides in
     of_queues puts_of window_of intake_of ports workers (lists c.into_sides-request_puts.result.0.items) c.into_sides-completion_puts.result.1.items p.0 w.1 c.requires.ready.channels AreSides
     (λ q d row there is. intake_sides ports workers c.requires.ready c.gather_ports-port_sides.ensures.ended c.gather_workers-worker_sides.ensures.ended q d row there is)
 
@@ -33,9 +33,9 @@ join_completions-requires-clause-count g c =
     let ports = c.args.ports.items in
     let workers = c.args.workers.items in
     let p = parts_of puts_of window_of c.args.room.ports c.gather_ports-port_sides.result.0 ports (length ports) (length workers) (lists c.into_sides-request_puts.result.0.items) c.into_sides-request_puts.result.1.items
-        c.into_sides-request_puts.ensures.puts c.into_sides-request_puts.ensures.takes c.gather_ports-port_sides.ensures.sides c.requires.room.port_sides in
+    c.into_sides-request_puts.ensures.puts c.into_sides-request_puts.ensures.takes c.gather_ports-port_sides.ensures.sides c.requires.room.port_sides in
     let w = parts_of dones_of intake_of c.args.room.workers c.gather_workers-worker_sides.result.0 workers (length workers) (length ports) (lists c.into_sides-completion_puts.result.0.items) c.into_sides-completion_puts.result.1.items
-        c.into_sides-completion_puts.ensures.puts c.into_sides-completion_puts.ensures.takes c.gather_workers-worker_sides.ensures.sides c.requires.room.worker_sides in
+    c.into_sides-completion_puts.ensures.puts c.into_sides-completion_puts.ensures.takes c.gather_workers-worker_sides.ensures.sides c.requires.room.worker_sides in
     sym (length-map c.into_sides-completion_puts.result.0.items (λ row. row.items)) ∙ as_many_queues dones_of intake_of window_of workers ports (lists c.into_sides-completion_puts.result.0.items) c.into_sides-request_puts.result.1.items w.0 p.1 c.requires.ready.ports_are
 
 pub join_completions-requires-clause-sides : goal.join_completions-requires-clause-sides
@@ -43,9 +43,9 @@ join_completions-requires-clause-sides g c =
     let ports = c.args.ports.items in
     let workers = c.args.workers.items in
     let p = parts_of puts_of window_of c.args.room.ports c.gather_ports-port_sides.result.0 ports (length ports) (length workers) (lists c.into_sides-request_puts.result.0.items) c.into_sides-request_puts.result.1.items
-        c.into_sides-request_puts.ensures.puts c.into_sides-request_puts.ensures.takes c.gather_ports-port_sides.ensures.sides c.requires.room.port_sides in
+    c.into_sides-request_puts.ensures.puts c.into_sides-request_puts.ensures.takes c.gather_ports-port_sides.ensures.sides c.requires.room.port_sides in
     let w = parts_of dones_of intake_of c.args.room.workers c.gather_workers-worker_sides.result.0 workers (length workers) (length ports) (lists c.into_sides-completion_puts.result.0.items) c.into_sides-completion_puts.result.1.items
-        c.into_sides-completion_puts.ensures.puts c.into_sides-completion_puts.ensures.takes c.gather_workers-worker_sides.ensures.sides c.requires.room.worker_sides in
+    c.into_sides-completion_puts.ensures.puts c.into_sides-completion_puts.ensures.takes c.gather_workers-worker_sides.ensures.sides c.requires.room.worker_sides in
     of_queues dones_of intake_of window_of workers ports (lists c.into_sides-completion_puts.result.0.items) c.into_sides-request_puts.result.1.items w.0 p.1 c.requires.ready.ports_are AreSides
     (λ q d row there is. window_sides ports workers c.requires.ready c.gather_ports-port_sides.ensures.ended c.gather_workers-worker_sides.ensures.ended q d row there is)
 
@@ -54,9 +54,9 @@ returns g c =
     let ports = c.args.ports.items in
     let workers = c.args.workers.items in
     let p = parts_of puts_of window_of c.args.room.ports c.gather_ports-port_sides.result.0 ports (length ports) (length workers) (lists c.into_sides-request_puts.result.0.items) c.into_sides-request_puts.result.1.items
-        c.into_sides-request_puts.ensures.puts c.into_sides-request_puts.ensures.takes c.gather_ports-port_sides.ensures.sides c.requires.room.port_sides in
+    c.into_sides-request_puts.ensures.puts c.into_sides-request_puts.ensures.takes c.gather_ports-port_sides.ensures.sides c.requires.room.port_sides in
     let w = parts_of dones_of intake_of c.args.room.workers c.gather_workers-worker_sides.result.0 workers (length workers) (length ports) (lists c.into_sides-completion_puts.result.0.items) c.into_sides-completion_puts.result.1.items
-        c.into_sides-completion_puts.ensures.puts c.into_sides-completion_puts.ensures.takes c.gather_workers-worker_sides.ensures.sides c.requires.room.worker_sides in
+    c.into_sides-completion_puts.ensures.puts c.into_sides-completion_puts.ensures.takes c.gather_workers-worker_sides.ensures.sides c.requires.room.worker_sides in
     let ended = c.gather_ports-port_sides.ensures.ended in
     let worker_ended = c.gather_workers-worker_sides.ensures.ended in
     let intakes = at_queue puts_of window_of intake_of ports workers (lists c.into_sides-request_puts.result.0.items) c.into_sides-completion_puts.result.1.items p.0 w.1 c.requires.ready.channels IsIntakeJoined c.join_requests.ensures in

@@ -1,37 +1,29 @@
 use Rattle.std.proofs.Common.{rules, ◌≡◌, ◌+◌, ◌<◌, length, drop, arith, sym, ◌∙◌, subst}
 use Rattle.ddr_workers.specs.Joined.{IsWindowJoined}
 use Rattle.ddr_workers.specs.Lanes.{lists}
-use Rattle.ddr_workers.specs.Sides.{AreSides}
-use Rattle.ddr_workers.proofs.GatherLemmas.{all_joined, joined_more, row_there, rows_left, y_there, ys_left}
+use Rattle.ddr_workers.proofs.GatherLemmas.{all_joined, taken_off}
 use Rattle.ddr_workers.proofs.closing.join_completions.Goals as goal
 
 pub join-requires : goal.join-requires
 join-requires g c =
-    let before = c.loop.invariant in
-    let rows = lists c.args.puts.items in
-    let takes = c.args.takes.items in
-    let some : 0 < length c.loop.takes.items = omega (arith, before.left, c.loop-test.true) in
-    let some_row : 0 < length c.loop.puts.items = omega (arith, some, before.beside) in
-    c.requires.sides c.loop.counter c.remove.result.items c.remove-in-loop.result
-    (row_there AreSides rows takes c.loop.counter c.loop.puts.items c.loop.takes.items c.remove.result c.remove-in-loop.result before.puts before.takes some_row some c.remove.ensures.value c.remove-in-loop.ensures.value)
-    (y_there AreSides rows takes c.loop.counter c.loop.puts.items c.loop.takes.items c.remove.result c.remove-in-loop.result before.puts before.takes some_row some c.remove.ensures.value c.remove-in-loop.ensures.value)
+    let l = c.loop in
+    let some : 0 < length l.takes.items = omega (arith, l.invariant.left, c.loop-test.true) in
+    let next = taken_off IsWindowJoined (lists c.args.puts.items) c.args.takes.items l.counter l.puts.items l.takes.items c.remove.result c.remove-in-loop.result
+    l.invariant.puts l.invariant.takes l.invariant.beside some c.remove.ensures.value c.remove-in-loop.ensures.value in
+    c.requires.sides l.counter c.remove.result.items c.remove-in-loop.result next.row_there next.y_there
 
 pub loop-preserved : goal.loop-preserved
 loop-preserved g c =
-    let before = c.loop.invariant in
-    let rows = lists c.args.puts.items in
-    let takes = c.args.takes.items in
-    let some : 0 < length c.loop.takes.items = omega (arith, before.left, c.loop-test.true) in
-    let some_row : 0 < length c.loop.puts.items = omega (arith, some, before.beside) in
+    let l = c.loop in
+    let some : 0 < length l.takes.items = omega (arith, l.invariant.left, c.loop-test.true) in
+    let next = taken_off IsWindowJoined (lists c.args.puts.items) c.args.takes.items l.counter l.puts.items l.takes.items c.remove.result c.remove-in-loop.result
+    l.invariant.puts l.invariant.takes l.invariant.beside some c.remove.ensures.value c.remove-in-loop.ensures.value in
     record {
-      puts = subst (λ l. lists l ≡ drop (c.loop.counter + 1) rows) (sym c.remove.ensures.items)
-          (rows_left IsWindowJoined rows takes c.loop.counter c.loop.puts.items c.loop.takes.items c.remove.result c.remove-in-loop.result before.puts before.takes some_row some c.remove.ensures.value c.remove-in-loop.ensures.value);
-      takes = c.remove-in-loop.ensures.items
-          ∙ ys_left IsWindowJoined rows takes c.loop.counter c.loop.puts.items c.loop.takes.items c.remove.result c.remove-in-loop.result before.puts before.takes some_row some c.remove.ensures.value c.remove-in-loop.ensures.value;
+      puts = subst (λ rows. lists rows ≡ drop (l.counter + 1) (lists c.args.puts.items)) (sym c.remove.ensures.items) next.rows_left;
+      takes = c.remove-in-loop.ensures.items ∙ next.ys_left;
       left = search rules;
       beside = search rules;
-      joined = joined_more IsWindowJoined rows takes c.loop.counter c.loop.puts.items c.loop.takes.items c.remove.result c.remove-in-loop.result before.puts before.takes some_row some c.remove.ensures.value c.remove-in-loop.ensures.value
-          before.joined (record { left = c.join.result.items; told = c.join.ensures });
+      joined = next.joined l.invariant.joined (record { left = c.join.result.items; told = c.join.ensures });
     }
 
 pub returns : goal.returns

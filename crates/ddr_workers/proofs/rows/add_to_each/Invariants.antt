@@ -1,6 +1,6 @@
 use Rattle.std.proofs.Common.{◌≡◌, ◌+◌, ◌++◌, length, map, take, drop, vec_capacity}
 use Rattle.ddr_workers.specs.Lanes.{lists, each_with}
-use Rattle.ddr_workers.proofs.gathered.add_to_each.Given as goal
+use Rattle.ddr_workers.proofs.rows.add_to_each.Given as goal
 
 abbrev pub invariant-loop-place : goal.invariant-loop-place
 invariant-loop-place g l = record {

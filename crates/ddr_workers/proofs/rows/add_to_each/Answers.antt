@@ -6,7 +6,7 @@ use Rattle.ddr_channel.proofs.ListLemmas.{All-at}
 use Rattle.ddr_workers.specs.Lanes.{lists, each_with}
 use Rattle.ddr_workers.proofs.GatherLemmas.{same_room, still_left, still_there}
 use Rattle.ddr_workers.proofs.LaneLemmas.{row_handed}
-use Rattle.ddr_workers.proofs.gathered.add_to_each.Goals as goal
+use Rattle.ddr_workers.proofs.rows.add_to_each.Goals as goal
 
 pub push_reserved-requires : goal.push_reserved-requires
 push_reserved-requires g c =
