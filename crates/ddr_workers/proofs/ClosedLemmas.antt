@@ -20,9 +20,9 @@ use Rattle.ddr_workers.specs.Port.{PortEnded}
 use Rattle.ddr_workers.specs.Requests.{has_end, of_port}
 use Rattle.ddr_workers.specs.Sides.{AreSides, PutId, PutSide, TakeId, TakeSide, put_id}
 use Rattle.ddr_workers.specs.Worker.{WorkerEnded, requests_of}
+use Rattle.ddr_workers.proofs.ChangedLemmas.{some_there}
 use Rattle.ddr_workers.proofs.ColumnLemmas.{IsOfEach, same_some}
 use Rattle.ddr_workers.proofs.HeadlineLemmas.{requests_of-port}
-use Rattle.ddr_workers.proofs.LaneLemmas.{some_at}
 
 abbrev RequestSide : Type 0
 RequestSide = PutSide Route Item
@@ -54,7 +54,7 @@ module _ (ports : List PortEnded) (workers : List WorkerEnded) (ready : AreReady
   intake_sides c w row w_there is = record {
     count = is.count ∙ sym (ready.ports_are c w w_there) ∙ sym (worker_ended c w w_there).count;
     same = λ p side there.
-        let found = some_at ports p (omega (arith, slice_get_within row p side there, is.count)) in
+        let found = some_there ports p (omega (arith, slice_get_within row p side there, is.count)) in
         let e = found.0 in
         let known = (ready.opposite p c e w found.1 w_there).requests in
         who_at e.requests c side (put_id w.requests.who p)
@@ -67,7 +67,7 @@ module _ (ports : List PortEnded) (workers : List WorkerEnded) (ready : AreReady
   window_sides p e row e_there is = record {
     count = is.count ∙ sym (ready.windows p e e_there);
     same = λ c side there.
-        let found = some_at workers c (omega (arith, slice_get_within row c side there, is.count)) in
+        let found = some_there workers c (omega (arith, slice_get_within row c side there, is.count)) in
         let w = found.0 in
         let known = (ready.opposite p c e w e_there found.1).completions in
         who_at w.completions p side (put_id e.completions.who c)

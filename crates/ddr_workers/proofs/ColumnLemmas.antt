@@ -7,9 +7,9 @@ use Rattle.ddr_channel.proofs.ListLemmas.{at_map}
 use Rattle.ddr_workers.specs.Gathered.{Gathering, nothing_of, with_all, with_one}
 use Rattle.ddr_workers.specs.Joined.{OfEach}
 use Rattle.ddr_workers.specs.Lanes.{each_with}
-use Rattle.ddr_workers.proofs.ChangedLemmas.{there_still}
+use Rattle.ddr_workers.proofs.ChangedLemmas.{some_there, there_still}
 use Rattle.ddr_workers.proofs.GatherLemmas.{gathered_queues, gathered_takes}
-use Rattle.ddr_workers.proofs.LaneLemmas.{length-each_with, length-replicate, some_at}
+use Rattle.ddr_workers.proofs.LaneLemmas.{length-each_with, length-replicate}
 use Rattle.ddr_workers.proofs.SideLemmas.{slice_get-here}
 
 longer_at : {X : Type 0} (rows : List (List X)) (xs : List X) (q : ℕ) (row : List X) (x : X) → slice_get rows q ≡ Some row → slice_get xs q ≡ Some x → slice_get (each_with rows xs) q ≡ Some (row ++ x ∷ [])
@@ -60,7 +60,7 @@ module _ {P T E : Type 0} (puts : E → List P) (take : E → T) where
   column : (g : Gathering P T) (es : List E) (q : ℕ) (old : List P) → slice_get g.puts q ≡ Some old → ((p : ℕ) (e : E) → slice_get es p ≡ Some e → length (puts e) ≡ length g.puts) → HasColumn g es q old
   column g [] q old there each = record { row = old; there = there; is = record { count = omega arith; before = λ p x h. h; of_each = λ p e h. cc } }
   column g (e ∷ es) q old there each =
-      let found = some_at (puts e) q (omega (arith, slice_get_within g.puts q old there, each 0 e refl)) in
+      let found = some_there (puts e) q (omega (arith, slice_get_within g.puts q old there, each 0 e refl)) in
       let next = with_one g (puts e) (take e) in
       let rest = column next es q (old ++ found.0 ∷ []) (longer_at g.puts (puts e) q old found.0 there found.1)
       (λ p d h. each (suc p) d h ∙ sym (length-each_with g.puts (puts e))) in
@@ -104,7 +104,7 @@ module _ {P T U D E : Type 0} (puts : E → List P) (other : E → U) (take : D 
   pub at_queue : (Q : List P → T → Type 0) → OfEach Q rows ts → (c : ℕ) (d : D) → slice_get ds c ≡ Some d → (row : List P) × IsOfEach puts es c row × Q row (take d)
   at_queue Q all c d there =
       let within = slice_get_within ds c d there in
-      let found = some_at rows c (omega (arith, within, as_many_queues, ap length ts_are, length-map ds take)) in
+      let found = some_there rows c (omega (arith, within, as_many_queues, ap length ts_are, length-map ds take)) in
       (found.0, row_of c found.0 within found.1, all c found.0 (take d) found.1 (ap (λ l. slice_get l c) ts_are ∙ slice_get-map take ds c ∙ ap (option_map take) there))
 
 -- what was gathered, by its two parts

@@ -180,8 +180,3 @@ all_complete P n [] (y ∷ ys) zs all_rows all_ys none none' before = absurd (om
 
 pub first_row : {X : Type 0} (P : ℕ → List X → Type 0) (n : ℕ) (rows : List (Vec X)) (row : Vec X) → rows ≡ row ∷ remove rows 0 → AreFrom P n (lists rows) → P n row.items × AreFrom P (n + 1) (lists (remove rows 0))
 first_row P n rows row is each = subst (λ rs. AreFrom P n (lists rs)) is each
-
-pub some_at : {X : Type 0} (xs : List X) (k : ℕ) → k < length xs → (x : X) × (slice_get xs k ≡ Some x)
-some_at [] k within = absurd (omega (arith, within))
-some_at (x ∷ xs) zero within = (x, refl)
-some_at (x ∷ xs) (suc k) within = some_at xs k (omega (arith, within))

@@ -12,7 +12,8 @@ use Rattle.ddr_workers.specs.Open.{IsNewQueue, IsNewWorker, IsOpened, IsPortOf, 
 use Rattle.ddr_workers.specs.Port.{PortState}
 use Rattle.ddr_workers.specs.Sides.{PutSide, TakeSide, new_put}
 use Rattle.ddr_workers.specs.Worker.{WorkerState}
-use Rattle.ddr_workers.proofs.LaneLemmas.{each_at, each_length, from_each, some_at}
+use Rattle.ddr_workers.proofs.ChangedLemmas.{some_there}
+use Rattle.ddr_workers.proofs.LaneLemmas.{each_at, each_length, from_each}
 
 from_none : (k : ℕ) → k ≡ 0 + k
 from_none k = omega arith
@@ -22,14 +23,14 @@ module _ {S T : Type 0} (aim : ℕ → S) (most holders queues : ℕ) (rows : Li
   pub queue_of : (k q : ℕ) (row : List (PutSide S T)) (side : PutSide S T) → slice_get rows k ≡ Some row → slice_get row q ≡ Some side → (take : TakeSide S T) × (slice_get takes q ≡ Some take) × (side ≡ new_put take.who.queue k)
   queue_of k q row side row_there there =
       let within : q < length takes = omega (arith, slice_get_within row q side there, lanes.row k row row_there, lanes.takes_are) in
-      let found = some_at takes q within in
+      let found = some_there takes q within in
       (found.0, found.1, lanes.put k q row side found.0 row_there there found.1)
 
   -- the side of a queue
   pub side_of : (k q : ℕ) (row : List (PutSide S T)) (take : TakeSide S T) → slice_get rows k ≡ Some row → slice_get takes q ≡ Some take → slice_get row q ≡ Some (new_put take.who.queue k)
   side_of k q row take row_there there =
       let within : q < length row = omega (arith, slice_get_within takes q take there, lanes.row k row row_there, lanes.takes_are) in
-      let found = some_at row q within in
+      let found = some_there row q within in
       found.1 ∙ ap (λ s. Some s) (lanes.put k q row found.0 take row_there found.1 there)
 
 abbrev Routes : Config → List (List (PutSide Route Item)) → List (TakeSide Route Item) → Type 0

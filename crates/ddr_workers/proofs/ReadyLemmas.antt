@@ -8,7 +8,7 @@ use Rattle.std.proofs.lemmas.Option.{slice_get_within}
 use Rattle.ddr_workers.specs.Closing.{AreOfOneOpen, AreOpposite, AreReady, channel_of, has_each, has_twice, is_foreign, is_missing, port_of}
 use Rattle.ddr_workers.specs.Port.{PortEnded}
 use Rattle.ddr_workers.specs.Worker.{WorkerEnded}
-use Rattle.ddr_workers.proofs.LaneLemmas.{some_at}
+use Rattle.ddr_workers.proofs.ChangedLemmas.{some_there}
 use Rattle.ddr_workers.proofs.OrderLemmas.{AreInPlace, comes_from, in_order, none_passes, or_left, or_right}
 
 not_false : (b : Bool) → not b ≡ false → b ≡ true
@@ -80,8 +80,8 @@ module _ (id : ℕ) (ports : List PortEnded) (workers : List WorkerEnded) (own :
 
     pub are_ready : AreReady ports' workers'
     are_ready =
-        let a_port = some_at ports 0 some_port in
-        let a_worker = some_at workers 0 some_worker in
+        let a_port = some_there ports 0 some_port in
+        let a_worker = some_there workers 0 some_worker in
         let from_ports = comes_from port_of ports ports' same_ports in
         let from_workers = comes_from channel_of workers workers' same_workers in
         record {
