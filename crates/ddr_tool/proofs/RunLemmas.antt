@@ -10,7 +10,7 @@ use Rattle.ddr_tool.specs.declared.fault.Fault.TheVariants as faults
 use Rattle.ddr_tool.specs.Body.{IsOpened, parts_of}
 use Rattle.ddr_tool.specs.Fault.{is_before_output}
 use Rattle.ddr_tool.specs.Input.{IsText}
-use Rattle.ddr_tool.specs.Instructions.{AreRead, instructions_of}
+use Rattle.ddr_tool.specs.Instructions.{AreRead, form_of, instructions_of}
 use Rattle.ddr_tool.specs.Rounds.{Course, Run}
 use Rattle.ddr_tool.specs.Runs.{begun, channel_text, run_of, whole, written_by}
 use Rattle.ddr_tool.specs.Script.{Instruction}
@@ -19,7 +19,7 @@ use Rattle.ddr_tool.specs.Sims.{AsksFor, HasSimFault, IsBeginning, IsRun, NamesN
 
 -- what was read and opened says what the body says
 pub said_by : (remaining : Option (List ℕ)) (items text profile : List ℕ) (sample : Bool) (trace : Option ℕ) (config : Config) (body : List ℕ) (said : Result (List Instruction) Fault) → IfSome remaining (λ bytes. items ≡ bytes) → text ≡ items → IsText items
-    → IsOpened (parts_of sample profile text) config body → has_channel config trace ≡ true → instructions_of config.limits.ports body ≡ said → IfSome remaining (λ input. Says sample profile trace input config said)
+    → IsOpened (parts_of sample profile text) config body → has_channel config trace ≡ true → instructions_of (form_of config true) body ≡ said → IfSome remaining (λ input. Says sample profile trace input config said)
 said_by None items text profile sample trace config body said known same is_text opened there e = tt
 said_by (Some input) items text profile sample trace config body said known same is_text opened there e =
     subst (λ i. Says sample profile trace i config said) known (record {

@@ -7,12 +7,13 @@ use Rattle.ddr_trace.specs.declared.text.TraceError.TheVariants as traces
 use Rattle.ddr_tool.specs.declared.fault.Fault.{Fault}
 use Rattle.ddr_tool.specs.declared.fault.Fault.TheVariants as faults
 
--- the status that a run ends with: 3 where the device, the memory or the clock is at fault, 2 where the input is
+-- the status that a run ends with: 3 where the device, the memory, the clock or a port is at fault, 2 where the input is
 abbrev pub status_of : Fault → ℕ
 status_of faults.Read = 3
 status_of faults.Write = 3
 status_of faults.OutOfMemory = 3
 status_of faults.ClockSpent = 3
+status_of faults.PortBroken = 3
 status_of _ = 2
 
 -- a fault that comes before anything is written. That is another thing than a fault of the input: a reader that fails comes
@@ -29,6 +30,7 @@ is_before_output faults.InputNotUtf8 = true
 is_before_output faults.InputHasNoMark = true
 is_before_output (faults.MapLine line) = true
 is_before_output (faults.ScriptLine line) = true
+is_before_output (faults.RequestLine line cause) = true
 is_before_output faults.TraceHeader = true
 is_before_output (faults.TraceRow line) = true
 is_before_output (faults.TraceOrder line) = true

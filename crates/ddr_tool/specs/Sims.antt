@@ -6,7 +6,7 @@ use Rattle.ddr_tool.specs.declared.fault.Fault.{Fault}
 use Rattle.ddr_tool.specs.declared.fault.Fault.TheVariants as faults
 use Rattle.ddr_tool.specs.Body.{HasInputFault, IsOpened, parts_of}
 use Rattle.ddr_tool.specs.Input.{IsText}
-use Rattle.ddr_tool.specs.Instructions.{instructions_of}
+use Rattle.ddr_tool.specs.Instructions.{form_of, instructions_of}
 use Rattle.ddr_tool.specs.Rounds.{Run, Course, Stopped}
 use Rattle.ddr_tool.specs.Runs.{run_of, written_by}
 use Rattle.ddr_tool.specs.Script.{Instruction}
@@ -24,7 +24,7 @@ pub record Says (sample : Bool) (profile : List ℕ) (trace : Option ℕ) (input
   pub body : List ℕ
   pub opened : IsOpened (parts_of sample profile input) config body
   pub there : has_channel config trace ≡ true
-  pub script : instructions_of config.limits.ports body ≡ said
+  pub script : instructions_of (form_of config true) body ≡ said
 
 -- the input asks for a run that goes so
 pub record AsksFor (sample : Bool) (profile : List ℕ) (trace : Option ℕ) (input : List ℕ) (course : Course) : Type 0 where

@@ -53,7 +53,7 @@ pub fn check<R: Read, W: Write>(
 }
 
 /// The first fault of the trace.
-fn verdict(
+pub(crate) fn verdict(
     alloc: Global,
     config: &Config,
     trace: &Trace,
@@ -71,7 +71,10 @@ fn verdict(
 
 /// The line of a verdict, with its line feed.
 #[tactic(auto, unfolding(crate::specs::Check::verdict_text))]
-fn verdict_text(alloc: Global, fault: Option<checker::Fault>) -> Result<String, AllocError>
+pub(crate) fn verdict_text(
+    alloc: Global,
+    fault: Option<checker::Fault>,
+) -> Result<String, AllocError>
     ensures { IfOk result (λ text. string_bytes text ≡ verdict_text fault) }
 {
     let Some(fault) = fault else {

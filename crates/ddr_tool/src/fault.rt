@@ -38,6 +38,9 @@ pub enum Fault {
     /// skipped ones too.
     #[error("script line {line}")]
     ScriptLine { line: u64 },
+    /// No port takes the request of a line of the script. Lines count from 1, skipped ones too.
+    #[error("request line {line} {cause}")]
+    RequestLine { line: u64, cause: RequestError },
     /// A line of addresses is none. Lines count from 1, behind the line `---`, skipped ones too.
     #[error("map line {line}")]
     MapLine { line: u64 },
@@ -71,11 +74,28 @@ pub enum Fault {
     /// A channel's clock has come to its last cycle.
     #[error("clock spent")]
     ClockSpent,
+    /// A completion came that its port did not wait for.
+    #[error("port broken")]
+    PortBroken,
+}
+
+/// Why no port takes a request. The first that applies is told.
+#[derive(Clone, Copy, Debug, PartialEq, Eq, Error)]
+pub enum RequestError {
+    /// The first address is not below the memory's capacity.
+    #[error("OutOfRange")]
+    OutOfRange,
+    /// No byte is asked for.
+    #[error("EmptyLength")]
+    EmptyLength,
+    /// The bytes are not all in the line of the first.
+    #[error("CrossesLine")]
+    CrossesLine,
 }
 
 impl Fault {
-    /// The status that the program ends with: 2 where the input is at fault, 3 where the device, the memory
-    /// or the clock is.
+    /// The status that the program ends with: 2 where the input is at fault, 3 where the device, the memory,
+    /// the clock or a port is.
     pub fn status(self) -> u8
         ensures { result ≡ status_of self }
     {
@@ -91,6 +111,7 @@ impl Fault {
             | Fault::InputHasNoMark
             | Fault::MapLine { .. }
             | Fault::ScriptLine { .. }
+            | Fault::RequestLine { .. }
             | Fault::TraceHeader
             | Fault::TraceRow { .. }
             | Fault::TraceOrder { .. }
@@ -98,7 +119,11 @@ impl Fault {
             | Fault::TraceTooLong
             | Fault::TraceNoSuch
             | Fault::ScriptLimit => 2,
-            Fault::Read | Fault::Write | Fault::OutOfMemory | Fault::ClockSpent => 3,
+            Fault::Read
+            | Fault::Write
+            | Fault::OutOfMemory
+            | Fault::ClockSpent
+            | Fault::PortBroken => 3,
         }
     }
 }

@@ -25,6 +25,23 @@ Status: 0; 2 for a bad input or command line; 3 where the device, the memory or 
 To paste:
   printf 'write 0 0 0a0b0c0d\\nread 0 0 4\\n' | ./ddr sim --sample";
 
+/// Behind the help of `run`.
+pub const RUN: &str = "\
+Input: a configuration, a line `---` and a script; with --sample the script alone. A
+  script is that of `sim`, without `cycle` lines, and each of its requests is one that a
+  port takes.
+  Each port has a thread of its own, which asks for what the port's lines say, in order,
+  and each channel has one. What comes of requests of different ports to one line depends
+  on the threads.
+Output: the replies of port 0, then those of port 1, and so on: `PORT NUMBER write ADDR`,
+  or `PORT NUMBER read ADDR HEX`. Then for each channel `channel C legal`, or
+  `channel C fault PLACE RULE`.
+Status: 0; 1 where a channel's trace is not legal; 2 for a bad input or command line; 3
+  where the device, the memory or the clock fails, or a port is broken.
+
+To paste:
+  printf 'write 0 0 0a0b0c0d\\nread 0 0 4\\n' | ./ddr run --sample";
+
 /// Behind the help of `check`.
 pub const CHECK: &str = "\
 Input: a configuration, a line `---` and a trace; with --sample the trace alone.

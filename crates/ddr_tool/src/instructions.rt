@@ -1,8 +1,9 @@
 //! The instructions of a whole script.
 //!
-//! `script` stands below, which reads a line; `sim` hands the instructions to a `Simulation`.
+//! `script` stands below, which reads a line; `sim` hands the instructions to a `Simulation`, and `run` to the ports.
 ghost use Rattle.std.specs.Prelude.{◌≡◌, ◌≤◌, IfOk, length, map};
-ghost use Rattle.ddr_tool.specs.Instructions.{AreRead, IsRead, instructions_of, is_request, with_instruction, with_line};
+ghost use Rattle.ddr_tool.specs.Instructions.{AreRead, IsRead, instruction_in, instructions_of, is_request, with_instruction, with_line};
+ghost use Rattle.ddr_tool.specs.Lines.{Gives};
 ghost use Rattle.ddr_tool.specs.Script.{view};
 
 use crate::fault::Fault;
@@ -13,6 +14,15 @@ use std::marker::Model;
 
 /// The most requests of a script, this project's choice.
 pub const MOST_REQUESTS: u32 = 10_000;
+
+/// Which lines a script may have.
+#[derive(Clone, Copy, Debug, PartialEq, Eq)]
+pub struct Form {
+    /// How many ports there are to be named.
+    pub ports: u32,
+    /// Whether a line may make rounds.
+    pub rounds: bool,
+}
 
 /// What was read of a script so far.
 #[derive(Drop)]
@@ -34,13 +44,13 @@ impl Model for Reading {
     ghost invariant = { IsFew };
 }
 
-/// The instructions of a script, in order, for so many ports.
+/// The instructions of a script of this form, in order.
 ///
-/// Fails as `ScriptLine` at the first line that is none of a script, as `ScriptLimit` at the first request too many,
+/// Fails as `ScriptLine` at the first line that is none of such a script, as `ScriptLimit` at the first request too many,
 /// whichever comes first, and as `OutOfMemory`.
-pub fn instructions_of(alloc: Global, ports: u32, text: &str) -> Result<Vec<Instruction>, Fault>
+pub fn instructions_of(alloc: Global, form: Form, text: &str) -> Result<Vec<Instruction>, Fault>
     requires { length text.now ≤ LONGEST_INPUT }
-    ensures { AreRead (λ v. map view v.items) result (instructions_of ports text.now) }
+    ensures { AreRead (λ v. map view v.items) result (instructions_of form text.now) }
 {
     let mut reading = Reading {
         instructions: Vec::new(alloc),
@@ -49,7 +59,7 @@ pub fn instructions_of(alloc: Global, ports: u32, text: &str) -> Result<Vec<Inst
     let mut line = 0;
     for written in text.lines() {
         line += 1;
-        read_line(alloc, ports, line, &mut reading, written)?;
+        read_line(alloc, form, line, &mut reading, written)?;
     }
     Ok(reading.instructions)
 }
@@ -57,21 +67,33 @@ pub fn instructions_of(alloc: Global, ports: u32, text: &str) -> Result<Vec<Inst
 /// Adds the instruction of a line, unless the line is skipped.
 fn read_line(
     alloc: Global,
-    ports: u32,
+    form: Form,
     line: u64,
     reading: &mut Reading,
     written: &str,
 ) -> Result<(), Fault>
-    ensures { IsRead reading.new result (with_line ports line reading.old written.now) }
+    ensures { IsRead reading.new result (with_line form line reading.old written.now) }
 {
     if is_skipped(written) {
         return Ok(());
     }
-    match parse_instruction(alloc, ports, written) {
+    match read_instruction(alloc, form, written) {
         Ok(instruction) => push_instruction(reading, instruction),
         Err(LineError::AtFault) => Err(Fault::ScriptLine { line }),
         Err(LineError::OutOfMemory) => Err(Fault::OutOfMemory),
     }
+}
+
+/// The instruction of a line that is not skipped. Fails as `AtFault` where a script of this form has no such line.
+#[tactic(auto, unfolding(crate::specs::Instructions::instruction_in))]
+fn read_instruction(alloc: Global, form: Form, written: &str) -> Result<Instruction, LineError>
+    ensures { Gives view result (instruction_in form written.now) }
+{
+    let instruction = parse_instruction(alloc, form.ports, written)?;
+    if !form.rounds && !is_request(&instruction) {
+        return Err(LineError::AtFault);
+    }
+    Ok(instruction)
 }
 
 /// Adds an instruction, unless it is one request too many.

@@ -15,6 +15,8 @@ use std::alloc::{AllocError, Global};
 pub enum Job {
     /// Runs a script. Where `trace` names a channel, the trace of that channel is written in place of the replies.
     Sim { sample: bool, trace: Option<u32> },
+    /// Runs a script with a thread for each port and each channel.
+    Run { sample: bool },
     /// Checks a trace.
     Check { sample: bool },
     /// Says where addresses lie.
@@ -23,7 +25,7 @@ pub enum Job {
 
 /// The job that the words of a command line state, of which the first is the program's name.
 ///
-/// The subcommands are `sim`, `check` and `map`. Each has the flag `--sample`, and `sim` the option `--trace C` with
+/// The subcommands are `sim`, `run`, `check` and `map`. Each has the flag `--sample`, and `sim` the option `--trace C` with
 /// the number of a channel, a `u32`. No words, or the name alone, are read as `sim --sample`.
 ///
 /// Fails with an error of `clap`, whose `Display` is the text for the user, where the words are of another form,
@@ -57,6 +59,7 @@ fn job_with(name: &str, options: &ArgMatches<'_>) -> Job
             sample,
             trace: channel_of(options),
         },
+        "run" => Job::Run { sample },
         "check" => Job::Check { sample },
         "map" => Job::Map { sample },
         _ => unreachable!(),
@@ -91,6 +94,12 @@ fn command<'a>(alloc: Global) -> Result<Command<'a>, AllocError>
         .value_parser(value_parser!(u32))
         .help("Writes the trace of this channel in place of the replies");
     let sim = subcommand(alloc, "sim", "Runs a script of reads and writes", help::SIM)?.arg(trace)?;
+    let run = subcommand(
+        alloc,
+        "run",
+        "Runs a script with a thread for each port and each channel",
+        help::RUN,
+    )?;
     let check = subcommand(alloc, "check", "Checks a trace of commands", help::CHECK)?;
     let map = subcommand(alloc, "map", "Says where addresses lie", help::MAP)?;
     Command::new(alloc, "ddr")
@@ -100,6 +109,7 @@ fn command<'a>(alloc: Global) -> Result<Command<'a>, AllocError>
         .subcommand_required(true)
         .disable_help_subcommand(true)
         .subcommand(sim)?
+        .subcommand(run)?
         .subcommand(check)?
         .subcommand(map)
 }

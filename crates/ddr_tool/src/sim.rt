@@ -8,7 +8,7 @@ ghost use Rattle.ddr_tool.specs.Sims.{HasSimFault, IsRun, has_channel};
 use crate::body::open;
 use crate::fault::Fault;
 use crate::input::{read_input, text_of};
-use crate::instructions::instructions_of;
+use crate::instructions::{Form, instructions_of};
 use crate::simulation::Simulation;
 use crate::writing::flush;
 use ddr_timing::config::Config;
@@ -45,7 +45,11 @@ pub fn sim<R: Read, W: Write>(
     if !has_channel(&config, trace) {
         return Err(Fault::TraceNoSuch);
     }
-    let instructions = instructions_of(alloc, config.limits.ports, body)?;
+    let form = Form {
+        ports: config.limits.ports,
+        rounds: true,
+    };
+    let instructions = instructions_of(alloc, form, body)?;
     let mut simulation = Simulation::open(alloc, &config, trace.is_some())?;
     simulation.run(alloc, instructions.as_slice(), writer)?;
     match trace {

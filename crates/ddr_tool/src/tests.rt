@@ -9,6 +9,7 @@ mod map;
 mod ports;
 mod rows;
 mod texts;
+mod threaded;
 
 use crate::fault::Fault;
 use crate::sim::sim;

@@ -13,6 +13,7 @@ fn kind_of(alloc: Global, words: &[&str]) -> Option<ErrorKind> {
 fn subcommands(rt: HostRuntime) -> Result<(), Fail> {
     let alloc = rt.alloc();
     let sim = |sample: bool, trace: Option<u32>| Job::Sim { sample, trace };
+    let run = |sample: bool| Job::Run { sample };
     let check = |sample: bool| Job::Check { sample };
     let map = |sample: bool| Job::Map { sample };
     assert_eq!(rt; job_of(alloc, [].as_slice())?, sim(true, None));
@@ -36,6 +37,11 @@ fn subcommands(rt: HostRuntime) -> Result<(), Fail> {
             ["ddr", "sim", "--sample", "--trace=4294967295"].as_slice()
         )?,
         sim(true, Some(4_294_967_295))
+    );
+    assert_eq!(rt; job_of(alloc, ["ddr", "run"].as_slice())?, run(false));
+    assert_eq!(rt;
+        job_of(alloc, ["ddr", "run", "--sample"].as_slice())?,
+        run(true)
     );
     assert_eq!(rt; job_of(alloc, ["ddr", "check"].as_slice())?, check(false));
     assert_eq!(rt;
@@ -72,6 +78,10 @@ fn unknown_words(rt: HostRuntime) {
     );
     assert_eq!(rt;
         kind_of(alloc, ["ddr", "map", "--trace=0"].as_slice()),
+        unknown
+    );
+    assert_eq!(rt;
+        kind_of(alloc, ["ddr", "run", "--trace", "1"].as_slice()),
         unknown
     );
     let subcommand = Some(ErrorKind::InvalidSubcommand);

@@ -1,6 +1,6 @@
 //! The texts of the faults, and the statuses that they end the program with.
 use crate::ending::Ending;
-use crate::fault::Fault;
+use crate::fault::{Fault, RequestError};
 use crate::job::job_of;
 use ddr_timing::key::Key;
 use std::alloc::{AllocError, Global};
@@ -87,6 +87,19 @@ fn faults_of_the_input(rt: HostRuntime) -> Result<(), Fail> {
 }
 
 #[test]
+fn faults_of_requests(rt: HostRuntime) -> Result<(), Fail> {
+    for (cause, text) in [
+        (RequestError::OutOfRange, "request line 12 OutOfRange"),
+        (RequestError::EmptyLength, "request line 12 EmptyLength"),
+        (RequestError::CrossesLine, "request line 12 CrossesLine"),
+    ] {
+        let fault = Fault::RequestLine { line: 12, cause };
+        is_told(&rt, rt.alloc(), fault, text, 2)?;
+    }
+    Ok(())
+}
+
+#[test]
 fn faults_of_a_trace(rt: HostRuntime) -> Result<(), Fail> {
     let alloc = rt.alloc();
     is_told(&rt, alloc, Fault::TraceHeader, "trace Header", 2)?;
@@ -109,7 +122,8 @@ fn faults_of_the_device(rt: HostRuntime) -> Result<(), Fail> {
     is_told(&rt, alloc, Fault::Read, "read failed", 3)?;
     is_told(&rt, alloc, Fault::Write, "write failed", 3)?;
     is_told(&rt, alloc, Fault::OutOfMemory, "out of memory", 3)?;
-    is_told(&rt, alloc, Fault::ClockSpent, "clock spent", 3)
+    is_told(&rt, alloc, Fault::ClockSpent, "clock spent", 3)?;
+    is_told(&rt, alloc, Fault::PortBroken, "port broken", 3)
 }
 
 #[test]

@@ -15,7 +15,7 @@ loop-written-init c = record {
   can_next = tt;
   is_finite = tt;
   counted = refl;
-  said = ap (λ (xs : List declared.Instruction). script_from c.args.ports 0 (record { instructions = map view xs; requests = 0 }) (lines c.args.text.now)) c.new.ensures.items;
+  said = ap (λ (xs : List declared.Instruction). script_from c.args.form 0 (record { instructions = map view xs; requests = 0 }) (lines c.args.text.now)) c.new.ensures.items;
 }
 
 pub overflow_add-line : goal.overflow_add-line
@@ -31,7 +31,7 @@ loop-written-preserved c =
       can_next = tt;
       is_finite = tt;
       counted = omega (arith, kept.counted, length_push c.loop-written.yielded c.in-Some.written);
-      said = script_more c.args.ports (lines c.args.text.now) _ _ c.loop-written.reading c.read_line.new.reading c.in-Some.written.now _ kept.counted turn c.in_ok-read_line.ensures kept.said;
+      said = script_more c.args.form (lines c.args.text.now) _ _ c.loop-written.reading c.read_line.new.reading c.in-Some.written.now _ kept.counted turn c.in_ok-read_line.ensures kept.said;
     }
 
 pub returns-in_err-read_line : goal.returns-in_err-read_line
@@ -40,12 +40,12 @@ returns-in_err-read_line c =
     let turn = YieldsList-turn (YieldsList-from_lines c.args.text.now cc) c.loop-written.yielded _ c.loop-written.yielded_by _ _ c.in-Some.written c.in-Some.is c.next.ensures.steps in
     let kept = c.loop-written.invariant in
     let p = err_from_is_err_and c.from_residual.result c.from_residual.ensures.1 in
-    rw (p.1, p.2) (script_fault {X = Vec declared.Instruction Global} (λ v. map view v.items) c.args.ports (lines c.args.text.now) _ _ c.loop-written.reading c.read_line.new.reading c.in-Some.written.now _ c.in_err-read_line.field-0.0 kept.counted turn c.in_err-read_line.ensures kept.said)
+    rw (p.1, p.2) (script_fault {X = Vec declared.Instruction Global} (λ v. map view v.items) c.args.form (lines c.args.text.now) _ _ c.loop-written.reading c.read_line.new.reading c.in-Some.written.now _ c.in_err-read_line.field-0.0 kept.counted turn c.in_err-read_line.ensures kept.said)
 
 pub returns : goal.returns
 unfolding instructions_of
 returns c =
     let end = YieldsList-end (YieldsList-from_lines c.args.text.now cc) c.loop-written.yielded _ c.loop-written.yielded_by _ _ c.in-None.is c.next.ensures.steps in
     let kept = c.loop-written.invariant in
-    ap (λ r. r >>> λ (script : Script). Ok script.instructions) (script_end c.args.ports (lines c.args.text.now) _ c.loop-written.reading _ (omega (arith, end.1, kept.counted)) kept.said)
+    ap (λ r. r >>> λ (script : Script). Ok script.instructions) (script_end c.args.form (lines c.args.text.now) _ c.loop-written.reading _ (omega (arith, end.1, kept.counted)) kept.said)
     ∙ ap (λ (script : Script). Ok script.instructions) (sym c.reading-2.view_is)

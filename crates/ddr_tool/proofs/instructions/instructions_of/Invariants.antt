@@ -8,5 +8,5 @@ invariant-loop-written l = record {
   can_next : (goal.iterator-loop-written).can_next l.written-iterator;
   is_finite : (goal.iterator-loop-written).is_finite l.written-iterator;
   counted : l.line ≡ length l.yielded;
-  said : script_from l.ports l.line l.reading (drop l.line (lines l.text)) ≡ script_from l.ports 0 nothing_read (lines l.text);
+  said : script_from l.form l.line l.reading (drop l.line (lines l.text)) ≡ script_from l.form 0 nothing_read (lines l.text);
 }

@@ -25,11 +25,12 @@ returns-clause-app c =
     let no_help : App → App = λ a. record a { top = record a.top { disable_help_subcommand = true } } in
     let alone : app_of c.disable_help_subcommand.result ≡ name_alone =
     ap app_of_fields c.disable_help_subcommand.ensures ∙ ap no_help (ap app_of_fields c.subcommand_required.ensures ∙ ap required (ap app_of_fields c.after_help.ensures ∙ ap app_of_fields c.about.ensures ∙ ap app_of_fields c.in_ok-bin_name.ensures.0 ∙ c.new-2.ensures.app)) in
-    IfOk-weaker c.subcommand-6.result _ _ (λ command h.
+    IfOk-weaker c.subcommand-8.result _ _ (λ command h.
     h.shape c.in_ok-map.ensures.local
-    ∙ ap₂ with_subcommand (c.in_ok-subcommand-3.ensures.shape c.in_ok-check.ensures.local
-    ∙ ap₂ with_subcommand (c.in_ok-subcommand-2.ensures.shape sim_local ∙ ap₂ with_subcommand alone (ap (λ (a : App). a.top) sim_is)) (ap (λ (a : App). a.top) c.in_ok-check.ensures.app))
-    (ap (λ (a : App). a.top) c.in_ok-map.ensures.app)) c.subcommand-6.ensures
+    ∙ ap₂ with_subcommand (c.in_ok-subcommand-4.ensures.shape c.in_ok-check.ensures.local
+    ∙ ap₂ with_subcommand (c.in_ok-subcommand-3.ensures.shape c.in_ok-run.ensures.local
+    ∙ ap₂ with_subcommand (c.in_ok-subcommand-2.ensures.shape sim_local ∙ ap₂ with_subcommand alone (ap (λ (a : App). a.top) sim_is)) (ap (λ (a : App). a.top) c.in_ok-run.ensures.app))
+    (ap (λ (a : App). a.top) c.in_ok-check.ensures.app)) (ap (λ (a : App). a.top) c.in_ok-map.ensures.app)) c.subcommand-8.ensures
 
 pub returns-clause-local : goal.returns-clause-local
 returns-clause-local c =
@@ -38,5 +39,6 @@ returns-clause-local c =
     let sim_local = c.in_ok-sim.ensures.globals ∙ ap₂ ◌||◌ c.in_ok-subcommand.ensures.local trace_local in
     let alone : (out-Command c.disable_help_subcommand.result).has_globals ≡ false =
     ap (λ f. f.has_globals) c.disable_help_subcommand.ensures ∙ ap (λ f. f.has_globals) c.subcommand_required.ensures ∙ ap (λ f. f.has_globals) c.after_help.ensures ∙ ap (λ f. f.has_globals) c.about.ensures ∙ ap (λ f. f.has_globals) c.in_ok-bin_name.ensures.0 ∙ c.new-2.ensures.local in
-    IfOk-weaker c.subcommand-6.result _ _ (λ command h.
-    h.globals ∙ ap₂ ◌||◌ (c.in_ok-subcommand-3.ensures.globals ∙ ap₂ ◌||◌ (c.in_ok-subcommand-2.ensures.globals ∙ ap₂ ◌||◌ alone sim_local) c.in_ok-check.ensures.local) c.in_ok-map.ensures.local) c.subcommand-6.ensures
+    IfOk-weaker c.subcommand-8.result _ _ (λ command h.
+    h.globals
+    ∙ ap₂ ◌||◌ (c.in_ok-subcommand-4.ensures.globals ∙ ap₂ ◌||◌ (c.in_ok-subcommand-3.ensures.globals ∙ ap₂ ◌||◌ (c.in_ok-subcommand-2.ensures.globals ∙ ap₂ ◌||◌ alone sim_local) c.in_ok-run.ensures.local) c.in_ok-check.ensures.local) c.in_ok-map.ensures.local) c.subcommand-8.ensures

@@ -1,9 +1,9 @@
 -- The input asks for what was run, or its fault is the one that is told.
-use Rattle.std.proofs.Common.{Ok, Err, List, Vec, Global, map, ap, sym, subst, ◌∙◌}
+use Rattle.std.proofs.Common.{Ok, Err, List, Vec, Global, true, map, ap, sym, subst, ◌∙◌}
 use Rattle.std.proofs.lemmas.Result.{err_from_is_err_and}
 use Rattle.ddr_timing.specs.declared.profile.TheConstants.{PROFILE_S}
 use Rattle.ddr_tool.specs.Input.{IsText}
-use Rattle.ddr_tool.specs.Instructions.{instructions_of}
+use Rattle.ddr_tool.specs.Instructions.{form_of, instructions_of}
 use Rattle.ddr_tool.specs.declared.script.Instruction as kept
 use Rattle.ddr_tool.specs.Script.{view}
 use Rattle.ddr_tool.proofs.RunLemmas.{came_to, end_fault, flush_fault, late_untouched, names_no_channel, no_script, replies_written, run_fault, said_by, trace_written}
@@ -23,7 +23,7 @@ returns-in_err-instructions-clause-fault g c =
     let same = text.0 ∙ c.as_slice.ensures.value in
     let is_text = subst IsText c.as_slice.ensures.value text.1 in
     let p = err_from_is_err_and c.from_residual-in_err-instructions.result c.from_residual-in_err-instructions.ensures.1 in
-    rw (p.1, p.2) (no_script {X = Vec kept.Instruction Global} (λ v. map view v.items) (g.R.Read.remaining c.args.reader.now) PROFILE_S.now c.args.sample c.args.trace c.in_ok-config.config c.in_err-instructions.field-0.0 (instructions_of c.in_ok-config.config.limits.ports c.in_ok-config.body.now) (g.W.Write.contents c.args.writer.now) c.in_err-instructions.ensures
+    rw (p.1, p.2) (no_script {X = Vec kept.Instruction Global} (λ v. map view v.items) (g.R.Read.remaining c.args.reader.now) PROFILE_S.now c.args.sample c.args.trace c.in_ok-config.config c.in_err-instructions.field-0.0 (instructions_of (form_of c.in_ok-config.config true) c.in_ok-config.body.now) (g.W.Write.contents c.args.writer.now) c.in_err-instructions.ensures
     (λ other e. said_by (g.R.Read.remaining c.args.reader.now) c.in_ok-input.input.items c.in_ok-text.text.now PROFILE_S.now c.args.sample c.args.trace c.in_ok-config.config c.in_ok-config.body.now other c.in_ok-input.ensures.all same is_text c.in_ok-config.ensures.opened (sym c.if-not-has_channel.ensures) e))
 
 pub returns-in_err-run-clause-untouched : goal.returns-in_err-run-clause-untouched

@@ -1,0 +1,90 @@
+//! A run of a script in threads: bytes in, the replies of each port and a verdict on each channel's trace out.
+//!
+//! Every other module of the program but `sim`, `check` and `map` stands below, and `main` above.
+ghost use Rattle.std.specs.Prelude.{◌≡◌, IfErr, IfOk, IfSome, map, string_bytes};
+ghost use Rattle.ddr_tool.specs.Script.{view};
+ghost use Rattle.ddr_tool.specs.Started.{HasRunFault, IsRan, IsThreaded};
+
+use crate::body::open;
+use crate::fault::Fault;
+use crate::flag::Stop;
+use crate::input::{read_input, text_of};
+use crate::instructions::{Form, instructions_of};
+use crate::outcome::{replies_of, verdicts_of};
+use crate::requests::check_requests;
+use crate::script::Instruction;
+use crate::threads::run_all;
+use crate::writing::write_whole;
+use ddr_timing::config::Config;
+use ddr_timing::profile::PROFILE_S;
+use ddr_workers::closing::ends_of_one_open;
+use ddr_workers::{close, open as open_system};
+use std::alloc::Global;
+use std::io::{Read, Write};
+use std::sync::Wait;
+use std::thread::Threads;
+
+/// By which the ends of a run are told from those of others. A run has one system.
+const RUN: u64 = 0;
+
+/// Reads a script and runs it, with a thread for each port and one for each channel.
+///
+/// With `sample` the whole input is the script, on the sample configuration; else the input is a configuration, a
+/// line `---` and the script. Each port asks for what its lines say, in order, and keeps its replies. Once all threads
+/// ended these are written, those of port 0 first, and then a line for each channel: `channel C legal`, or `channel C fault
+/// PLACE RULE` for the first fault of its trace. Answers whether all traces are legal.
+///
+/// Fails as `open` does, then as `ScriptLine` at the first line of the script that is at fault, of which `cycle` is
+/// one, or as `ScriptLimit` at the first request too many, and then as `RequestLine` at the first request that no port
+/// takes. Where a thread stops before its end it fails as `OutOfMemory`, `ClockSpent` or `PortBroken`. Nothing is written
+/// before all threads ended.
+pub fn run<H: Threads + Wait + Sync, R: Read, W: Write>(
+    rt: &H,
+    alloc: Global,
+    sample: bool,
+    reader: &mut R,
+    writer: &mut W,
+) -> Result<bool, Fault>
+    ensures untouched { IfErr result (λ fault. (fault ≡ Fault.Write → ⊥) → writer.new ≡ writer.old) }
+    ensures fault { IfErr result (λ fault. IfSome (R.remaining reader.old) (λ input.
+        HasRunFault sample PROFILE_S.now input fault)) }
+    ensures written { IfOk result (λ legal. IfSome (R.remaining reader.old) (λ input.
+        IsRan sample PROFILE_S.now input legal (W.contents writer.old) (W.contents writer.new))) }
+{
+    let input = read_input(alloc, reader)?;
+    let text = text_of(input.as_slice())?;
+    let (config, body) = open(alloc, sample, text)?;
+    let form = Form {
+        ports: config.limits.ports,
+        rounds: false,
+    };
+    let instructions = instructions_of(alloc, form, body)?;
+    check_requests(alloc, &config, body)?;
+    let (text, legal) = run_threads(rt, alloc, &config, instructions.as_slice())?;
+    write_whole(writer, text.as_str())?;
+    Ok(legal)
+}
+
+/// Runs a script that was checked, and gives the text that is to be written, and whether all traces are legal.
+fn run_threads<H: Threads + Wait + Sync>(
+    rt: &H,
+    alloc: Global,
+    config: &Config,
+    instructions: &[Instruction],
+) -> Result<(String, bool), Stop>
+    ensures { IfOk result (λ ran. IsThreaded config.now (map view instructions.now) (string_bytes ran.0) ran.1) }
+{
+    let _limits = config.limits;
+    let (ports, workers) = open_system(alloc, config, RUN)?;
+    let ended = run_all(rt, alloc, instructions, ports, workers)?;
+    let replies = replies_of(alloc, ended.ports)?;
+    ends_of_one_open();
+    // The ends of all ports and channels are there, so only want of memory is left.
+    let Ok(closed) = close(rt, alloc, RUN, replies.ends, ended.workers) else {
+        return Err(Stop::OutOfMemory);
+    };
+    let (verdicts, legal) = verdicts_of(alloc, config, closed.traces.as_slice())?;
+    let mut text = replies.text;
+    text.push_str(verdicts.as_str())?;
+    Ok((text, legal))
+}

@@ -1,0 +1,107 @@
+//! Runs in threads: what they write, and their faults.
+use crate::fault::{Fault, RequestError};
+use crate::run::run;
+use std::alloc::Global;
+use std::sync::Wait;
+use std::test::Fail;
+use std::thread::Threads;
+
+/// A write and a read on each channel of the sample, each by a port of its own.
+const TWO_PORTS: &str = "write 0 0 01\nread 0 0 1\nwrite 1 131072 02\nread 1 131072 1\n";
+
+const TWO_PORTS_GIVE: &str = "\
+0 0 write 0
+0 1 read 0 01
+1 0 write 131072
+1 1 read 131072 02
+channel 0 legal
+channel 1 legal
+";
+
+/// What a run of a script writes, and how it ends.
+fn ran<R: Threads + Wait + Sync>(
+    rt: &R,
+    alloc: Global,
+    script: &str,
+) -> (Vec<u8>, Result<bool, Fault>) {
+    let mut reader = script.as_bytes();
+    let mut bytes = Vec::new(alloc);
+    let end = run(rt, alloc, true, &mut reader, &mut bytes);
+    (bytes, end)
+}
+
+/// The fault that a script ends by, and how many bytes were written.
+fn fault_of<R: Threads + Wait + Sync>(
+    rt: &R,
+    alloc: Global,
+    script: &str,
+) -> (Option<Fault>, usize) {
+    let (bytes, end) = ran(rt, alloc, script);
+    (end.err(), bytes.len())
+}
+
+#[test]
+fn each_port_has_its_replies(rt: HostRuntime) {
+    let (bytes, end) = ran(&rt, rt.alloc(), TWO_PORTS);
+    assert_eq!(rt; end, Ok(true));
+    assert_eq!(rt; bytes.as_slice(), TWO_PORTS_GIVE.as_bytes());
+}
+
+#[test]
+fn an_empty_script_has_no_replies(rt: HostRuntime) {
+    let (bytes, end) = ran(&rt, rt.alloc(), "# nothing\n\n");
+    assert_eq!(rt; end, Ok(true));
+    assert_eq!(rt;
+        bytes.as_slice(),
+        b"channel 0 legal\nchannel 1 legal\n".as_slice()
+    );
+}
+
+#[test]
+fn lines_at_fault(rt: HostRuntime) {
+    let alloc = rt.alloc();
+    let at = |line: u64| (Some(Fault::ScriptLine { line }), 0usize);
+    assert_eq!(rt; fault_of(&rt, alloc, "read 0 0 1\n\ncycle 1\n"), at(3));
+    assert_eq!(rt; fault_of(&rt, alloc, "cycle 1\nread 0 0\n"), at(1));
+    assert_eq!(rt; fault_of(&rt, alloc, "read 0 0\ncycle 1\n"), at(1));
+    assert_eq!(rt; fault_of(&rt, alloc, "read 2 0 1\n"), at(1));
+}
+
+#[test]
+fn requests_that_no_port_takes(rt: HostRuntime) {
+    let alloc = rt.alloc();
+    let at = |line: u64, cause: RequestError| (Some(Fault::RequestLine { line, cause }), 0usize);
+    let out = RequestError::OutOfRange;
+    assert_eq!(rt; fault_of(&rt, alloc, "read 0 262144 1\n"), at(1, out));
+    assert_eq!(rt;
+        fault_of(&rt, alloc, "# a\n\nread 1 262144 0\n"),
+        at(3, out)
+    );
+    let empty = RequestError::EmptyLength;
+    assert_eq!(rt;
+        fault_of(&rt, alloc, "read 0 0 1\nread 0 0 0\n"),
+        at(2, empty)
+    );
+    let crosses = RequestError::CrossesLine;
+    assert_eq!(rt; fault_of(&rt, alloc, "read 0 63 2\n"), at(1, crosses));
+    assert_eq!(rt; fault_of(&rt, alloc, "write 0 63 0102\n"), at(1, crosses));
+    // The first of two is told, and a line of no form comes before.
+    assert_eq!(rt;
+        fault_of(&rt, alloc, "read 0 63 2\nread 0 0 0\n"),
+        at(1, crosses)
+    );
+    let line = (Some(Fault::ScriptLine { line: 2 }), 0usize);
+    assert_eq!(rt; fault_of(&rt, alloc, "read 0 63 2\nread 0 0\n"), line);
+}
+
+#[test]
+fn too_many_requests(rt: HostRuntime) -> Result<(), Fail> {
+    let alloc = rt.alloc();
+    let mut script = String::new(alloc);
+    for _ in 0..10_001 {
+        script.push_str("read 0 0 0\n")?;
+    }
+    let limit = (Some(Fault::ScriptLimit), 0usize);
+    assert_eq!(rt; fault_of(&rt, alloc, script.as_str()), limit);
+    Ok(())
+}
