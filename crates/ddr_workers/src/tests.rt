@@ -1,14 +1,23 @@
 //! Ports and workers in threads of a test.
 //!
-//! Here stands what the tests share; `finishing` has how ports finish and workers stop, and `gates` that workers run
-//! at the same time.
+//! Here stands what the tests share: a gate, and systems of two ports and two workers that are run to their ends.
+//! `closing` has what `close` gives of such a system, `refusals` which ends it gives back, `finishing` how ports finish
+//! and workers stop, and `gates` that workers run at the same time.
+ghost use Rattle.std.specs.Prelude.{◌≡◌, ◌∷◌, [], IfOk, IfSome};
 ghost use Rattle.std.specs.Thread.{IsSync};
+ghost use Rattle.ddr_workers.specs.Closing.{AreOfOneOpen};
+ghost use Rattle.ddr_workers.specs.Open.{IsOpened};
+ghost use Rattle.ddr_workers.specs.Port.{IsEndOfPort, IsSamePort};
+ghost use Rattle.ddr_workers.specs.Worker.{IsEndOf};
 
+use crate::closing::{SystemClosed, ends_of_one_open};
 use crate::gate::{Gate, Turn};
-use crate::open;
 use crate::port::{PollAnswer, Port, PortEnd};
 use crate::testing::{TRIES, config_with};
 use crate::worker::{Stopped, Worker, WorkerEnd};
+use crate::{close, open};
+use ddr_address_map::request::{Echo, Kind};
+use ddr_reorder::reply::Reply;
 use ddr_timing::config::Config;
 use std::alloc::Global;
 use std::sync::Wait;
@@ -17,18 +26,25 @@ use std::test::Fail;
 use std::thread;
 use std::thread::Threads;
 
+mod closing;
 mod finishing;
 mod gates;
+mod refusals;
 
-/// How many turns all workers of a test may make.
-const TURNS: u64 = 40_000_000;
+/// How many turns each worker of a test may make.
+const TURNS: u64 = 10_000_000;
 
-/// Holds one channel up until it is opened, and stops the workers once they have made too many turns.
+/// The first address of channel 1: profile S has the channel as its highest digit.
+const HALF: u64 = 131_072;
+
+/// Holds one channel up until it is opened, and stops a worker once it has made too many turns.
 #[derive(Drop)]
 struct Barred {
     channel: u32,
     opened: AtomicU64,
+    // The turns of the worker of channel 0, and those of the other.
     turns: AtomicU64,
+    other_turns: AtomicU64,
 }
 
 impl Barred {
@@ -37,11 +53,26 @@ impl Barred {
             channel,
             opened: AtomicU64::new(0),
             turns: AtomicU64::new(0),
+            other_turns: AtomicU64::new(0),
         }
+    }
+
+    /// A gate that holds no channel of the tests up.
+    fn nowhere() -> Barred {
+        Barred::new(2)
     }
 
     fn open(&self) {
         self.opened.store(1, Ordering::SeqCst);
+    }
+
+    /// How many turns the worker of a channel made before this one.
+    fn count(&self, channel: u32) -> u64 {
+        if channel == 0 {
+            self.turns.fetch_add(1, Ordering::SeqCst)
+        } else {
+            self.other_turns.fetch_add(1, Ordering::SeqCst)
+        }
     }
 }
 
@@ -58,7 +89,7 @@ impl Gate for Barred {
             }
         }
         thread::yield_now();
-        if self.turns.fetch_add(1, Ordering::SeqCst) < TURNS {
+        if self.count(channel) < TURNS {
             Turn::Go
         } else {
             Turn::Stop
@@ -69,22 +100,38 @@ impl Gate for Barred {
 /// Two ports and two workers.
 type Parts = (Port, Port, Worker, Worker);
 
-/// Opens the ports and the workers of a configuration with two ports and two channels.
-fn open_two(alloc: Global, config: &Config) -> Result<Parts, Fail> {
-    let (mut ports, mut workers) = open(alloc, config, 7)?;
-    if ports.len() != 2 || workers.len() != 2 {
-        return Err("two ports and two channels".into());
+/// The two items of a list that has two.
+fn two_of<T: Drop>(mut items: Vec<T>) -> Option<(T, T)>
+    ensures { IfSome result (λ both. items.items ≡ both.0 ∷ both.1 ∷ []) }
+{
+    let second = items.pop()?;
+    let first = items.pop()?;
+    if items.is_empty() {
+        Some((first, second))
+    } else {
+        None
     }
-    let second_worker = workers.pop().ok_or("a second worker")?;
-    let first_worker = workers.pop().ok_or("a first worker")?;
-    let second_port = ports.pop().ok_or("a second port")?;
-    let first_port = ports.pop().ok_or("a first port")?;
+}
+
+/// Opens the ports and the workers of a configuration with two ports and two channels.
+fn open_two(alloc: Global, config: &Config, id: u64) -> Result<Parts, Fail>
+    ensures { IfOk result (λ parts. IsOpened config.now id (parts.0 ∷ parts.1 ∷ []) (parts.2 ∷ parts.3 ∷ [])) }
+{
+    let (ports, workers) = open(alloc, config, id)?;
+    let Some((first_port, second_port)) = two_of(ports) else {
+        return Err("two ports".into());
+    };
+    let Some((first_worker, second_worker)) = two_of(workers) else {
+        return Err("two channels".into());
+    };
     Ok((first_port, second_port, first_worker, second_worker))
 }
 
-/// Polls until a number is filled, in as many tries as there may be.
-fn poll_in_time<R: Wait>(rt: &R, port: &mut Port) -> Option<u64> {
-    for _ in 0..TRIES {
+/// Polls until a number is filled, in so many tries.
+fn poll_in_time<R: Wait>(rt: &R, port: &mut Port, tries: u32) -> Option<u64>
+    ensures { IsSamePort port.old port.new }
+{
+    for _ in 0..tries {
         match port.poll(rt) {
             Ok(PollAnswer::Filled { number }) => return Some(number),
             Ok(PollAnswer::Empty) => thread::yield_now(),
@@ -95,7 +142,9 @@ fn poll_in_time<R: Wait>(rt: &R, port: &mut Port) -> Option<u64> {
 }
 
 /// Finishes a port, in as many tries as there may be.
-fn finish_in_time<R: Wait>(rt: &R, mut port: Port) -> Option<PortEnd> {
+fn finish_in_time<R: Wait>(rt: &R, mut port: Port) -> Option<PortEnd>
+    ensures { IfSome result (IsEndOfPort port) }
+{
     for _ in 0..TRIES {
         match port.finish(rt) {
             Ok(end) => return Some(end),
@@ -117,10 +166,153 @@ fn run_both<R: Threads + Wait + Sync>(
     gate: &Barred,
     first: Worker,
     second: Worker,
-) -> Worked {
+) -> Worked
+    ensures first { IfOk result.0 (IsEndOf first) }
+    ensures second { IfOk result.1 (IsEndOf second) }
+{
     thread::join(
         rt,
         move || first.run(rt, gate),
         move || second.run(rt, gate),
     )
+}
+
+/// What a test does as a port. An `Err` says what did not come as it has to.
+trait Host {
+    /// What is done before a worker runs, and before the next port does anything.
+    fn begin<R: Wait>(&self, rt: &R, port: Port) -> Result<Port, &'static str>
+        ensures { IfOk result (IsSamePort port) };
+
+    /// What is done in a thread, beside the workers and the other port, to the port's end.
+    fn go_on<R: Wait>(&self, rt: &R, port: Port) -> Result<PortEnd, &'static str>
+        ensures { IfOk result (IsEndOfPort port) };
+}
+
+/// A port that does nothing.
+struct Silent;
+
+impl Host for Silent {
+    fn begin<R: Wait>(&self, _rt: &R, port: Port) -> Result<Port, &'static str> {
+        Ok(port)
+    }
+
+    fn go_on<R: Wait>(&self, rt: &R, port: Port) -> Result<PortEnd, &'static str> {
+        finish_in_time(rt, port).ok_or("an end")
+    }
+}
+
+/// Says what did not come, unless it is there.
+fn expect(is_there: bool, what: &'static str) -> Result<(), &'static str> {
+    if is_there { Ok(()) } else { Err(what) }
+}
+
+/// What the reply of a read repeats of it.
+fn read_echo(addr: u64, len: u32) -> Echo {
+    Echo {
+        kind: Kind::Read,
+        addr,
+        len,
+    }
+}
+
+/// Whether a reply is there, with this number, for this request and with these bytes.
+fn is_reply(reply: Option<Reply<'_>>, number: u64, echo: Echo, bytes: &[u8]) -> bool {
+    match reply {
+        Some(reply) => reply.number == number && reply.echo == echo && reply.bytes == bytes,
+        None => false,
+    }
+}
+
+/// What two ports give back.
+type Hosted = (Result<PortEnd, &'static str>, Result<PortEnd, &'static str>);
+
+/// Runs two ports, each in a thread.
+fn host_both<A: Host + Sync, B: Host + Sync, R: Threads + Wait + Sync>(
+    rt: &R,
+    host: &A,
+    other_host: &B,
+    first: Port,
+    second: Port,
+) -> Hosted
+    ensures first { IfOk result.0 (IsEndOfPort first) }
+    ensures second { IfOk result.1 (IsEndOfPort second) }
+{
+    thread::join(
+        rt,
+        move || host.go_on(rt, first),
+        move || other_host.go_on(rt, second),
+    )
+}
+
+/// The ends of two ports and of two workers.
+type AllEnds = (PortEnd, PortEnd, WorkerEnd, WorkerEnd);
+
+/// Runs two ports and two workers, each in a thread, to their ends.
+fn run_parts<A: Host + Sync, B: Host + Sync, R: Threads + Wait + Sync>(
+    rt: &R,
+    host: &A,
+    other_host: &B,
+    parts: Parts,
+) -> Result<AllEnds, Fail>
+    ensures first { IfOk result (λ ends. IsEndOfPort parts.0 ends.0) }
+    ensures second { IfOk result (λ ends. IsEndOfPort parts.1 ends.1) }
+    ensures first_work { IfOk result (λ ends. IsEndOf parts.2 ends.2) }
+    ensures second_work { IfOk result (λ ends. IsEndOf parts.3 ends.3) }
+{
+    let (first, second, first_worker, second_worker) = parts;
+    let gate = Barred::nowhere();
+    let gate = &gate;
+    let ((first, second), (first_work, second_work)) = thread::join(
+        rt,
+        move || -> Hosted
+            requires { IsSync R.row }
+            ensures first { IfOk result.0 (IsEndOfPort first) }
+            ensures second { IfOk result.1 (IsEndOfPort second) }
+        { host_both(rt, host, other_host, first, second) },
+        move || -> Worked
+            requires { IsSync R.row }
+            ensures first { IfOk result.0 (IsEndOf first_worker) }
+            ensures second { IfOk result.1 (IsEndOf second_worker) }
+        { run_both(rt, gate, first_worker, second_worker) },
+    );
+    match (first_work, second_work) {
+        (Ok(first_work), Ok(second_work)) => Ok((first?, second?, first_work, second_work)),
+        _ => Err("workers at their ends".into()),
+    }
+}
+
+/// Opens a system of two ports and two channels, and runs it to its end.
+fn run_system<A: Host + Sync, B: Host + Sync, R: Threads + Wait + Sync>(
+    rt: &R,
+    alloc: Global,
+    config: &Config,
+    id: u64,
+    host: &A,
+    other_host: &B,
+) -> Result<AllEnds, Fail>
+    ensures one { IfOk result (λ ends. AreOfOneOpen id (ends.0 ∷ ends.1 ∷ []) (ends.2 ∷ ends.3 ∷ [])) }
+    ensures id { IfOk result (λ ends. (ends.0.id ≡ id) × (ends.1.id ≡ id)) }
+{
+    ends_of_one_open();
+    let (first, second, first_worker, second_worker) = open_two(alloc, config, id)?;
+    let first = host.begin(rt, first)?;
+    let second = other_host.begin(rt, second)?;
+    let parts = (first, second, first_worker, second_worker);
+    let ends = run_parts(rt, host, other_host, parts)?;
+    Ok(ends)
+}
+
+/// Closes a system, whose ends stand in order.
+fn close_in_order<R: Wait>(
+    rt: &R,
+    alloc: Global,
+    id: u64,
+    ends: AllEnds,
+) -> Result<SystemClosed, Fail>
+    requires { AreOfOneOpen id (ends.0 ∷ ends.1 ∷ []) (ends.2 ∷ ends.3 ∷ []) }
+{
+    let (first, second, first_work, second_work) = ends;
+    let ports = vec![in alloc; first, second]?;
+    let workers = vec![in alloc; first_work, second_work]?;
+    close(rt, alloc, id, ports, workers).map_err(|_| "closed".into())
 }

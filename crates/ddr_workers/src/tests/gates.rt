@@ -4,9 +4,6 @@ ghost use Rattle.std.specs.Thread.{IsSync};
 use super::*;
 use ddr_ports::request::Request;
 
-/// The first address of channel 1: profile S has the channel as its highest digit.
-const HALF: u64 = 131_072;
-
 /// Reads at an address, opens the gate once the reply came or the tries are spent, and finishes the port. Says whether
 /// the reply came, and gives the port's end.
 fn read_and_open<R: Wait>(
@@ -16,7 +13,7 @@ fn read_and_open<R: Wait>(
     addr: u64,
 ) -> (bool, Option<PortEnd>) {
     let came = port.submit(rt, Request::read(addr, 1)).is_ok()
-        && poll_in_time(rt, &mut port).is_some()
+        && poll_in_time(rt, &mut port, TRIES).is_some()
         && port.release().is_some();
     gate.open();
     (came, finish_in_time(rt, port))
@@ -49,7 +46,7 @@ fn passes<R: Threads + Wait + Sync>(
     addr: u64,
 ) -> Result<(bool, bool), Fail> {
     let config = config_with(alloc, "intake ", "intake = 4")?;
-    let (first, second, first_worker, second_worker) = open_two(alloc, &config)?;
+    let (first, second, first_worker, second_worker) = open_two(alloc, &config, 7)?;
     let gate = Barred::new(channel);
     let gate = &gate;
     let (((came, first_end), second_end), (first_work, second_work)) = thread::join(
