@@ -7,17 +7,6 @@ use Rattle.ddr_workers.specs.Open.{IsOpened}
 use Rattle.ddr_workers.specs.Port.{PortState, PortEnded, IsEndOfPort, IsSamePort}
 use Rattle.ddr_workers.specs.Worker.{WorkerState, WorkerEnded, IsEndOf}
 
-pub same_port : (s : PortState) → IsSamePort s s
-same_port s = record { id = refl; port = refl; requests = refl; completions = refl }
-
-pub same_again : (s t u : PortState) → IsSamePort s t → IsSamePort t u → IsSamePort s u
-same_again s t u before after = record {
-  id = after.id ∙ before.id;
-  port = after.port ∙ before.port;
-  requests = after.requests ∙ before.requests;
-  completions = after.completions ∙ before.completions;
-}
-
 -- the end of a port that stayed the one that it was
 pub end_of_same : (s t : PortState) (e : PortEnded) → IsSamePort s t → IsEndOfPort t e → IsEndOfPort s e
 end_of_same s t e same ended = record {

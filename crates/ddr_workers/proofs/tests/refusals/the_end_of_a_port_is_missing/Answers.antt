@@ -2,16 +2,9 @@ use Rattle.std.proofs.Common.{◌≡◌, rules, ◌∷◌, [], inl, inr, refl}
 use Rattle.ddr_workers.proofs.tests.OneOpen.{among}
 use Rattle.ddr_workers.proofs.tests.refusals.the_end_of_a_port_is_missing.Goals as goal
 
-pub refused-requires : goal.refused-requires
-refused-requires g c =
-    let all = c.in_ok-first in
+pub cause_of-requires : goal.cause_of-requires
+cause_of-requires g c =
+    let all = c.in_ok-second in
     let ports : c.in_ok-ports.ports.items ≡ all.second ∷ [] = search rules in
     let workers : c.in_ok-workers.workers.items ≡ all.first_work ∷ all.second_work ∷ [] = search rules in
-    among 7 all.first all.second all.first_work all.second_work all.ensures.one _ _ _ _ ports workers (λ own. inr refl, tt) (inl refl, (inr refl, tt))
-
-pub is_closed-requires : goal.is_closed-requires
-is_closed-requires g c =
-    let all = c.in_ok-first in
-    let ports : c.push.new.self.items ≡ all.second ∷ all.first ∷ [] = search rules in
-    let workers : c.in_ok-cause.ends.workers.items ≡ all.first_work ∷ all.second_work ∷ [] = search rules in
-    among 7 all.first all.second all.first_work all.second_work all.ensures.one _ _ _ _ ports workers (λ own. inr refl, (λ own. inl refl, tt)) (inl refl, (inr refl, tt))
+    among 7 _ all.second all.first_work all.second_work all.ensures.one _ _ _ _ ports workers (λ own. inr refl, tt) (inl refl, (inr refl, tt))
