@@ -1,5 +1,6 @@
 //! Whole runs of scripts, their faults, and readers and writers that fail.
 mod body;
+mod chance;
 mod check;
 mod configurations;
 mod devices;
