@@ -3,10 +3,14 @@ use super::{REPLIES, TRACE, WRITE_THEN_READ};
 use crate::check::check;
 use crate::fault::Fault;
 use crate::map::map;
+use crate::run::run;
 use crate::sim::sim;
+use std::alloc::Global;
 use std::io;
 use std::io::{ErrorKind, Read, Write};
+use std::sync::Wait;
 use std::test::Fail;
+use std::thread::Threads;
 
 /// A reader of 8 bytes at a time that fails once, where no call is left.
 #[derive(Drop)]
@@ -236,5 +240,74 @@ fn each_read_and_write_of_a_check_fails(rt: HostRuntime) {
         };
         assert_eq!(rt; end, wanted, "{calls} calls");
         assert!(rt; b"legal\n".starts_with(writer.text.as_slice()));
+    }
+}
+
+/// What a run in threads writes of the write and the read.
+const RAN: &str = "0 0 write 0\n0 1 read 0 0a0b0c0d\nchannel 0 legal\nchannel 1 legal\n";
+
+/// How a run ends whose reader fails where no call is left, and what it writes.
+fn run_from<R: Threads + Wait + Sync>(
+    rt: &R,
+    alloc: Global,
+    calls: u32,
+) -> (Result<bool, Fault>, Vec<u8>) {
+    let mut reader = Failing {
+        text: WRITE_THEN_READ.as_bytes(),
+        calls,
+        kind: ErrorKind::Other,
+    };
+    let mut written = Vec::new(alloc);
+    let end = run(rt, alloc, true, &mut reader, &mut written);
+    (end, written)
+}
+
+/// How a run ends whose writer fails where no call is left, and what it writes.
+fn run_to<R: Threads + Wait + Sync>(
+    rt: &R,
+    alloc: Global,
+    calls: u32,
+) -> (Result<bool, Fault>, Vec<u8>) {
+    let mut reader = WRITE_THEN_READ.as_bytes();
+    let mut writer = Full {
+        text: Vec::new(alloc),
+        calls,
+    };
+    let end = run(rt, alloc, true, &mut reader, &mut writer);
+    (end, writer.text)
+}
+
+#[test]
+fn each_read_of_a_run_fails(rt: HostRuntime) {
+    // 30 bytes are read in 4 calls, and their end by one more.
+    for calls in 0..7 {
+        let (wanted, text) = if calls < 5 {
+            (Err(Fault::Read), "")
+        } else {
+            (Ok(true), RAN)
+        };
+        let (end, written) = run_from(&rt, rt.alloc(), calls);
+        assert_eq!(rt; end, wanted, "{calls} calls");
+        assert_eq!(rt; written.as_slice(), text.as_bytes(), "{calls} calls");
+    }
+}
+
+#[test]
+fn each_write_of_a_run_fails(rt: HostRuntime) {
+    // 64 bytes are written in 13 calls, and flushed by one more.
+    for calls in 0..16u32 {
+        let wanted = if calls < 14 {
+            Err(Fault::Write)
+        } else {
+            Ok(true)
+        };
+        let (end, written) = run_to(&rt, rt.alloc(), calls);
+        assert_eq!(rt; end, wanted, "{calls} calls");
+        let count = RAN.len().min(5 * calls as usize);
+        assert_eq!(rt;
+            written.as_slice(),
+            &RAN.as_bytes()[..count],
+            "{calls} calls"
+        );
     }
 }
