@@ -1,6 +1,6 @@
 -- From ends in order, whose sides are gathered queue by queue, to queues that were joined, and to what is given.
-use Rattle.std.proofs.Common.{◌≡◌, ℕ, zero, suc, ◌+◌, ◌<◌, true, eqb, List, [], ◌∷◌, ◌++◌, All, length, map, filter, Option, Some, None, slice_get, length-append, refl, sym, ap, ◌∙◌, subst, arith}
-use Rattle.std.specs.List.{flat_map, range_with_len, sum_by}
+use Rattle.std.proofs.Common.{◌≡◌, ℕ, zero, suc, ◌+◌, ◌<◌, eqb, List, [], ◌∷◌, ◌++◌, All, length, map, filter, Option, Some, None, slice_get, length-append, refl, sym, ap, ◌∙◌, subst, arith}
+use Rattle.std.specs.List.{flat_map, range_with_len}
 use Rattle.std.specs.Option.{option_map}
 use Rattle.std.proofs.lemmas.List.{append-nil, length-map}
 use Rattle.std.proofs.lemmas.Option.{slice_get-map, slice_get_within}
@@ -10,15 +10,15 @@ use Rattle.ddr_world.proofs.CoreCounts.{sum_ones}
 use Rattle.ddr_workers.specs.declared.completions.Delivery.{Delivery}
 use Rattle.ddr_workers.specs.declared.requests.Item.{Item}
 use Rattle.ddr_workers.specs.declared.requests.Route.{Route}
-use Rattle.ddr_workers.specs.Closing.{AreOpposite, AreReady, accepted_of}
+use Rattle.ddr_workers.specs.Closing.{accepted_of}
 use Rattle.ddr_workers.specs.Completions.{of_channel, source_of}
 use Rattle.ddr_workers.specs.Counted.{numbers_put}
 use Rattle.ddr_workers.specs.Ended.{IsEnded, IsWorkerEnded}
 use Rattle.ddr_workers.specs.Headline.{AreJoined}
-use Rattle.ddr_workers.specs.Joined.{IsIntakeJoined, IsWindowJoined, OfEach}
+use Rattle.ddr_workers.specs.Joined.{AreReady, IsIntakeJoined, IsWindowJoined}
 use Rattle.ddr_workers.specs.Port.{PortEnded}
-use Rattle.ddr_workers.specs.Requests.{has_end, of_port}
-use Rattle.ddr_workers.specs.Sides.{AreSides, PutId, PutSide, TakeId, TakeSide, put_id}
+use Rattle.ddr_workers.specs.Requests.{of_port}
+use Rattle.ddr_workers.specs.Sides.{AreSides, PutId, PutSide, TakeSide, put_id}
 use Rattle.ddr_workers.specs.Worker.{WorkerEnded, requests_of}
 use Rattle.ddr_workers.proofs.ChangedLemmas.{some_there}
 use Rattle.ddr_workers.proofs.ColumnLemmas.{IsOfEach, same_some}

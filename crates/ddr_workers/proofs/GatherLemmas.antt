@@ -1,5 +1,5 @@
 -- Rows to which elements are added place by place, and elements that are taken off in front.
-use Rattle.std.proofs.Common.{◌≡◌, ℕ, zero, suc, ◌+◌, ◌-◌, ◌<◌, ◌≤◌, Bool, true, false, ltb, List, [], ◌∷◌, ◌++◌, All, length, map, replicate, drop, set, get_or, Option, Some, None, slice_get, vec_capacity, vec_len, append_assoc, refl, sym, ap, ◌∙◌, subst, arith}
+use Rattle.std.proofs.Common.{◌≡◌, ℕ, zero, suc, ◌+◌, ◌-◌, ◌<◌, ◌≤◌, Bool, true, false, ltb, List, [], ◌∷◌, ◌++◌, All, length, map, replicate, drop, set, get_or, Option, Some, slice_get, vec_capacity, vec_len, append_assoc, refl, sym, ap, ◌∙◌, subst, arith}
 use Rattle.std.specs.List.{remove}
 use Rattle.std.specs.Global.{Vec}
 use Rattle.std.specs.Option.{option_map}
@@ -7,7 +7,6 @@ use Rattle.std.proofs.lemmas.Bool.{ltb-true, ltb-false}
 use Rattle.std.proofs.lemmas.List.{append-nil, drop-set-lt, length-append, map-set, set-get_or}
 use Rattle.std.proofs.lemmas.List.Elements.{All-cons}
 use Rattle.std.proofs.lemmas.Option.{slice_get-map, slice_get_within, get_or_from_slice_get}
-use Rattle.ddr_channel.proofs.ListLemmas.{All-at}
 use Rattle.ddr_workers.specs.Gathered.{Gathering, with_all, with_one}
 use Rattle.ddr_workers.specs.Joined.{BelowEach, OfEach}
 use Rattle.ddr_workers.specs.Lanes.{each_with, lists}

@@ -4,11 +4,9 @@ use Rattle.std.specs.Option.{option_map}
 use Rattle.std.proofs.lemmas.List.{length-map}
 use Rattle.std.proofs.lemmas.Option.{slice_get-map}
 use Rattle.ddr_timing.specs.declared.config.Config.{Config}
-use Rattle.ddr_address_map.specs.Requests.{Completion}
 use Rattle.ddr_workers.specs.declared.completions.Delivery.{Delivery}
-use Rattle.ddr_workers.specs.declared.requests.Item.{Item}
 use Rattle.ddr_workers.specs.declared.requests.Route.{Route}
-use Rattle.ddr_workers.specs.Closing.{AreEndsOf, AreOfOneOpen, AreOpposite}
+use Rattle.ddr_workers.specs.Closing.{AreEndsOf, AreOfOneOpen}
 use Rattle.ddr_workers.specs.Open.{IsOpened}
 use Rattle.ddr_workers.specs.Port.{PortState, PortEnded}
 use Rattle.ddr_workers.specs.Sides.{PutSide, PutId, TakeId, put_id}

@@ -1,11 +1,12 @@
 -- Ends that no refusal applies to, put in order: they are those of all ports and workers of one call of `open`.
-use Rattle.std.proofs.Common.{◌≡◌, ℕ, zero, suc, ◌+◌, ◌<◌, Bool, true, false, not, eqb, ◌||◌, List, length, map, Some, slice_get, refl, sym, ap, ◌∙◌, subst, arith}
+use Rattle.std.proofs.Common.{◌≡◌, ℕ, zero, suc, ◌<◌, Bool, true, false, not, eqb, ◌||◌, List, length, map, Some, slice_get, refl, sym, ◌∙◌, arith}
 use Rattle.std.specs.List.{list_any}
 use Rattle.std.specs.List.Sorted.{IsNonDecreasingBy, IsPermutation}
-use Rattle.std.proofs.lemmas.Bool.{eqb-true, false≢true}
+use Rattle.std.proofs.lemmas.Bool.{eqb-true}
 use Rattle.std.proofs.lemmas.List.{length-map}
 use Rattle.std.proofs.lemmas.Option.{slice_get_within}
-use Rattle.ddr_workers.specs.Closing.{AreOfOneOpen, AreOpposite, AreReady, channel_of, has_each, has_twice, is_foreign, is_missing, port_of}
+use Rattle.ddr_workers.specs.Closing.{AreOfOneOpen, AreOpposite, channel_of, has_each, has_twice, is_foreign, is_missing, port_of}
+use Rattle.ddr_workers.specs.Joined.{AreReady}
 use Rattle.ddr_workers.specs.Port.{PortEnded}
 use Rattle.ddr_workers.specs.Worker.{WorkerEnded}
 use Rattle.ddr_workers.proofs.ChangedLemmas.{some_there}

@@ -1,6 +1,5 @@
 -- A port stays the one that it was, over the same queues.
-use Rattle.std.proofs.Common.{◌≡◌, ℕ, zero, suc, ◌+◌, ◌-◌, List, length, map, refl, sym, ap, ◌∙◌, subst}
-use Rattle.ddr_ports.specs.State as core
+use Rattle.std.proofs.Common.{◌≡◌, ℕ, zero, suc, ◌-◌, map, refl, sym, ap, ◌∙◌, subst}
 use Rattle.ddr_workers.specs.declared.requests.Item.{Item}
 use Rattle.ddr_workers.specs.declared.requests.Item.TheVariants.{End}
 use Rattle.ddr_workers.specs.declared.requests.Route.{Route}

@@ -1,14 +1,11 @@
 -- The closing of a system: which ends it takes, what each refusal means, and what it gives.
-use Rattle.std.specs.Prelude.{◌≡◌, ℕ, ◌==◌, Bool, true, false, not, ◌||◌, if◌then◌else◌, List, [], ◌∷◌, length, map, filter, flat_map, Option, Some, None, IsPermutation, slice_get, vec_capacity}
-use Rattle.std.specs.Global.{Vec}
+use Rattle.std.specs.Prelude.{◌≡◌, ℕ, ◌==◌, Bool, true, false, not, ◌||◌, List, [], ◌∷◌, length, map, filter, flat_map, Some, IsPermutation, slice_get}
 use Rattle.std.specs.List.{list_any, list_all, range_with_len}
 use Rattle.ddr_address_map.specs.Requests as records
 use Rattle.ddr_workers.specs.declared.closing.CloseError.{CloseError}
 use Rattle.ddr_workers.specs.declared.closing.CloseError.TheVariants.{Foreign, Missing, OutOfMemory}
 use Rattle.ddr_workers.specs.declared.closing.Ends.{Ends}
-use Rattle.ddr_workers.specs.declared.closing.Room.{Room}
 use Rattle.ddr_workers.specs.declared.closing.SystemClosed.{SystemClosed}
-use Rattle.ddr_workers.specs.Gathered.{nothing_of}
 use Rattle.ddr_workers.specs.Headline.{AreJoined, GotAll, accepted_by}
 use Rattle.ddr_workers.specs.Port.{PortState, PortEnded, IsEndOfPort}
 use Rattle.ddr_workers.specs.Sides.{put_id}
@@ -74,30 +71,6 @@ abbrev pub IsNotClosed : ℕ → List PortEnded → List WorkerEnded → CloseEr
 IsNotClosed id ports workers (Foreign ends) = (is_foreign id ports workers ≡ true) × AreBack ports workers ends
 IsNotClosed id ports workers (Missing ends) = (is_foreign id ports workers ≡ false) × (is_missing ports workers ≡ true) × AreBack ports workers ends
 IsNotClosed id ports workers (OutOfMemory ends) = (is_foreign id ports workers ≡ false) × (is_missing ports workers ≡ false) × AreBack ports workers ends
-
--- joining
-
--- nothing yet, with room for so many
-pub record HasRoomFor {X : Type 0} (count : ℕ) (v : Vec X) : Type 0 where
-  pub empty : v.items ≡ []
-  pub room : vec_capacity v ≡ count
-
-pub record IsRoomFor (ports workers : ℕ) (room : Room) : Type 0 where
-  pub port_sides : room.ports ≡ nothing_of ports workers
-  pub worker_sides : room.workers ≡ nothing_of workers ports
-  pub accepted : HasRoomFor ports room.accepted
-  pub taken : HasRoomFor ports room.taken
-  pub traces : HasRoomFor workers room.traces
-
--- Ports and workers in the order of their numbers, from one call of `open`
-pub record AreReady (ports : List PortEnded) (workers : List WorkerEnded) : Type 0 where
-  pub port : (p : ℕ) (e : PortEnded) → slice_get ports p ≡ Some e → e.port ≡ p
-  pub worker : (c : ℕ) (w : WorkerEnded) → slice_get workers c ≡ Some w → w.number ≡ c
-  pub channels : (p : ℕ) (e : PortEnded) → slice_get ports p ≡ Some e → length e.requests ≡ length workers
-  pub ports_are : (c : ℕ) (w : WorkerEnded) → slice_get workers c ≡ Some w → length w.completions ≡ length ports
-  -- a port's queue has a put side for each channel
-  pub windows : (p : ℕ) (e : PortEnded) → slice_get ports p ≡ Some e → e.completions.who.count ≡ length workers
-  pub opposite : (p c : ℕ) (e : PortEnded) (w : WorkerEnded) → slice_get ports p ≡ Some e → slice_get workers c ≡ Some w → AreOpposite e w
 
 -- what is given
 

@@ -1,5 +1,5 @@
 -- The sides of several queues, gathered from those who held one side of each.
-use Rattle.std.specs.Prelude.{◌≡◌, ℕ, ◌+◌, ◌-◌, ◌≤◌, List, [], ◌∷◌, ◌++◌, All, replicate, vec_capacity, vec_len}
+use Rattle.std.specs.Prelude.{ℕ, ◌+◌, ◌-◌, ◌≤◌, List, [], ◌∷◌, ◌++◌, All, replicate, vec_capacity, vec_len}
 use Rattle.ddr_workers.specs.declared.gathered.Gathered.TheInside.{Inside}
 use Rattle.ddr_workers.specs.Lanes.{each_with, lists}
 

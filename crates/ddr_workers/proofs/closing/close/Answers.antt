@@ -1,6 +1,7 @@
 use Rattle.std.proofs.Common.{rules, ◌≡◌, ℕ, false, length, sym, ◌∙◌, subst}
 use Rattle.std.proofs.lemmas.List.Sorted.{length_permutation}
-use Rattle.ddr_workers.specs.Closing.{IsRoomFor, is_foreign, is_missing}
+use Rattle.ddr_workers.specs.Closing.{is_foreign, is_missing}
+use Rattle.ddr_workers.specs.Joined.{IsRoomFor}
 use Rattle.ddr_workers.proofs.ReadyLemmas.{are_ready}
 use Rattle.ddr_workers.proofs.closing.close.Goals as goal
 

@@ -1,4 +1,4 @@
-use Rattle.std.proofs.Common.{rules, ◌≡◌, ◌∙◌, [], length, map, sym, ap}
+use Rattle.std.proofs.Common.{rules, ◌≡◌, ◌∙◌, [], length, sym}
 use Rattle.std.proofs.lemmas.List.{length-map}
 use Rattle.ddr_workers.specs.Joined.{IsIntakeJoined, IsWindowJoined}
 use Rattle.ddr_workers.specs.Lanes.{lists}

@@ -1,4 +1,4 @@
-use Rattle.std.proofs.Common.{◌≡◌, ◌∷◌, []}
+use Rattle.std.proofs.Common.{◌∷◌, []}
 use Rattle.ddr_workers.specs.Port.{IsEndOfPort}
 use Rattle.ddr_workers.proofs.tests.OneOpen.{end_of_same, ends_of_two, first_id, second_id}
 use Rattle.ddr_workers.proofs.tests.run_system.Goals as goal

@@ -1,4 +1,4 @@
-use Rattle.std.proofs.Common.{◌≡◌, ◌+◌, ◌-◌, ◌<◌, vec_len, vec_capacity, arith, sym, ap, ◌∙◌, subst}
+use Rattle.std.proofs.Common.{◌-◌, ◌<◌, vec_len, vec_capacity, arith, sym, subst}
 use Rattle.ddr_workers.specs.Gathered.{Gathering}
 use Rattle.ddr_workers.proofs.GatherLemmas.{room_after}
 use Rattle.ddr_workers.proofs.gathered.Gathered.add.Goals as goal

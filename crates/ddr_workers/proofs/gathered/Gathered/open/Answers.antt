@@ -1,5 +1,5 @@
-use Rattle.std.proofs.Common.{◌≡◌, ℕ, ◌+◌, ◌-◌, ◌≤◌, List, [], ◌∷◌, All, length, slice_index_or, vec_len, vec_capacity, arith, sym, ap, ◌∙◌, subst}
-use Rattle.ddr_workers.proofs.GatherLemmas.{HasSpare, room_first}
+use Rattle.std.proofs.Common.{arith}
+use Rattle.ddr_workers.proofs.GatherLemmas.{room_first}
 use Rattle.ddr_workers.proofs.gathered.Gathered.open.Goals as goal
 
 pub invariant_of-result : goal.invariant_of-result

@@ -1,4 +1,4 @@
-use Rattle.std.proofs.Common.{◌≡◌, rules, ◌++◌, ◌∷◌, [], inl, inr, refl, ap}
+use Rattle.std.proofs.Common.{◌++◌, ◌∷◌, [], inl, inr, refl, ap}
 use Rattle.ddr_workers.proofs.tests.OneOpen.{among}
 use Rattle.ddr_workers.proofs.tests.refusals.what_came_back_is_closed.Goals as goal
 
