@@ -515,3 +515,43 @@ fn eight_ports_over_four_channels_in_small_queues(rt: HostRuntime) -> Result<(),
     }
     Ok(())
 }
+
+/// The byte of the first write of port 0 to a line of all.
+const FIRST: u8 = 1;
+
+/// That of the first write of port 1.
+const THEIRS: u8 = 32;
+
+/// That of the second write of port 1.
+const LATER: u8 = 33;
+
+/// Port 0's view of the first line of all, where port 0 wrote once and port 1 twice, and their script.
+fn three_writes(alloc: Global) -> Result<(Script, Memory), Fail> {
+    let mut script = Script {
+        chance: Chance(0),
+        asks: Vec::new(alloc),
+        writes: vec![in alloc; [[None; MOST]; PORTS]; SHARED]?,
+    };
+    let extent = Extent::Span { first: 0, end: 8 };
+    for port in [0, 1, 1] {
+        script.note(port, 0, extent).ok_or("no room")?;
+    }
+    let mut memory = Memory::new(alloc, 0)?;
+    memory.write(OWN, extent, &[FIRST; 64]);
+    Ok((script, memory))
+}
+
+#[test]
+fn bytes_that_may_not_be_read_are_told(rt: HostRuntime) -> Result<(), Fail> {
+    let (script, mut memory) = three_writes(rt.alloc())?;
+    // Never written, at a place that isn't written, and from before the port's own write.
+    assert!(rt; !memory.reads(&script, OWN, 0, &[LATER + 1]));
+    assert!(rt; !memory.reads(&script, OWN, 8, &[THEIRS]));
+    assert!(rt; !memory.reads(&script, OWN, 0, &[0]));
+    // Once the second of another port is read neither its first nor the own one comes again.
+    assert!(rt; memory.reads(&script, OWN, 0, &[FIRST, THEIRS, LATER]));
+    assert!(rt; memory.reads(&script, OWN, 1, &[LATER, LATER]));
+    assert!(rt; !memory.reads(&script, OWN, 2, &[THEIRS]));
+    assert!(rt; !memory.reads(&script, OWN, 2, &[FIRST]));
+    Ok(())
+}
