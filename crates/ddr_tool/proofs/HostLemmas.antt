@@ -1,5 +1,5 @@
 -- What each call leaves a port in its thread: what was asked, what came, and the text of the replies.
-use Rattle.std.proofs.Common.{◌≡◌, ℕ, zero, suc, ◌+◌, ◌-◌, ◌<◌, ◌==◌, Bool, true, false, cond, eqb, eq-eqb, List, [], ◌∷◌, ◌++◌, length, filter, map, drop, get_or, take, Option, Some, None, Result, Ok, Err, IfOk, IfErr, IfSome, OnOk, OnSome, IfNone, slice_get, refl, sym, ap, ap₂, ◌∙◌, subst, arith, add-one, append_assoc, length-append, string_bytes, if◌then◌else◌}
+use Rattle.std.proofs.Common.{◌≡◌, ℕ, zero, suc, ◌+◌, ◌-◌, ◌<◌, ◌==◌, Bool, true, false, cond, eqb, eq-eqb, List, [], ◌∷◌, ◌++◌, length, filter, map, drop, get_or, take, Option, Some, None, Result, Ok, Err, IfOk, IfErr, OnSome, IfNone, slice_get, refl, sym, ap, ap₂, ◌∙◌, subst, arith, add-one, append_assoc, length-append, string_bytes}
 use Rattle.std.specs.List.{cons_option, take_while}
 use Rattle.std.specs.Option.{option_and_then, option_map, option_map_or, option_to_list}
 use Rattle.std.proofs.lemmas.Bool.{eqb-true, false≢true}
@@ -18,12 +18,10 @@ use Rattle.ddr_workers.specs.declared.refusal.PollError.{PollError}
 use Rattle.ddr_workers.specs.declared.refusal.PollError.TheVariants as poll
 use Rattle.ddr_workers.specs.declared.refusal.SubmitError.{SubmitError}
 use Rattle.ddr_workers.specs.declared.refusal.SubmitError.TheVariants as submit
-use Rattle.ddr_workers.specs.declared.refusal.FinishError.{FinishError}
-use Rattle.ddr_workers.specs.declared.refusal.FinishError.TheVariants as finish
 use Rattle.ddr_workers.specs.declared.requests.Item.{Item}
 use Rattle.ddr_workers.specs.declared.requests.Item.TheVariants as item
 use Rattle.ddr_workers.specs.declared.requests.Route.{Route}
-use Rattle.ddr_workers.specs.Port.{PortState, PortEnded, IsEndOfPort, IsFinished, IsHeldUp, IsNotFinished, IsOfFirst, IsNotPolled, IsNotSubmitted, IsPolled, IsSamePort, IsSubmitted, after_busy, after_end, after_ends, after_filled, after_nothing, after_release, after_stray, after_submit, end_of, finished, first_with, reply_of}
+use Rattle.ddr_workers.specs.Port.{PortState, PortEnded, IsEndOfPort, IsFinished, IsHeldUp, IsOfFirst, IsNotPolled, IsNotSubmitted, IsPolled, IsSamePort, IsSubmitted, after_busy, after_ends, after_filled, after_nothing, after_release, after_stray, after_submit, finished, first_with, reply_of}
 use Rattle.ddr_workers.specs.Sides.{PutSide, TakeSide, after_full, after_push, changed_at}
 use Rattle.ddr_workers.specs.Worker.{requests_of}
 use Rattle.ddr_workers.proofs.ChangedLemmas.{each_changed, there_still}

@@ -1,5 +1,5 @@
 -- The verdicts on the channels' traces, and what a run in threads comes to.
-use Rattle.std.proofs.Common.{◌≡◌, ℕ, ◌+◌, ◌<◌, ◌≤◌, Bool, true, false, ◌&&◌, List, [], ◌∷◌, ◌++◌, length, map, get_or, drop, Option, Some, None, is_none, slice_get, refl, sym, ap, ap₂, subst, ◌∙◌, arith, append_assoc}
+use Rattle.std.proofs.Common.{◌≡◌, ℕ, ◌+◌, ◌<◌, ◌≤◌, Bool, true, false, ◌&&◌, List, [], ◌∷◌, ◌++◌, length, map, get_or, drop, Option, Some, None, is_none, slice_get, refl, sym, ap, subst, ◌∙◌, arith, append_assoc}
 use Rattle.std.specs.Option.{option_map}
 use Rattle.std.proofs.lemmas.List.{append-nil, at_drop_all, at_drop_more}
 use Rattle.std.proofs.lemmas.Option.{slice_get-map}
@@ -16,7 +16,6 @@ use Rattle.ddr_workers.specs.Worker.{WorkerState, WorkerEnded}
 use Rattle.ddr_workers.proofs.ChangedLemmas.{some_there}
 use Rattle.ddr_tool.specs.declared.hosting.Hosted.{Hosted}
 use Rattle.ddr_tool.specs.Check.{IsVerdict}
-use Rattle.ddr_tool.specs.Hosting.{IsNewPort}
 use Rattle.ddr_tool.specs.Outcome.{AreVerdicts, channel_line}
 use Rattle.ddr_tool.specs.Script.{Instruction}
 use Rattle.ddr_tool.specs.Threads.{AreNumbered, Each, IsEndedOf, IsHostedOf}

@@ -1,5 +1,5 @@
 -- What an input of a run in threads says, and which fault it has.
-use Rattle.std.proofs.Common.{◌≡◌, ℕ, List, Bool, false, Option, None, Some, Result, Ok, Err, IfSome, sym, subst, ◌∙◌}
+use Rattle.std.proofs.Common.{◌≡◌, ℕ, List, Bool, false, Option, None, Some, Result, Ok, Err, IfSome, subst}
 use Rattle.std.specs.Io.KnownBytes.{Appends}
 use Rattle.std.specs.Str.Lines.{lines}
 use Rattle.ddr_timing.specs.declared.config.Config.{Config}

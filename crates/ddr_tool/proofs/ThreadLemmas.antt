@@ -1,13 +1,13 @@
 -- The seats of a run's threads, before and afterwards.
-use Rattle.std.proofs.Common.{◌≡◌, ℕ, zero, suc, ◌<◌, List, [], ◌∷◌, ◌++◌, length, take, Some, slice_get, refl, sym, ap, subst, ◌∙◌, slice_index_or, string_bytes, arith}
+use Rattle.std.proofs.Common.{◌≡◌, ℕ, zero, suc, ◌<◌, List, [], ◌∷◌, ◌++◌, length, take, Some, slice_get, sym, ap, subst, ◌∙◌, slice_index_or, string_bytes}
 use Rattle.std.proofs.Math.Seq.{take-append_seam}
 use Rattle.std.proofs.lemmas.Option.{get_or_from_slice_get, slice_get-get_or, slice_get_within}
-use Rattle.ddr_workers.specs.Port.{PortState, PortEnded, IsEndOfPort}
+use Rattle.ddr_workers.specs.Port.{PortState, IsEndOfPort}
 use Rattle.ddr_workers.specs.Worker.{WorkerState, WorkerEnded, IsEndOf}
 use Rattle.ddr_tool.specs.declared.hosting.Hosted.{Hosted}
 use Rattle.ddr_tool.specs.declared.threads.Seat.{Seat}
 use Rattle.ddr_tool.specs.declared.threads.Seat.TheVariants as seats
-use Rattle.ddr_tool.specs.Hosting.{AreAsked, IsNewPort, asks_of, replies_text}
+use Rattle.ddr_tool.specs.Hosting.{AreAsked, asks_of, replies_text}
 use Rattle.ddr_tool.specs.Script.{Instruction}
 use Rattle.ddr_tool.specs.Threads.{Each, IsEndedOf, IsHostedOf, IsNewSeat, IsSeated, IsServed, Serves}
 

@@ -1,5 +1,5 @@
 -- What a run in threads prints once all threads ended.
-use Rattle.std.specs.Prelude.{◌≡◌, ℕ, ◌+◌, Bool, true, false, ◌&&◌, List, [], ◌∷◌, ◌++◌, flat_map, codes, Option, is_none, string_bytes}
+use Rattle.std.specs.Prelude.{ℕ, ◌+◌, Bool, true, ◌&&◌, List, [], ◌∷◌, ◌++◌, flat_map, codes, Option, is_none, string_bytes}
 use Rattle.std.specs.Fmt.{decimal}
 use Rattle.ddr_timing.specs.declared.config.Config.{Config}
 use Rattle.ddr_trace.specs.declared.checker.Fault as checker

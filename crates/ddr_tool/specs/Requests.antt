@@ -1,11 +1,11 @@
 -- The requests of a script that no port takes, whatever else it was asked for.
-use Rattle.std.specs.Prelude.{◌≡◌, ℕ, ◌+◌, ◌%◌, Bool, not, nat_le, ◌==◌, if◌then◌else◌, List, [], ◌∷◌, Option, Some, None, is_none, option_and_then, option_map, Result, Ok, Err}
+use Rattle.std.specs.Prelude.{◌≡◌, ℕ, ◌+◌, ◌%◌, not, nat_le, ◌==◌, if◌then◌else◌, List, [], ◌∷◌, Option, Some, None, is_none, option_and_then, option_map, Result, Ok, Err}
 use Rattle.std.specs.Option.{option_or}
 use Rattle.ddr_timing.specs.declared.config.Config.{Config}
 use Rattle.ddr_timing.specs.declared.geometry.Geometry.{Geometry}
 use Rattle.ddr_timing.specs.declared.units.TheConstants.{LINE_BYTES}
 use Rattle.ddr_address_map.specs.Map.{place_of}
-use Rattle.ddr_ports.specs.Asked.{Asked, first_address, len_of}
+use Rattle.ddr_ports.specs.Asked.{first_address, len_of}
 use Rattle.ddr_tool.specs.declared.fault.Fault.{Fault}
 use Rattle.ddr_tool.specs.declared.fault.Fault.TheVariants.{OutOfMemory, RequestLine}
 use Rattle.ddr_tool.specs.declared.fault.RequestError.{RequestError}

@@ -1,6 +1,6 @@
 -- All ports and workers of a run in threads: what each seat held before, and what it holds afterwards.
-use Rattle.std.specs.Prelude.{◌≡◌, ℕ, List, Option, Some, slice_get, map, string_bytes}
-use Rattle.ddr_workers.specs.Port.{PortState, PortEnded, IsEndOfPort}
+use Rattle.std.specs.Prelude.{◌≡◌, ℕ, List, Some, slice_get, string_bytes}
+use Rattle.ddr_workers.specs.Port.{PortState, IsEndOfPort}
 use Rattle.ddr_workers.specs.Worker.{WorkerState, WorkerEnded, IsEndOf}
 use Rattle.ddr_tool.specs.declared.hosting.Hosted.{Hosted}
 use Rattle.ddr_tool.specs.declared.threads.Seat.{Seat}

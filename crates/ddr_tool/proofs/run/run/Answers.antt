@@ -1,5 +1,5 @@
 -- The input asks for what was run, or its fault is the one that is told.
-use Rattle.std.proofs.Common.{List, None, Vec, Global, map, ap, sym, subst, string_bytes, ◌∙◌}
+use Rattle.std.proofs.Common.{List, None, Vec, Global, map, subst, string_bytes, ◌∙◌}
 use Rattle.std.proofs.lemmas.Result.{err_from_is_err_and}
 use Rattle.std.specs.Io.KnownBytes.{Appends}
 use Rattle.ddr_timing.specs.declared.profile.TheConstants.{PROFILE_S}

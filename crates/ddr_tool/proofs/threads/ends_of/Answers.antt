@@ -1,4 +1,4 @@
-use Rattle.std.proofs.Common.{◌≡◌, ◌++◌, ◌∷◌, [], List, Some, slice_get, length, sym, ap, ◌∙◌, arith, append_assoc}
+use Rattle.std.proofs.Common.{◌≡◌, ◌++◌, ◌∷◌, [], Some, slice_get, length, sym, ap, ◌∙◌, arith, append_assoc}
 use Rattle.ddr_workers.proofs.SideLemmas.{slice_get-here}
 use Rattle.ddr_tool.proofs.threads.ends_of.Goals as goal
 

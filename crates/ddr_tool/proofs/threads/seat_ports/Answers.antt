@@ -1,4 +1,4 @@
-use Rattle.std.proofs.Common.{ℕ, ◌++◌, ◌∷◌, [], sym, ap, subst, ◌∙◌, Some, slice_get, ◌≡◌, List, arith, length, append_assoc}
+use Rattle.std.proofs.Common.{◌++◌, ◌∷◌, [], sym, ap, subst, ◌∙◌, Some, slice_get, ◌≡◌, List, arith, length, append_assoc}
 use Rattle.std.proofs.lemmas.List.{length_push}
 use Rattle.ddr_workers.proofs.SideLemmas.{slice_get-here}
 use Rattle.ddr_tool.specs.Hosting.{IsNewPort}

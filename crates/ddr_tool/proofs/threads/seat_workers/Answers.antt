@@ -1,5 +1,4 @@
-use Rattle.std.proofs.Common.{ℕ, ◌++◌, ◌∷◌, [], sym, ap, subst, ◌∙◌, Some, slice_get, ◌≡◌, List, arith, length, append_assoc}
-use Rattle.ddr_workers.specs.Worker.{WorkerState}
+use Rattle.std.proofs.Common.{◌++◌, ◌∷◌, [], sym, ap, subst, ◌∙◌, Some, slice_get, ◌≡◌, List, arith, length, append_assoc}
 use Rattle.ddr_workers.proofs.SideLemmas.{slice_get-here}
 use Rattle.ddr_tool.specs.Threads.{Each, IsSeated}
 use Rattle.ddr_tool.specs.declared.threads.Seat.{Seat}

@@ -1,4 +1,4 @@
-use Rattle.std.proofs.Common.{refl, ap, sym, string_bytes, ◌++◌, ◌∙◌}
+use Rattle.std.proofs.Common.{refl, ap, string_bytes, ◌++◌, ◌∙◌}
 use Rattle.ddr_reorder.specs.Replies.{said}
 use Rattle.ddr_tool.proofs.HostLemmas.{asked_none, asked_released, hosting_released}
 use Rattle.ddr_tool.proofs.hosting.Host.give_up.Goals as goal

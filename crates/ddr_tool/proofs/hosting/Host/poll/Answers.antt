@@ -1,4 +1,3 @@
-use Rattle.std.proofs.Common.{[]}
 use Rattle.ddr_tool.proofs.HostLemmas.{asked_polled, hosting_polled}
 use Rattle.ddr_tool.proofs.hosting.Host.poll.Goals as goal
 

@@ -1,4 +1,3 @@
-use Rattle.std.proofs.Common.{[], ◌∷◌}
 use Rattle.ddr_ports.specs.Asked.{asked_of}
 use Rattle.ddr_tool.proofs.HostLemmas.{asked_not, asked_one, hosting_submitted}
 use Rattle.ddr_tool.proofs.hosting.Host.try_ask.Goals.{in-Ok, in-Err-Busy, in-Err-Refused-WindowFull, in-Err, in-Err-2}

@@ -1,4 +1,4 @@
-use Rattle.std.proofs.Common.{List, map, sym, subst}
+use Rattle.std.proofs.Common.{map, subst}
 use Rattle.ddr_tool.specs.Script.{view}
 use Rattle.ddr_tool.specs.Threads.{Serves}
 use Rattle.ddr_tool.proofs.threads.fn.run_seats.for_each_mut.Goals as goal
