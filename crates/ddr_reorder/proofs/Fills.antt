@@ -23,7 +23,7 @@ same_kind Read Write e = absurd (false≢true e)
 same_kind Write Read e = absurd (false≢true e)
 
 -- echoes that pass the test are one
-same_echo : (a b : Echo) → is_same_echo a b ≡ true → a ≡ b
+pub same_echo : (a b : Echo) → is_same_echo a b ≡ true → a ≡ b
 same_echo a b e =
     let len = and_parts (is_same_kind a.kind b.kind && nat_eq a.addr b.addr) (nat_eq a.len b.len) e in
     let addr = and_parts (is_same_kind a.kind b.kind) (nat_eq a.addr b.addr) len.0 in
