@@ -1,11 +1,8 @@
 //! A channel with its request queue.
-ghost use Rattle.std.specs.Prelude.{◌≡◌, ◌≢◌, ◌+◌, ◌<◌, ◌≤◌, ◌==◌, ◌||◌, ◌∷◌, ◌++◌, ◌↔◌, [], true, false, length, drop, slice_get, slice_set, IfErr, IfNone, IfOk, IfSome, IsErrOf, IsTrue, OnErr, OnOk, OnSome, Some, None, Ok, Err};
+ghost use Rattle.std.specs.Prelude.{◌≡◌, ◌<◌, ◌≤◌, ◌↔◌, true, false, slice_get, IfErr, IfOk, IsTrue, OnErr, OnOk, Some, Ok, Err};
 ghost use Rattle.std.specs.Option.{option_map};
-ghost use Rattle.ddr_address_map.specs.declared.request.Kind.TheVariants.{Read, Write};
 ghost use Rattle.ddr_timing.specs.declared.units.TheConstants.{CLOCK_STOP};
-ghost use Rattle.ddr_channel.specs.Cycle.{after_cycle};
 ghost use Rattle.ddr_channel.specs.Kept as kept;
-ghost use Rattle.ddr_channel.specs.State.{after_pop, is_queue_full};
 ghost use Rattle.ddr_world.specs.Close.{trace_of};
 ghost use Rattle.ddr_world.specs.Kept.{side_of};
 ghost use Rattle.ddr_world.specs.State.{IsChannelDrained, is_busy, opened_channel};

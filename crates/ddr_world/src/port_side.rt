@@ -1,5 +1,5 @@
 //! A port with its completion queue.
-ghost use Rattle.std.specs.Prelude.{◌≡◌, ◌+◌, ◌-◌, ◌<◌, ◌≤◌, ◌==◌, ◌∷◌, ◌++◌, ◌↔◌, [], true, false, length, drop, slice_get, slice_set, unwrap_or, All, IfErr, IfNone, IfOk, IfSome, IsTrue, OnErr, OnOk, OnSome, Some, None};
+ghost use Rattle.std.specs.Prelude.{◌≡◌, ◌+◌, ◌-◌, ◌<◌, ◌≤◌, ◌==◌, ◌↔◌, true, false, length, slice_get, unwrap_or, All, IfNone, IfOk, IfSome, IsTrue, OnErr, OnOk, OnSome, Some, None};
 ghost use Rattle.std.specs.Option.{option_map};
 ghost use Rattle.std.specs.Result.{result_err};
 ghost use Rattle.ddr_address_map.specs.Map.{in_range};

@@ -1,5 +1,4 @@
 //! Worked lists of events. Outcomes and refusals are written out by hand, for profile S with the changes named.
-ghost use Rattle.std.specs.Prelude.{◌≤◌};
 
 use crate::event::{Event, Outcome, Refusal};
 use crate::world::{NotDrained, RunReport, World};
