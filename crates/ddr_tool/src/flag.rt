@@ -110,6 +110,8 @@ impl<'a> Watch<'a> {
 impl Gate for Watch<'_> {
     ghost may_stop = { λ _. Unit {0} };
 
+    ghost may_hold = { λ _. ⊥ };
+
     fn turn<R: Wait>(&self, _rt: &R, _channel: u32) -> Turn {
         if self.flag.is_raised() {
             return Turn::Stop;

@@ -79,6 +79,8 @@ impl Barred {
 impl Gate for Barred {
     ghost may_stop = { λ _. Unit {0} };
 
+    ghost may_hold = { λ _. Unit {0} };
+
     fn turn<R: Wait>(&self, rt: &R, channel: u32) -> Turn {
         if channel == self.channel {
             for _ in rt.forever() {

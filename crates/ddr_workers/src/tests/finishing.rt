@@ -12,6 +12,8 @@ struct Halt;
 impl Gate for Halt {
     ghost may_stop = { λ _. Unit {0} };
 
+    ghost may_hold = { λ _. Unit {0} };
+
     fn turn<R: Wait>(&self, _rt: &R, _channel: u32) -> Turn {
         Turn::Stop
     }
