@@ -1,3 +1,4 @@
+pub mod AllEnds
 pub mod ChangedLemmas
 pub mod CompletionLemmas
 pub mod EndLemmas

@@ -20,7 +20,7 @@ module _ {S T : Type 0} where
   same_side : (sides sides' : List (PutSide S T)) (k : ℕ) (side : PutSide S T) → map who_of sides' ≡ map who_of sides → slice_get sides k ≡ Some side → slice_get (map who_of sides') k ≡ Some side.who
   same_side sides sides' k side same there = ap (λ xs. slice_get xs k) same ∙ slice_get-map who_of sides k ∙ ap (option_map who_of) there
 
-  same_length : (sides sides' : List (PutSide S T)) → map who_of sides' ≡ map who_of sides → length sides' ≡ length sides
+  pub same_length : (sides sides' : List (PutSide S T)) → map who_of sides' ≡ map who_of sides → length sides' ≡ length sides
   same_length sides sides' same = sym (length-map sides' who_of) ∙ ap length same ∙ length-map sides who_of
 
 pub one_open : (config : Config) (id : ℕ) (ports : List PortState) (workers : List WorkerState) (port_ends : List PortEnded) (worker_ends : List WorkerEnded)

@@ -15,7 +15,7 @@ use Rattle.ddr_workers.specs.Worker.{WorkerState}
 use Rattle.ddr_workers.proofs.ChangedLemmas.{some_there}
 use Rattle.ddr_workers.proofs.LaneLemmas.{each_at, each_length, from_each}
 
-from_none : (k : ℕ) → k ≡ 0 + k
+pub from_none : (k : ℕ) → k ≡ 0 + k
 from_none k = omega arith
 
 module _ {S T : Type 0} (aim : ℕ → S) (most holders queues : ℕ) (rows : List (List (PutSide S T))) (takes : List (TakeSide S T)) (lanes : AreLanes aim most holders queues rows takes) where
@@ -107,6 +107,9 @@ opened config id rows takes done_rows done_takes ports workers routes deliveries
       sides = λ p port there.
           let e = port_at p port there in
           ap (λ (s : PortState). length s.requests) e.is ∙ routes.row p e.row e.row_there;
+      done_sides = λ c w there.
+          let e = worker_at c w there in
+          ap length e.is.completions_are ∙ deliveries.row c e.row e.row_there;
       intake = λ c w there.
           let e = worker_at c w there in
           subst (IsNewQueue (aim c) config.limits.intake config.limits.ports) (sym e.is.requests_are) (routes.new c e.y e.y_there);

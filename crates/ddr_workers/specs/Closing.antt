@@ -29,6 +29,17 @@ pub record AreEndsOf (ports : List PortState) (workers : List WorkerState) (port
   pub port : (k : ℕ) (e : PortEnded) → slice_get port_ends k ≡ Some e → (s : PortState) × (slice_get ports e.port ≡ Some s) × IsEndOfPort s e
   pub worker : (k : ℕ) (w : WorkerEnded) → slice_get worker_ends k ≡ Some w → (s : WorkerState) × (slice_get workers w.number ≡ Some s) × IsEndOf s w
 
+-- place by place the elements of two lists belong together so
+abbrev pub AreMatched : {X Y : Type 0} → (X → Y → Type 0) → List X → List Y → Type 0
+AreMatched R [] [] = Unit {0}
+AreMatched R (x ∷ xs) (y ∷ ys) = R x y × AreMatched R xs ys
+AreMatched R xs ys = ⊥
+
+-- the ends are those of all ports and of all workers, in their order
+pub record AreAllEnds (ports : List PortState) (workers : List WorkerState) (port_ends : List PortEnded) (worker_ends : List WorkerEnded) : Type 0 where
+  pub port : AreMatched IsEndOfPort ports port_ends
+  pub worker : AreMatched IsEndOf workers worker_ends
+
 -- refusals
 
 -- one of them has this number
@@ -60,6 +71,12 @@ abbrev pub is_missing : List PortEnded → List WorkerEnded → Bool
 is_missing ports workers =
     length ports == 0 || (length workers == 0 || (list_any (λ e. not (has_each channel_of (length e.requests) workers)) ports
     || list_any (λ w. not (has_each port_of (length w.completions) ports)) workers))
+
+-- The ends may be closed together, and no refusal but want of memory applies.
+pub record AreComplete (id : ℕ) (ports : List PortEnded) (workers : List WorkerEnded) : Type 0 where
+  pub one : AreOfOneOpen id ports workers
+  pub own : is_foreign id ports workers ≡ false
+  pub whole : is_missing ports workers ≡ false
 
 -- all ends come back as they were
 pub record AreBack (ports : List PortEnded) (workers : List WorkerEnded) (ends : Ends) : Type 0 where

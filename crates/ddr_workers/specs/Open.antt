@@ -83,6 +83,8 @@ pub record IsOpened (config : Config) (id : ℕ) (ports : List PortState) (worke
   pub worker : (c : ℕ) (w : WorkerState) → slice_get workers c ≡ Some w → IsNewWorker config id c w.completions w.requests w
   -- a port has a put side for each channel, and no more
   pub sides : (p : ℕ) (port : PortState) → slice_get ports p ≡ Some port → length port.requests ≡ config.geometry.channels
+  -- a worker has a put side for each port, and no more
+  pub done_sides : (c : ℕ) (w : WorkerState) → slice_get workers c ≡ Some w → length w.completions ≡ config.limits.ports
   -- of each channel's queue the worker has the take side, and each port the put side of its number
   pub intake : (c : ℕ) (w : WorkerState) → slice_get workers c ≡ Some w → IsNewQueue (record { geometry = config.geometry; channel = c }) config.limits.intake config.limits.ports w.requests
   pub requests : (p c : ℕ) (port : PortState) (w : WorkerState) → slice_get ports p ≡ Some port → slice_get workers c ≡ Some w → slice_get port.requests c ≡ Some (new_put w.requests.who.queue p)

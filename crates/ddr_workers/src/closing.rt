@@ -1,14 +1,9 @@
 //! The closing of a system: every queue is joined, and what every port got is learnt.
 //!
 //! Below stand `ends` and `gathered`, the two kinds of queue, and the law `headline`; nothing stands above.
-ghost use Rattle.std.specs.Prelude.{◌≡◌, ℕ, ◌+◌, ◌<◌, false, true, List, Some, IfErr, IfOk, IsTrue, length, map, slice_get, vec_capacity};
-ghost use Rattle.std.specs.List.Sorted.{IsNonDecreasingBy};
+ghost use Rattle.std.specs.Prelude.{◌≡◌, ℕ, ◌<◌, List, Some, IfErr, IfOk, length, map, slice_get};
 ghost use Rattle.ddr_timing.specs.declared.config.Config.{Config};
-ghost use Rattle.ddr_address_map.specs.Requests.{Completion};
-ghost use Rattle.ddr_workers.specs.declared.completions.Delivery.{Delivery};
-ghost use Rattle.ddr_workers.specs.declared.requests.Item.{Item};
-ghost use Rattle.ddr_workers.specs.declared.requests.Route.{Route};
-ghost use Rattle.ddr_workers.specs.Closing.{AreEndsOf, AreOfOneOpen, IsClosed, IsEmptied, IsNotClosed, is_foreign, is_missing};
+ghost use Rattle.ddr_workers.specs.Closing.{AreAllEnds, AreComplete, AreEndsOf, AreOfOneOpen, IsClosed, IsEmptied, IsNotClosed, is_foreign, is_missing};
 ghost use Rattle.ddr_workers.specs.Ended.{IsEnded, IsWorkerEnded};
 ghost use Rattle.ddr_workers.specs.Gathered.{with_all};
 ghost use Rattle.ddr_workers.specs.Joined.{AreReady, HasRoomFor, IsIntakeJoined, IsRoomFor, IsWindowJoined, OfEach};
@@ -244,4 +239,13 @@ pub fn close<R: Wait>(
 pub fn ends_of_one_open()
     ensures { (config : Config) (id : ℕ) (ports : List PortState) (workers : List WorkerState) (port_ends : List PortEnded) (worker_ends : List WorkerEnded)
         → IsOpened config id ports workers → AreEndsOf ports workers port_ends worker_ends → AreOfOneOpen id port_ends worker_ends }
+{}
+
+/// The ends of all ports and workers that one call of `open` made, in their order, are neither foreign nor missing: `close`
+/// closes them, or is refused memory.
+///
+/// A law: it does nothing.
+pub fn all_ends_of_one_open()
+    ensures { (config : Config) (id : ℕ) (ports : List PortState) (workers : List WorkerState) (port_ends : List PortEnded) (worker_ends : List WorkerEnded)
+        → IsOpened config id ports workers → 0 < length ports → 0 < length workers → AreAllEnds ports workers port_ends worker_ends → AreComplete id port_ends worker_ends }
 {}

@@ -1,7 +1,7 @@
 //! What is asked of the ends of ports and of workers before they are closed, and their order.
 //!
 //! Below stand `port` and `worker`, whose ends these are, and above stands `closing`.
-ghost use Rattle.std.specs.Prelude.{◌≡◌, ℕ, ◌==◌, ◌||◌, not, IsPermutation, length};
+ghost use Rattle.std.specs.Prelude.{◌≡◌, ℕ, ◌==◌, not, IsPermutation};
 ghost use Rattle.std.specs.List.{list_any};
 ghost use Rattle.std.specs.List.Sorted.{IsNonDecreasingBy};
 ghost use Rattle.ddr_workers.specs.Closing.{has_each, has_number, has_twice};

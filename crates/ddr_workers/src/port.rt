@@ -4,7 +4,6 @@
 //! Below stand `PortCore`, which numbers the requests and gives the replies back in order, and the queues.
 ghost use Rattle.std.specs.Prelude.{◌≡◌, ℕ, ◌+◌, ◌-◌, ◌≤◌, ◌<◌, true, false, length, [], Some, IfErr, IfNone, IfOk, IfSome, OnErr, OnOk, OnSome, slice_get};
 ghost use Rattle.std.specs.Option.{option_map};
-ghost use Rattle.ddr_timing.specs.declared.units.TheConstants.{CLOCK_STOP};
 ghost use Rattle.ddr_reorder.specs.Replies.{front_number, lent_count, nth_answer, ready_count, said};
 ghost use Rattle.ddr_reorder.specs.Sound.{IsSound};
 ghost use Rattle.ddr_ports.specs.Asked.{asked_of};

@@ -1,9 +1,5 @@
 //! Opens the queues of a configuration, and the ports and workers at their ends.
-ghost use Rattle.std.specs.Prelude.{◌≡◌, ℕ, length, [], List, Some, All, IfOk, slice_get};
-ghost use Rattle.ddr_address_map.specs.Requests.{Completion};
-ghost use Rattle.ddr_workers.specs.declared.completions.Delivery.{Delivery};
-ghost use Rattle.ddr_workers.specs.declared.requests.Item.{Item};
-ghost use Rattle.ddr_workers.specs.declared.requests.Route.{Route};
+ghost use Rattle.std.specs.Prelude.{◌≡◌, length, [], All, IfOk};
 ghost use Rattle.ddr_workers.specs.Lanes.{AreLanes, AreEach, AreFrom, lists};
 ghost use Rattle.ddr_workers.specs.Open.{IsOpened, IsNewWorker, IsPortRow, IsPortOf, IsWorkerRow, IsWorkerTake};
 

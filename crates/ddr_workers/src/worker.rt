@@ -3,14 +3,14 @@
 //!
 //! Below stand `Channel` and the queues. A turn has five steps: the gate is asked; a completion is pushed; an item is
 //! taken; the channel makes a cycle; and the worker ends where nothing is left to do.
-ghost use Rattle.std.specs.Prelude.{◌≡◌, ℕ, ◌<◌, ◌↔◌, true, false, length, All, [], None, Some, IfErr, IfNone, IfOk, IfSome, IsTrue, OnErr, OnOk, slice_get};
+ghost use Rattle.std.specs.Prelude.{◌≡◌, ℕ, ◌<◌, ◌↔◌, true, false, length, All, [], None, Some, IfErr, IfOk, IfSome, IsTrue, OnErr, OnOk, slice_get};
 ghost use Rattle.ddr_timing.specs.declared.units.TheConstants.{CLOCK_STOP};
 ghost use Rattle.ddr_channel.specs.Kept as kept;
 ghost use Rattle.ddr_arbiter.specs.declared.choice.Choice.TheVariants.{Nothing};
 ghost use Rattle.ddr_channel.specs.Choice.{choice_of};
 ghost use Rattle.ddr_channel.specs.Cycle.{at_choice};
 ghost use Rattle.ddr_workers.specs.declared.worker.Cause.TheVariants.{OutOfMemory, ClockSpent, Told};
-ghost use Rattle.ddr_workers.specs.Completions.{IsFrom, WasFull};
+ghost use Rattle.ddr_workers.specs.Completions.{IsFrom};
 ghost use Rattle.ddr_address_map.specs.Requests.{Completion};
 ghost use Rattle.ddr_workers.specs.declared.completions.Delivery.{Delivery};
 ghost use Rattle.ddr_workers.specs.Ended.{IsWorkerEnded};

@@ -1,5 +1,5 @@
 //! What `close` gives of a system that ran to its end. The replies and the traces are written out by hand, for profile S.
-ghost use Rattle.std.specs.Prelude.{◌≡◌, ◌∷◌, [], IfOk};
+ghost use Rattle.std.specs.Prelude.{◌∷◌, [], IfOk};
 ghost use Rattle.ddr_workers.specs.Closing.{AreOfOneOpen};
 ghost use Rattle.ddr_workers.specs.Port.{IsSamePort};
 
