@@ -1,24 +1,24 @@
 -- The verdicts on the channels' traces, and what a run in threads comes to.
-use Rattle.std.proofs.Common.{◌≡◌, ℕ, ◌+◌, ◌<◌, ◌≤◌, Bool, true, false, ◌&&◌, List, [], ◌∷◌, ◌++◌, length, map, get_or, drop, Option, Some, None, is_none, slice_get, refl, sym, ap, subst, ◌∙◌, arith, append_assoc}
-use Rattle.std.specs.Option.{option_map}
+use Rattle.std.proofs.Common.{◌≡◌, ℕ, ◌+◌, ◌<◌, ◌≤◌, Bool, true, false, ◌&&◌, List, [], ◌∷◌, ◌++◌, length, map, get_or, drop, Option, Some, is_none, slice_get, refl, sym, ap, subst, ◌∙◌, arith, append_assoc}
 use Rattle.std.proofs.lemmas.List.{append-nil, at_drop_all, at_drop_more}
-use Rattle.std.proofs.lemmas.Option.{slice_get-map}
 use Rattle.ddr_timing.specs.declared.config.Config.{Config}
 use Rattle.ddr_trace.specs.declared.checker.Fault as checker
 use Rattle.ddr_trace.specs.Traces.{Recorded}
 use Rattle.ddr_workers.specs.declared.requests.Item.{Item}
 use Rattle.ddr_workers.specs.declared.requests.Route.{Route}
-use Rattle.ddr_workers.specs.Closing.{AreEndsOf}
+use Rattle.ddr_workers.specs.Closing.{AreAllEnds, AreComplete, AreMatched}
 use Rattle.ddr_workers.specs.Open.{IsOpened}
 use Rattle.ddr_workers.specs.Port.{PortState, PortEnded, IsEndOfPort}
 use Rattle.ddr_workers.specs.Sides.{PutSide, new_put}
 use Rattle.ddr_workers.specs.Worker.{WorkerState, WorkerEnded}
 use Rattle.ddr_workers.proofs.ChangedLemmas.{some_there}
 use Rattle.ddr_tool.specs.declared.hosting.Hosted.{Hosted}
+use Rattle.ddr_tool.specs.declared.run.TheConstants.{RUN}
+use Rattle.ddr_tool.specs.declared.threads.Ended.{Ended}
 use Rattle.ddr_tool.specs.Check.{IsVerdict}
 use Rattle.ddr_tool.specs.Outcome.{AreVerdicts, channel_line}
 use Rattle.ddr_tool.specs.Script.{Instruction}
-use Rattle.ddr_tool.specs.Threads.{AreNumbered, Each, IsEndedOf, IsHostedOf}
+use Rattle.ddr_tool.specs.Threads.{AreEnded, AreNewPorts, IsHostedFrom}
 
 both_assoc : (a b c : Bool) → (a && (b && c)) ≡ ((a && b) && c)
 both_assoc true b c = refl
@@ -54,32 +54,36 @@ verdict_end config traces channel before was past so_far =
 new_side : (o : Option (PutSide Route Item)) (new side : PutSide Route Item) → o ≡ Some new → o ≡ Some side → new.put ≡ [] → side.put ≡ []
 new_side o new side is_new is_side empty = let same : new ≡ side = cc in ap (λ (x : PutSide Route Item). x.put) (sym same) ∙ empty
 
-pub numbered : (config : Config) (id : ℕ) (ports : List PortState) (workers : List WorkerState) → IsOpened config id ports workers → AreNumbered ports workers
-numbered config id ports workers system = record {
-  port = λ k p is.
-      let new = system.port k p is in
-      record {
-        port = ap (λ (s : PortState). s.core.port) new;
-        taken = ap (λ (s : PortState). s.taken) new;
-        next = ap (λ (s : PortState). s.core.reorder.next) new;
-        outstanding = ap (λ (s : PortState). s.core.reorder.outstanding) new;
-        pushed = λ c side below there.
-            let channels : p.core.geometry.channels ≡ config.geometry.channels = ap (λ (s : PortState). s.core.geometry.channels) new in
-            let w = some_there workers c (omega (arith, below, channels, system.workers_are)) in
-            new_side (slice_get p.requests c) (new_put w.0.requests.who.queue k) side (system.requests k c p w.0 is w.1) there refl;
-      };
-  worker = λ k w is. (system.worker k w is).number_is;
-}
+pub new_ports : (config : Config) (id : ℕ) (ports : List PortState) (workers : List WorkerState) → IsOpened config id ports workers → AreNewPorts ports
+new_ports config id ports workers system k p is =
+    let new = system.port k p is in
+    record {
+      port = ap (λ (s : PortState). s.core.port) new;
+      taken = ap (λ (s : PortState). s.taken) new;
+      next = ap (λ (s : PortState). s.core.reorder.next) new;
+      outstanding = ap (λ (s : PortState). s.core.reorder.outstanding) new;
+      pushed = λ c side below there.
+          let channels : p.core.geometry.channels ≡ config.geometry.channels = ap (λ (s : PortState). s.core.geometry.channels) new in
+          let w = some_there workers c (omega (arith, below, channels, system.workers_are)) in
+          new_side (slice_get p.requests c) (new_put w.0.requests.who.queue k) side (system.requests k c p w.0 is w.1) there refl;
+    }
 
-ends_at : (ports : List PortState) (instructions : List Instruction) (o : Option Hosted) (e : PortEnded) → ((h : Hosted) → o ≡ Some h → IsHostedOf ports instructions h) → option_map (λ h. h.end) o ≡ Some e → (s : PortState) × (slice_get ports e.port ≡ Some s) × IsEndOfPort s e
-ends_at ports instructions None e each is = cc
-ends_at ports instructions (Some h) e each is =
-    let same : h.end ≡ e = cc in
-    let of = each h refl in
-    (of.0, subst (λ (x : PortEnded). slice_get ports x.port ≡ Some of.0) same of.1, subst (IsEndOfPort of.0) same of.2.end)
+port_ends : (instructions : List Instruction) (ports : List PortState) (hosted : List Hosted) → AreMatched (IsHostedFrom instructions) ports hosted → AreMatched IsEndOfPort ports (map (λ h. h.end) hosted)
+port_ends instructions [] [] m = tt
+port_ends instructions (p ∷ ports) (h ∷ hosted) m = (m.0.end, port_ends instructions ports hosted m.1)
+port_ends instructions [] (h ∷ hosted) m = absurd m
+port_ends instructions (p ∷ ports) [] m = absurd m
 
-pub ends_are : (ports : List PortState) (workers : List WorkerState) (instructions : List Instruction) (hosted : List Hosted) (worked : List WorkerEnded) → Each (IsHostedOf ports instructions) hosted → Each (IsEndedOf workers) worked → AreEndsOf ports workers (map (λ h. h.end) hosted) worked
-ends_are ports workers instructions hosted worked asked ended = record {
-  port = λ k e is. ends_at ports instructions (slice_get hosted k) e (asked k) (sym (slice_get-map (λ (h : Hosted). h.end) hosted k) ∙ is);
-  worker = ended;
-}
+-- what the law of all ends says
+abbrev AllEndsLaw : Type 0
+AllEndsLaw =
+    (config : Config) (id : ℕ) (ports : List PortState) (workers : List WorkerState) (port_ends : List PortEnded) (worker_ends : List WorkerEnded) → IsOpened config id ports workers → 0 < length ports → 0 < length workers → AreAllEnds ports workers port_ends worker_ends
+    → AreComplete id port_ends worker_ends
+
+pub complete : AllEndsLaw → (config : Config) (instructions : List Instruction) (ports : List PortState) (workers : List WorkerState) (ended : Ended) (ends : List PortEnded) → 0 < config.limits.ports → 0 < config.geometry.channels → IsOpened config RUN ports workers
+    → AreEnded ports workers instructions ended → ends ≡ map (λ h. h.end) ended.ports.items → AreComplete RUN ends ended.workers.items
+complete law config instructions ports workers ended ends some_port some_channel system all ends_are =
+    law config RUN ports workers ends ended.workers.items system (omega (arith, some_port, system.ports_are)) (omega (arith, some_channel, system.workers_are)) (record {
+      port = subst (AreMatched IsEndOfPort ports) (sym ends_are) (port_ends instructions ports ended.ports.items all.hosted);
+      worker = all.worked;
+    })

@@ -4,10 +4,10 @@ use Rattle.std.specs.Io.KnownBytes.{Appends}
 use Rattle.std.specs.Str.Lines.{lines}
 use Rattle.ddr_timing.specs.declared.config.Config.{Config}
 use Rattle.ddr_workers.specs.declared.closing.SystemClosed.{SystemClosed}
-use Rattle.ddr_workers.specs.Closing.{IsClosed}
+use Rattle.ddr_workers.specs.Closing.{AreMatched, IsClosed}
 use Rattle.ddr_workers.specs.Open.{IsOpened as IsSystem}
 use Rattle.ddr_workers.specs.Port.{PortState}
-use Rattle.ddr_workers.specs.Worker.{WorkerState, WorkerEnded}
+use Rattle.ddr_workers.specs.Worker.{WorkerState, WorkerEnded, IsEndOf}
 use Rattle.ddr_tool.specs.declared.fault.Fault.{Fault}
 use Rattle.ddr_tool.specs.declared.fault.Fault.TheVariants as faults
 use Rattle.ddr_tool.specs.declared.flag.Stop.{Stop}
@@ -20,7 +20,7 @@ use Rattle.ddr_tool.specs.Instructions.{form_of, instructions_of}
 use Rattle.ddr_tool.specs.Outcome.{AreVerdicts, texts_of}
 use Rattle.ddr_tool.specs.Requests.{first_fault}
 use Rattle.ddr_tool.specs.Script.{Instruction}
-use Rattle.ddr_tool.specs.Threads.{Each, IsEndedOf, IsHostedOf}
+use Rattle.ddr_tool.specs.Threads.{IsHostedFrom}
 
 -- why a run ends where a thread stopped
 abbrev pub stop_fault : Stop → Fault
@@ -40,12 +40,14 @@ pub record SaysRequests (sample : Bool) (profile : List ℕ) (input : List ℕ) 
 abbrev pub IsNoRequests : Bool → List ℕ → List ℕ → Fault → Type 0
 IsNoRequests sample profile input fault = (config : Config) × SaysRequests sample profile input config (Err fault)
 
--- every line is one of a script, and the first request that no port takes, if there is one, is at this fault
-pub record HasChecked (sample : Bool) (profile : List ℕ) (input : List ℕ) (fault : Option Fault) : Type 0 where
-  pub config : Config
-  pub instructions : List Instruction
+-- the input says these instructions, and the first request that no port takes, if there is one, is at this fault
+pub record AreChecked (sample : Bool) (profile : List ℕ) (input : List ℕ) (config : Config) (instructions : List Instruction) (fault : Option Fault) : Type 0 where
   pub says : SaysRequests sample profile input config (Ok instructions)
   pub requests : first_fault config 0 (lines says.body) ≡ fault
+
+-- every line is one of a script, and its first request that no port takes, if there is one, is at this fault
+abbrev pub HasChecked : Bool → List ℕ → List ℕ → Option Fault → Type 0
+HasChecked sample profile input fault = (config : Config) × (instructions : List Instruction) × AreChecked sample profile input config instructions fault
 
 -- The input has the fault that a run in threads ends by. Where a thread stopped before its end, or writing failed, the
 -- script is one that ports take; reading and memory fail by themselves.
@@ -60,16 +62,17 @@ HasRunFault sample profile input faults.Read = Unit {0}
 HasRunFault sample profile input faults.OutOfMemory = Unit {0}
 HasRunFault sample profile input fault = HasInputFault sample profile input fault
 
--- What the threads of a run came to, on this configuration: ports and workers were opened, each port pushed what the script
--- asks it for, all were closed, and the text has the replies of the ports and then the verdicts on the traces.
+-- What the threads of a run came to, on this configuration: ports and workers were opened, each port, in order, pushed what
+-- the script asks it for, all were closed, and the text has the replies of the ports, in order, and then the verdicts on the
+-- traces.
 pub record IsThreaded (config : Config) (instructions : List Instruction) (text : List ℕ) (legal : Bool) : Type 0 where
   pub ports : List PortState
   pub workers : List WorkerState
   pub system : IsSystem config RUN ports workers
   pub hosted : List Hosted
-  pub asked : Each (IsHostedOf ports instructions) hosted
+  pub asked : AreMatched (IsHostedFrom instructions) ports hosted
   pub worked : List WorkerEnded
-  pub ended : Each (IsEndedOf workers) worked
+  pub ended : AreMatched IsEndOf workers worked
   pub closed : SystemClosed
   pub is_closed : IsClosed RUN (map (λ h. h.end) hosted) worked closed
   pub verdicts : List ℕ
@@ -80,8 +83,7 @@ pub record IsThreaded (config : Config) (instructions : List Instruction) (text 
 pub record IsRan (sample : Bool) (profile : List ℕ) (input : List ℕ) (legal : Bool) (old new : Option (List ℕ)) : Type 0 where
   pub config : Config
   pub instructions : List Instruction
-  pub says : SaysRequests sample profile input config (Ok instructions)
-  pub requests : first_fault config 0 (lines says.body) ≡ None
+  pub checked : AreChecked sample profile input config instructions None
   pub text : List ℕ
   pub threaded : IsThreaded config instructions text legal
   pub written : Appends old new text

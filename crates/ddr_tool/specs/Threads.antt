@@ -1,7 +1,11 @@
--- All ports and workers of a run in threads: what each seat held before, and what it holds afterwards.
-use Rattle.std.specs.Prelude.{◌≡◌, ℕ, List, Some, slice_get, string_bytes}
+-- All ports and workers of a run in threads: what each seat holds before, and what it holds afterwards.
+use Rattle.std.specs.Prelude.{◌≡◌, ℕ, ◌+◌, List, [], ◌∷◌, ◌++◌, map, Option, Some, None, slice_get, string_bytes}
+use Rattle.std.specs.List.{fold}
+use Rattle.ddr_workers.specs.Closing.{AreMatched}
 use Rattle.ddr_workers.specs.Port.{PortState, IsEndOfPort}
 use Rattle.ddr_workers.specs.Worker.{WorkerState, WorkerEnded, IsEndOf}
+use Rattle.ddr_tool.specs.declared.flag.Stop.{Stop}
+use Rattle.ddr_tool.specs.declared.flag.Stop.TheVariants as stops
 use Rattle.ddr_tool.specs.declared.hosting.Hosted.{Hosted}
 use Rattle.ddr_tool.specs.declared.threads.Seat.{Seat}
 use Rattle.ddr_tool.specs.declared.threads.Seat.TheVariants as seats
@@ -9,9 +13,26 @@ use Rattle.ddr_tool.specs.declared.threads.Ended.{Ended}
 use Rattle.ddr_tool.specs.Hosting.{AreAsked, IsNewPort, asks_of, replies_text}
 use Rattle.ddr_tool.specs.Script.{Instruction}
 
--- it holds of each element
-abbrev pub Each : {X : Type 0} → (X → Type 0) → List X → Type 0
-Each P xs = (k : ℕ) (x : _) → slice_get xs k ≡ Some x → P x
+-- each port is a new one, with the number of its place
+abbrev pub AreNewPorts : List PortState → Type 0
+AreNewPorts ports = (k : ℕ) (p : PortState) → slice_get ports k ≡ Some p → IsNewPort k p
+
+-- the seats of ports, whose numbers go on from this one
+abbrev pub port_seats : ℕ → List PortState → List Seat
+port_seats number [] = []
+port_seats number (port ∷ more) = seats.Port number port ∷ port_seats (number + 1) more
+
+-- the seats before any thread begins: those of the workers, and then those of the ports
+abbrev pub seats_of : List PortState → List WorkerState → List Seat
+seats_of ports workers = map seats.Worker workers ++ port_seats 0 ports
+
+-- before its thread begins a seat holds a worker, or a new port with the seat's number
+abbrev pub IsNewSeat : Seat → Type 0
+IsNewSeat (seats.Port number port) = IsNewPort number port
+IsNewSeat (seats.Worker worker) = Unit {0}
+IsNewSeat (seats.PortEnd hosted) = ⊥
+IsNewSeat (seats.WorkerEnd end) = ⊥
+IsNewSeat (seats.Stopped stop) = ⊥
 
 -- What a port's thread leaves: the port's end, after it was asked for what the script says, and the text of its replies
 pub record IsHostedFrom (instructions : List Instruction) (port : PortState) (h : Hosted) : Type 0 where
@@ -19,44 +40,39 @@ pub record IsHostedFrom (instructions : List Instruction) (port : PortState) (h 
   pub asked : AreAsked port.core.geometry h.end.port (asks_of h.end.port instructions) h.end
   pub text : string_bytes h.text ≡ replies_text h.end.port h.end.completions.took h.end.taken
 
--- a new port has its number, and so has a worker
-pub record AreNumbered (ports : List PortState) (workers : List WorkerState) : Type 0 where
-  pub port : (k : ℕ) (p : PortState) → slice_get ports k ≡ Some p → IsNewPort k p
-  pub worker : (k : ℕ) (w : WorkerState) → slice_get workers k ≡ Some w → w.number ≡ k
+-- what a thread leaves of its seat: the end of the port or of the worker that it held, unless it stopped before
+abbrev pub Serves : List Instruction → Seat → Seat → Type 0
+Serves instructions (seats.Port number port) (seats.PortEnd hosted) = IsHostedFrom instructions port hosted
+Serves instructions (seats.Port number port) (seats.Stopped stop) = Unit {0}
+Serves instructions (seats.Worker worker) (seats.WorkerEnd end) = IsEndOf worker end
+Serves instructions (seats.Worker worker) (seats.Stopped stop) = Unit {0}
+Serves instructions before after = ⊥
 
--- the port of a seat, if it has one, is a new one with the seat's number
-abbrev pub IsNewSeat : Seat → Type 0
-IsNewSeat (seats.Port number port) = IsNewPort number port
-IsNewSeat _ = Unit {0}
+-- the end that a seat holds, or why its thread stopped before its end
+abbrev pub hosted_in : Seat → Option Hosted
+hosted_in (seats.PortEnd hosted) = Some hosted
+hosted_in seat = None
 
--- the seat holds one of these ports or workers, before its thread begins
-abbrev pub IsSeated : List PortState → List WorkerState → Seat → Type 0
-IsSeated ports workers (seats.Port number port) = (slice_get ports number ≡ Some port) × IsNewPort number port
-IsSeated ports workers (seats.Worker worker) = slice_get workers worker.number ≡ Some worker
-IsSeated ports workers (seats.PortEnd hosted) = ⊥
-IsSeated ports workers (seats.WorkerEnd end) = ⊥
-IsSeated ports workers (seats.Stopped stop) = ⊥
+abbrev pub ended_in : Seat → Option WorkerEnded
+ended_in (seats.WorkerEnd end) = Some end
+ended_in seat = None
 
--- the end is that of the port of its number, or of the worker of its number
-abbrev pub IsHostedOf : List PortState → List Instruction → Hosted → Type 0
-IsHostedOf ports instructions h = (port : PortState) × (slice_get ports h.end.port ≡ Some port) × IsHostedFrom instructions port h
+abbrev pub stop_in : Seat → Option Stop
+stop_in (seats.Stopped stop) = Some stop
+stop_in seat = None
 
-abbrev pub IsEndedOf : List WorkerState → WorkerEnded → Type 0
-IsEndedOf workers e = (worker : WorkerState) × (slice_get workers e.number ≡ Some worker) × IsEndOf worker e
+-- Why threads stopped, with one more: the first cause stays, but that a thread was told to stop gives way to the next.
+abbrev pub cause_after : Option Stop → Stop → Option Stop
+cause_after None stop = Some stop
+cause_after (Some stops.Told) stop = Some stop
+cause_after (Some stops.OutOfMemory) stop = Some stops.OutOfMemory
+cause_after (Some stops.ClockSpent) stop = Some stops.ClockSpent
+cause_after (Some stops.PortBroken) stop = Some stops.PortBroken
 
--- the seat holds the end of one of them, or its thread stopped before
-abbrev pub IsServed : List PortState → List WorkerState → List Instruction → Seat → Type 0
-IsServed ports workers instructions (seats.Port number port) = ⊥
-IsServed ports workers instructions (seats.Worker worker) = ⊥
-IsServed ports workers instructions (seats.PortEnd hosted) = IsHostedOf ports instructions hosted
-IsServed ports workers instructions (seats.WorkerEnd end) = IsEndedOf workers end
-IsServed ports workers instructions (seats.Stopped stop) = Unit {0}
+abbrev pub first_cause : List Stop → Option Stop
+first_cause stops = fold cause_after None stops
 
--- a thread leaves this seat so
-pub record Serves (instructions : List Instruction) (before after : Seat) : Type 0 where
-  pub ends : (ports : List PortState) (workers : List WorkerState) → IsSeated ports workers before → IsServed ports workers instructions after
-
--- What the threads left
+-- Every thread came to its end: the ends of ports and of workers stand in the order of what they are the ends of.
 pub record AreEnded (ports : List PortState) (workers : List WorkerState) (instructions : List Instruction) (e : Ended) : Type 0 where
-  pub hosted : Each (IsHostedOf ports instructions) e.ports.items
-  pub worked : Each (IsEndedOf workers) e.workers.items
+  pub hosted : AreMatched (IsHostedFrom instructions) ports e.ports.items
+  pub worked : AreMatched IsEndOf workers e.workers.items

@@ -2,7 +2,6 @@
 //!
 //! `input`, `body`, `writing`, `ddr_legality` and `ddr_trace` stand below, and `main` above.
 ghost use Rattle.std.specs.Prelude.{◌≡◌, IfErr, IfOk, IfSome, IsErrOf, IsTrue, string_bytes};
-ghost use Rattle.ddr_trace.specs.Reader.{IsAnswer, records_in, trace_of};
 ghost use Rattle.ddr_trace.specs.declared.checker.Fault as checker;
 ghost use Rattle.ddr_tool.specs.Check.{HasCheckFault, IsChecked, IsVerdict, verdict_text};
 ghost use Rattle.ddr_tool.specs.Fault.{is_before_output};

@@ -1,7 +1,7 @@
 //! The instructions of a whole script.
 //!
 //! `script` stands below, which reads a line; `sim` hands the instructions to a `Simulation`, and `run` to the ports.
-ghost use Rattle.std.specs.Prelude.{◌≡◌, ◌≤◌, IfOk, length, map};
+ghost use Rattle.std.specs.Prelude.{◌≡◌, ◌≤◌, length, map};
 ghost use Rattle.ddr_tool.specs.Instructions.{AreRead, IsRead, instruction_in, instructions_of, is_request, with_instruction, with_line};
 ghost use Rattle.ddr_tool.specs.Lines.{Gives};
 ghost use Rattle.ddr_tool.specs.Script.{view};

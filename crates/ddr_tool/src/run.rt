@@ -1,9 +1,10 @@
 //! A run of a script in threads: bytes in, the replies of each port and a verdict on each channel's trace out.
 //!
 //! Every other module of the program but `sim`, `check` and `map` stands below, and `main` above.
-ghost use Rattle.std.specs.Prelude.{◌≡◌, IfErr, IfOk, IfSome, map, string_bytes};
+ghost use Rattle.std.specs.Prelude.{◌≡◌, IfErr, IfOk, IfSome, None, map, string_bytes};
+ghost use Rattle.ddr_tool.specs.Input.{IsText};
 ghost use Rattle.ddr_tool.specs.Script.{view};
-ghost use Rattle.ddr_tool.specs.Started.{HasRunFault, IsRan, IsThreaded};
+ghost use Rattle.ddr_tool.specs.Started.{AreChecked, HasRunFault, IsRan, IsThreaded};
 
 use crate::body::open;
 use crate::fault::Fault;
@@ -17,7 +18,7 @@ use crate::threads::run_all;
 use crate::writing::write_whole;
 use ddr_timing::config::Config;
 use ddr_timing::profile::PROFILE_S;
-use ddr_workers::closing::ends_of_one_open;
+use ddr_workers::closing::{CloseError, all_ends_of_one_open};
 use ddr_workers::{close, open as open_system};
 use std::alloc::Global;
 use std::io::{Read, Write};
@@ -53,6 +54,22 @@ pub fn run<H: Threads + Wait + Sync, R: Read, W: Write>(
 {
     let input = read_input(alloc, reader)?;
     let text = text_of(input.as_slice())?;
+    let (config, instructions) = read_requests(alloc, sample, text)?;
+    let (text, legal) = run_threads(rt, alloc, &config, instructions.as_slice())?;
+    write_whole(writer, text.as_str())?;
+    Ok(legal)
+}
+
+/// The configuration of a text, and its script's instructions, each of which asks for what a port takes.
+fn read_requests(
+    alloc: Global,
+    sample: bool,
+    text: &str,
+) -> Result<(Config, Vec<Instruction>), Fault>
+    requires { IsText text.now }
+    ensures ok { IfOk result (λ read. AreChecked sample PROFILE_S.now text.now read.0 (map view read.1.items) None) }
+    ensures err { IfErr result (HasRunFault sample PROFILE_S.now text.now) }
+{
     let (config, body) = open(alloc, sample, text)?;
     let form = Form {
         ports: config.limits.ports,
@@ -60,9 +77,7 @@ pub fn run<H: Threads + Wait + Sync, R: Read, W: Write>(
     };
     let instructions = instructions_of(alloc, form, body)?;
     check_requests(alloc, &config, body)?;
-    let (text, legal) = run_threads(rt, alloc, &config, instructions.as_slice())?;
-    write_whole(writer, text.as_str())?;
-    Ok(legal)
+    Ok((config, instructions))
 }
 
 /// Runs a script that was checked, and gives the text that is to be written, and whether all traces are legal.
@@ -78,10 +93,12 @@ fn run_threads<H: Threads + Wait + Sync>(
     let (ports, workers) = open_system(alloc, config, RUN)?;
     let ended = run_all(rt, alloc, instructions, ports, workers)?;
     let replies = replies_of(alloc, ended.ports)?;
-    ends_of_one_open();
-    // The ends of all ports and channels are there, so only want of memory is left.
-    let Ok(closed) = close(rt, alloc, RUN, replies.ends, ended.workers) else {
-        return Err(Stop::OutOfMemory);
+    all_ends_of_one_open();
+    let closed = match close(rt, alloc, RUN, replies.ends, ended.workers) {
+        Ok(closed) => closed,
+        Err(CloseError::OutOfMemory(_)) => return Err(Stop::OutOfMemory),
+        Err(CloseError::Foreign(_)) => unreachable!(),
+        Err(CloseError::Missing(_)) => unreachable!(),
     };
     let (verdicts, legal) = verdicts_of(alloc, config, closed.traces.as_slice())?;
     let mut text = replies.text;

@@ -3,11 +3,11 @@
 //! Nothing of the program stands below, and `ddr_trace` reads the numbers. A line that does something is an
 //! instruction: a word and its fields, with one or more spaces between two. Other lines are empty, or comments, which
 //! begin with `#`.
-ghost use Rattle.std.specs.Prelude.{◌≡◌, ◌≤◌, ◌<◌, IfOk, map, vec_len};
+ghost use Rattle.std.specs.Prelude.{◌≡◌, ◌≤◌, ◌<◌, IfOk, map};
 ghost use Rattle.ddr_trace.specs.Numbers.{number_of};
 ghost use Rattle.ddr_tool.specs.declared.script.LineError.TheVariants.{OutOfMemory};
 ghost use Rattle.ddr_tool.specs.Lines.{Gives};
-ghost use Rattle.ddr_tool.specs.Script.{LARGEST, bytes_of, cycle_of, enable_of, fields_of, has_space_at_end, instruction_of, is_skipped, just_bytes_of, masked_of, of_five, of_four, of_two, port_of, read_of, view, write_of};
+ghost use Rattle.ddr_tool.specs.Script.{LARGEST, bytes_of, cycle_of, enable_of, fields_of, instruction_of, is_skipped, just_bytes_of, masked_of, of_five, of_four, of_two, port_of, read_of, view, write_of};
 
 use ddr_address_map::request::Line;
 use ddr_timing::units::LINE_BYTES;

@@ -1,7 +1,7 @@
 //! A run of a script over the core: its instructions, its rounds and its Ends.
 //!
 //! `script`, `reply`, `writing` and `ddr_world` stand below, and `sim` above.
-ghost use Rattle.std.specs.Prelude.{◌≡◌, ◌==◌, ◌+◌, ◌-◌, ◌<◌, ◌≤◌, ◌^◌, ◌⊎◌, ◌↔◌, [], true, IfErr, IfOk, IfSome, IsTrue, OnOk, None, Ok, Some, is_some, length, map};
+ghost use Rattle.std.specs.Prelude.{◌≡◌, ◌==◌, ◌+◌, ◌-◌, ◌<◌, ◌≤◌, ◌^◌, ◌⊎◌, [], true, IfErr, IfOk, IsTrue, OnOk, Ok, Some, map};
 ghost use Rattle.std.specs.Io.KnownBytes.{Appends};
 ghost use Rattle.ddr_ports.specs.Asked.{asked_of};
 ghost use Rattle.ddr_world.specs.Answer.{IsAnswered};

@@ -1,12 +1,11 @@
 //! All ports and workers of a run, each in a thread of its own.
 //!
 //! `hosting`, `flag` and `ddr_workers` stand below; `run` opens the system, hands it in here and closes it.
-ghost use Rattle.std.specs.Prelude.{◌≡◌, ◌<◌, ◌^◌, ℕ, List, IfOk, OnOk, Some, length, map, slice_get, slice_index_or};
-ghost use Rattle.ddr_workers.specs.Port.{PortState};
-ghost use Rattle.ddr_workers.specs.Worker.{WorkerState};
-ghost use Rattle.ddr_tool.specs.Hosting.{IsNewPort};
-ghost use Rattle.ddr_tool.specs.Script.{Instruction as Step, view};
-ghost use Rattle.ddr_tool.specs.Threads.{AreEnded, AreNumbered, Each, IsNewSeat, IsSeated, IsServed, Serves};
+ghost use Rattle.std.specs.Prelude.{◌≡◌, ◌++◌, ◌<◌, ◌^◌, ℕ, IfOk, OnOk, Some, length, map, slice_get, slice_index_or};
+ghost use Rattle.std.specs.List.{filter_map, fold};
+ghost use Rattle.std.specs.Option.{option_to_list};
+ghost use Rattle.ddr_tool.specs.Script.{view};
+ghost use Rattle.ddr_tool.specs.Threads.{AreEnded, AreNewPorts, IsNewSeat, Serves, cause_after, ended_in, first_cause, hosted_in, port_seats, seats_of, stop_in};
 
 use crate::flag::{Flag, Stop, Watch};
 use crate::hosting::{Hosted, run_port};
@@ -38,7 +37,8 @@ pub struct Ended {
 impl Ended {
     /// Adds the end that a seat holds, if it holds one.
     fn add(&mut self, seat: Seat) -> Result<(), AllocError>
-        ensures { OnOk result ((ports : List PortState) (workers : List WorkerState) (instructions : List Step) → IsServed ports workers instructions seat → AreEnded ports workers instructions self.old → AreEnded ports workers instructions self.new) }
+        ensures ports { OnOk result (self.new.ports.items ≡ self.old.ports.items ++ option_to_list (hosted_in seat)) }
+        ensures workers { OnOk result (self.new.workers.items ≡ self.old.workers.items ++ option_to_list (ended_in seat)) }
     {
         match seat {
             Seat::PortEnd(hosted) => self.ports.push(hosted)?,
@@ -61,7 +61,7 @@ pub fn run_all<R: Threads + Wait + Sync>(
     workers: Vec<Worker>,
 ) -> Result<Ended, Stop>
     requires few { length ports.items < 2 ^ 32 }
-    requires numbers { AreNumbered ports.items workers.items }
+    requires numbers { AreNewPorts ports.items }
     ensures { IfOk result (AreEnded ports.items workers.items (map view instructions.now)) }
 {
     let mut seats = seated(alloc, ports, workers)?;
@@ -75,8 +75,7 @@ pub fn run_all<R: Threads + Wait + Sync>(
 /// A seat for each worker, in order, and then for each port.
 fn seated(alloc: Global, ports: Vec<Port>, workers: Vec<Worker>) -> Result<Vec<Seat>, AllocError>
     requires few { length ports.items < 2 ^ 32 }
-    requires numbers { AreNumbered ports.items workers.items }
-    ensures { IfOk result (λ seats. Each (IsSeated ports.items workers.items) seats.items) }
+    ensures { IfOk result (λ seats. seats.items ≡ seats_of ports.items workers.items) }
 {
     let mut seats = Vec::new(alloc);
     seat_workers(&mut seats, workers)?;
@@ -86,8 +85,7 @@ fn seated(alloc: Global, ports: Vec<Port>, workers: Vec<Worker>) -> Result<Vec<S
 
 /// Adds a seat for each worker.
 fn seat_workers(seats: &mut Vec<Seat>, workers: Vec<Worker>) -> Result<(), AllocError>
-    requires { (k : ℕ) (w : WorkerState) → slice_get workers.items k ≡ Some w → w.number ≡ k }
-    ensures { OnOk result ((ports : List PortState) → Each (IsSeated ports workers.items) seats.old.items → Each (IsSeated ports workers.items) seats.new.items) }
+    ensures { OnOk result (seats.new.items ≡ seats.old.items ++ map Seat.Worker workers.items) }
 {
     for worker in workers {
         seats.push(Seat::Worker(worker))?;
@@ -97,9 +95,8 @@ fn seat_workers(seats: &mut Vec<Seat>, workers: Vec<Worker>) -> Result<(), Alloc
 
 /// Adds a seat for each port.
 fn seat_ports(seats: &mut Vec<Seat>, ports: Vec<Port>) -> Result<(), AllocError>
-    requires few { length ports.items < 2 ^ 32 }
-    requires numbers { (k : ℕ) (p : PortState) → slice_get ports.items k ≡ Some p → IsNewPort k p }
-    ensures { OnOk result ((workers : List WorkerState) → Each (IsSeated ports.items workers) seats.old.items → Each (IsSeated ports.items workers) seats.new.items) }
+    requires { length ports.items < 2 ^ 32 }
+    ensures { OnOk result (seats.new.items ≡ seats.old.items ++ port_seats 0 ports.items) }
 {
     let mut number = 0;
     for port in ports {
@@ -116,7 +113,7 @@ fn run_seats<R: Threads + Wait + Sync>(
     instructions: &[Instruction],
     seats: &mut [Seat],
 )
-    requires { Each IsNewSeat seats.old }
+    requires { (k : ℕ) (s : Seat) → slice_get seats.old k ≡ Some s → IsNewSeat s }
     ensures same { length seats.new ≡ length seats.old }
     ensures served { (i : ℕ) (d : Seat) → i < length seats.old → Serves (map view instructions.now) (slice_index_or seats.old i d) (slice_index_or seats.new i d) }
 {
@@ -161,7 +158,7 @@ fn served<R: Wait>(
             Ok(end) => Seat::WorkerEnd(end),
             Err(left) => stopped(flag, stop_of(left.cause)),
         },
-        other => other,
+        Seat::PortEnd(_) | Seat::WorkerEnd(_) | Seat::Stopped(_) => unreachable!(),
     }
 }
 
@@ -183,21 +180,40 @@ fn stop_of(cause: Cause) -> Stop {
 }
 
 /// Why the first thread stopped that stopped before its end, but for those that were told to, where there are others.
-fn first_stop(seats: &[Seat]) -> Option<Stop> {
-    let mut told = None;
+fn first_stop(seats: &[Seat]) -> Option<Stop>
+    ensures { result ≡ first_cause (filter_map stop_in seats.now) }
+{
+    let mut cause = None;
     for seat in seats {
-        match seat {
-            Seat::Stopped(Stop::Told) => told = Some(Stop::Told),
-            Seat::Stopped(stop) => return Some(*stop),
-            _ => {}
-        }
+        cause = cause_with(cause, seat);
     }
-    told
+    cause
+}
+
+/// Why threads stopped, with that of one more seat.
+fn cause_with(cause: Option<Stop>, seat: &Seat) -> Option<Stop>
+    ensures { result ≡ fold cause_after cause (option_to_list (stop_in seat.now)) }
+{
+    match seat {
+        Seat::Stopped(stop) => cause_after(cause, *stop),
+        _ => cause,
+    }
+}
+
+/// Why threads stopped, with one more that did.
+fn cause_after(cause: Option<Stop>, stop: Stop) -> Option<Stop>
+    ensures { result ≡ cause_after cause stop }
+{
+    match cause {
+        None | Some(Stop::Told) => Some(stop),
+        first => first,
+    }
 }
 
 /// The ends of ports and workers, in the order of their seats.
 fn ends_of(alloc: Global, seats: Vec<Seat>) -> Result<Ended, AllocError>
-    ensures { IfOk result (λ ended. (ports : List PortState) (workers : List WorkerState) (instructions : List Step) → Each (IsServed ports workers instructions) seats.items → AreEnded ports workers instructions ended) }
+    ensures ports { IfOk result (λ ended. ended.ports.items ≡ filter_map hosted_in seats.items) }
+    ensures workers { IfOk result (λ ended. ended.workers.items ≡ filter_map ended_in seats.items) }
 {
     let mut ended = Ended {
         ports: Vec::new(alloc),

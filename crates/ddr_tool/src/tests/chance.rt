@@ -4,7 +4,7 @@
 //! So a line that one port alone uses is known exactly. Of a byte that all ports write, what a port reads goes forward
 //! along that order: it is what the port last read or wrote there, or a value that comes later, by a write of
 //! another port, and by a later one than those of that port that it read before.
-ghost use Rattle.std.specs.Prelude.{◌≡◌, ◌+◌, ◌<◌, ◌≤◌};
+ghost use Rattle.std.specs.Prelude.{◌+◌, ◌<◌, ◌≤◌};
 
 use crate::run::run;
 use ddr_address_map::request::Line;

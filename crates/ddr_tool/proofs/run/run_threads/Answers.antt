@@ -1,24 +1,29 @@
-use Rattle.std.proofs.Common.{◌++◌, List, map, string_bytes, sym, subst, ap₂, ◌∙◌}
+use Rattle.std.proofs.Common.{rules, ◌++◌, List, map, string_bytes, sym, subst, ap₂, ◌∙◌}
+use Rattle.std.proofs.lemmas.Bool.{false≢true}
 use Rattle.ddr_trace.specs.Traces.{Recorded}
-use Rattle.ddr_workers.specs.Closing.{AreEndsOf, IsClosed}
+use Rattle.ddr_workers.specs.Closing.{IsClosed}
 use Rattle.ddr_workers.specs.Port.{PortEnded}
 use Rattle.ddr_tool.specs.declared.run.TheConstants.{RUN}
 use Rattle.ddr_tool.specs.Outcome.{AreVerdicts}
 use Rattle.ddr_tool.specs.Script.{view}
-use Rattle.ddr_tool.proofs.OutcomeLemmas.{ends_are, numbered}
+use Rattle.ddr_tool.proofs.OutcomeLemmas.{complete, new_ports}
 use Rattle.ddr_tool.proofs.run.run_threads.Goals as goal
 
 pub run_all-requires-clause-numbers : goal.run_all-requires-clause-numbers
-run_all-requires-clause-numbers g c κs outlives = numbered c.args.config.now RUN c.in_ok-ports.ports.items c.in_ok-ports.workers.items c.in_ok-ports.ensures
+run_all-requires-clause-numbers g c κs outlives = new_ports c.args.config.now RUN c.in_ok-ports.ports.items c.in_ok-ports.workers.items c.in_ok-ports.ensures
 
 pub close-requires : goal.close-requires
-close-requires g c =
-    let ports = c.in_ok-ports.ports.items in
-    let workers = c.in_ok-ports.workers.items in
-    let worked = c.in_ok-ended.ended.workers.items in
-    c.ends_of_one_open.ensures c.args.config.now RUN ports workers c.in_ok-replies.replies.ends.items worked c.in_ok-ports.ensures
-    (subst (λ (es : List PortEnded). AreEndsOf ports workers es worked) (sym c.in_ok-replies.ensures.ends)
-    (ends_are ports workers (map view c.args.instructions.now) c.in_ok-ended.ended.ports.items worked c.in_ok-ended.ensures.hosted c.in_ok-ended.ensures.worked))
+close-requires g c = (complete c.all_ends_of_one_open.ensures c.args.config.now (map view c.args.instructions.now) c.in_ok-ports.ports.items c.in_ok-ports.workers.items c.in_ok-ended.ended c.in_ok-replies.replies.ends.items (search rules) (search rules) c.in_ok-ports.ensures c.in_ok-ended.ensures c.in_ok-replies.ensures.ends).one
+
+pub unreachable-requires : goal.unreachable-requires
+unreachable-requires g c =
+    let ends = complete c.all_ends_of_one_open.ensures c.args.config.now (map view c.args.instructions.now) c.in_ok-ports.ports.items c.in_ok-ports.workers.items c.in_ok-ended.ended c.in_ok-replies.replies.ends.items (search rules) (search rules) c.in_ok-ports.ensures c.in_ok-ended.ensures c.in_ok-replies.ensures.ends in
+    false≢true (sym ends.own ∙ (rw c.in-Err-Foreign.field-0-is at c.in-Err-Foreign.ensures.err).0)
+
+pub unreachable-requires-in-Err-Missing : goal.unreachable-requires-in-Err-Missing
+unreachable-requires-in-Err-Missing g c =
+    let ends = complete c.all_ends_of_one_open.ensures c.args.config.now (map view c.args.instructions.now) c.in_ok-ports.ports.items c.in_ok-ports.workers.items c.in_ok-ended.ended c.in_ok-replies.replies.ends.items (search rules) (search rules) c.in_ok-ports.ensures c.in_ok-ended.ensures c.in_ok-replies.ensures.ends in
+    false≢true (sym ends.whole ∙ (rw c.in-Err-Missing.field-0-is at c.in-Err-Missing.ensures.err).1)
 
 pub returns : goal.returns
 returns g c =
