@@ -7,6 +7,7 @@ ghost use Rattle.ddr_arbiter.specs.Choice.{passes_at};
 use crate::choice::{Choice, choose};
 use crate::commands::command_of;
 use crate::policy::Policy;
+use Step::{Act, Cap, Chooses, Drain, Pre, PreAll, Rd, Refresh, Remove, Room};
 use ddr_address_map::place::Place;
 use ddr_address_map::request::{Echo, Kind, Req};
 use ddr_hazards::pending::Pending;
@@ -17,6 +18,7 @@ use ddr_timing::profile::PROFILE_S;
 use ddr_timing::units::CLOCK_STOP;
 use ddr_trace::command::Command;
 use std::alloc::Global;
+use std::process::Abort;
 use std::test::Fail;
 
 const PROFILE_POLICY: Policy = Policy {
@@ -194,172 +196,252 @@ fn read(group: u32, bank: u32, row: u32, line: u32) -> Command {
     }
 }
 
+/// What happens to a scene, or is asked of it.
+#[derive(Clone, Copy)]
+enum Step {
+    /// The scheduler's choice in a cycle.
+    Chooses(u32, Choice),
+    /// An ACT of a row: its cycle, group, bank and row.
+    Act(u64, u32, u32, u32),
+    /// A PRE of a bank: its cycle, group and bank.
+    Pre(u64, u32, u32),
+    /// An RD of a line: its cycle, group, bank, row and line.
+    Rd(u64, u32, u32, u32, u32),
+    PreAll(u64),
+    Refresh(u64),
+    /// The request at this place is removed.
+    Remove(usize),
+    /// Whether writes are drained from here on.
+    Drain(bool),
+    /// Whether there is room for a column command from here on.
+    Room(bool),
+    /// The age cap from here on.
+    Cap(u32),
+}
+
+impl Scene {
+    /// Takes the steps, in order.
+    fn play(&mut self, rt: &impl Abort, steps: &[Step]) -> Result<(), Fail> {
+        for step in steps {
+            self.take(rt, *step)?;
+        }
+        Ok(())
+    }
+
+    fn take(&mut self, rt: &impl Abort, step: Step) -> Result<(), Fail> {
+        match step {
+            Chooses(cycle, choice) => self.chooses(rt, cycle, choice),
+            Act(cycle, group, bank, row) => self.issue(cycle, activate(group, bank, row)),
+            Pre(cycle, group, bank) => self.issue(cycle, precharge(group, bank)),
+            Rd(cycle, group, bank, row, line) => self.issue(cycle, read(group, bank, row, line)),
+            PreAll(cycle) => self.issue(cycle, Command::PreAll { rank: 0 }),
+            Refresh(cycle) => self.issue(cycle, Command::Refresh { rank: 0 }),
+            Remove(place) => self.remove(place),
+            Drain(drain) => {
+                self.drain = drain;
+                Ok(())
+            }
+            Room(room) => {
+                self.room = room;
+                Ok(())
+            }
+            Cap(cap) => {
+                self.policy.cap = cap;
+                Ok(())
+            }
+        }
+    }
+
+    /// That the scheduler chooses so in a cycle.
+    fn chooses(&mut self, rt: &impl Abort, cycle: u32, choice: Choice) -> Result<(), Fail> {
+        assert_eq!(rt; self.choice(cycle)?, choice, "at {cycle}");
+        Ok(())
+    }
+
+    fn remove(&mut self, place: usize) -> Result<(), Fail> {
+        match self.pending.remove(place) {
+            Some(_) => Ok(()),
+            None => Err("no request is pending there".into()),
+        }
+    }
+}
+
+/// A request of a scene: its kind, and the group, bank, row and line that it is of.
+type Asked = (Kind, u32, u32, u32, u32);
+
+/// A scene in which requests were admitted, in order.
+fn scene_of(alloc: Global, requests: &[Asked]) -> Result<Scene, Fail> {
+    let mut scene = Scene::open(alloc)?;
+    for (kind, group, bank, row, line) in requests {
+        scene.admit(alloc, *kind, *group, *bank, *row, *line)?;
+    }
+    Ok(scene)
+}
+
 #[test]
 fn younger_row_hit_first(rt: HostRuntime) -> Result<(), Fail> {
-    let alloc = rt.alloc();
-    let mut scene = Scene::open(alloc)?;
-    scene.admit(alloc, Kind::Read, 0, 0, 1, 0)?;
-    scene.admit(alloc, Kind::Read, 0, 0, 0, 1)?;
-    scene.issue(0, activate(0, 0, 0))?;
-    scene.issue(4, read(0, 0, 0, 0))?;
-    // CCD_L holds the read up to cycle 9, and the row that it wants stays open
-    assert_eq!(rt; scene.choice(8)?, Choice::Nothing);
-    assert_eq!(rt; scene.choice(9)?, Choice::Column { place: 1 });
-    scene.issue(9, read(0, 0, 0, 1))?;
-    assert!(rt; scene.pending.remove(1).is_some());
-    // RTP holds the PRE up to cycle 12
-    assert_eq!(rt; scene.choice(11)?, Choice::Nothing);
-    assert_eq!(rt; scene.choice(12)?, Choice::Pre { place: 0 });
-    scene.issue(12, precharge(0, 0))?;
-    // RP holds the ACT up to cycle 16, and RCD the read up to 20
-    assert_eq!(rt; scene.choice(15)?, Choice::Nothing);
-    assert_eq!(rt; scene.choice(16)?, Choice::Act { place: 0 });
-    scene.issue(16, activate(0, 0, 1))?;
-    assert_eq!(rt; scene.choice(19)?, Choice::Nothing);
-    assert_eq!(rt; scene.choice(20)?, Choice::Column { place: 0 });
-    Ok(())
+    let requests = [(Kind::Read, 0, 0, 1, 0), (Kind::Read, 0, 0, 0, 1)];
+    let mut scene = scene_of(rt.alloc(), &requests)?;
+    let steps = [
+        Act(0, 0, 0, 0),
+        Rd(4, 0, 0, 0, 0),
+        // CCD_L holds the read up to cycle 9, and the row that it wants stays open
+        Chooses(8, Choice::Nothing),
+        Chooses(9, Choice::Column { place: 1 }),
+        Rd(9, 0, 0, 0, 1),
+        Remove(1),
+        // RTP holds the PRE up to cycle 12
+        Chooses(11, Choice::Nothing),
+        Chooses(12, Choice::Pre { place: 0 }),
+        Pre(12, 0, 0),
+        // RP holds the ACT up to cycle 16, and RCD the read up to 20
+        Chooses(15, Choice::Nothing),
+        Chooses(16, Choice::Act { place: 0 }),
+        Act(16, 0, 0, 1),
+        Chooses(19, Choice::Nothing),
+        Chooses(20, Choice::Column { place: 0 }),
+    ];
+    scene.play(&rt, &steps)
 }
 
 #[test]
 fn oldest_alone_from_the_cap_on(rt: HostRuntime) -> Result<(), Fail> {
-    let alloc = rt.alloc();
-    let mut scene = Scene::open(alloc)?;
-    scene.admit(alloc, Kind::Read, 0, 0, 1, 0)?;
-    scene.admit(alloc, Kind::Read, 0, 0, 0, 1)?;
-    scene.issue(0, activate(0, 0, 0))?;
-    scene.policy.cap = 10;
-    assert_eq!(rt; scene.choice(9)?, Choice::Column { place: 1 });
-    // the age is the cap, and RAS is over
-    assert_eq!(rt; scene.choice(10)?, Choice::Pre { place: 0 });
-    scene.policy.cap = 11;
-    assert_eq!(rt; scene.choice(10)?, Choice::Column { place: 1 });
-    Ok(())
+    let requests = [(Kind::Read, 0, 0, 1, 0), (Kind::Read, 0, 0, 0, 1)];
+    let mut scene = scene_of(rt.alloc(), &requests)?;
+    let steps = [
+        Act(0, 0, 0, 0),
+        Cap(10),
+        Chooses(9, Choice::Column { place: 1 }),
+        // the age is the cap, and RAS is over
+        Chooses(10, Choice::Pre { place: 0 }),
+        Cap(11),
+        Chooses(10, Choice::Column { place: 1 }),
+    ];
+    scene.play(&rt, &steps)
 }
 
 #[test]
 fn every_row_is_opened_anew_with_a_cap_of_one(rt: HostRuntime) -> Result<(), Fail> {
-    let alloc = rt.alloc();
-    let mut scene = Scene::open(alloc)?;
-    scene.policy.cap = 1;
-    scene.admit(alloc, Kind::Read, 0, 0, 0, 0)?;
-    scene.admit(alloc, Kind::Read, 0, 0, 1, 0)?;
-    scene.admit(alloc, Kind::Read, 0, 0, 0, 1)?;
-    assert_eq!(rt; scene.choice(0)?, Choice::Act { place: 0 });
-    scene.issue(0, activate(0, 0, 0))?;
-    assert_eq!(rt; scene.choice(4)?, Choice::Column { place: 0 });
-    scene.issue(4, read(0, 0, 0, 0))?;
-    assert!(rt; scene.pending.remove(0).is_some());
-    // the younger row hit waits, and RAS holds the PRE up to cycle 10
-    assert_eq!(rt; scene.choice(9)?, Choice::Nothing);
-    assert_eq!(rt; scene.choice(10)?, Choice::Pre { place: 0 });
-    scene.issue(10, precharge(0, 0))?;
-    // RP and RC hold the ACT up to cycle 14
-    assert_eq!(rt; scene.choice(13)?, Choice::Nothing);
-    assert_eq!(rt; scene.choice(14)?, Choice::Act { place: 0 });
-    scene.issue(14, activate(0, 0, 1))?;
-    assert_eq!(rt; scene.choice(18)?, Choice::Column { place: 0 });
-    scene.issue(18, read(0, 0, 1, 0))?;
-    assert!(rt; scene.pending.remove(0).is_some());
-    assert_eq!(rt; scene.choice(23)?, Choice::Nothing);
-    assert_eq!(rt; scene.choice(24)?, Choice::Pre { place: 0 });
-    scene.issue(24, precharge(0, 0))?;
-    assert_eq!(rt; scene.choice(28)?, Choice::Act { place: 0 });
-    scene.issue(28, activate(0, 0, 0))?;
-    assert_eq!(rt; scene.choice(31)?, Choice::Nothing);
-    assert_eq!(rt; scene.choice(32)?, Choice::Column { place: 0 });
-    Ok(())
+    let requests = [
+        (Kind::Read, 0, 0, 0, 0),
+        (Kind::Read, 0, 0, 1, 0),
+        (Kind::Read, 0, 0, 0, 1),
+    ];
+    let mut scene = scene_of(rt.alloc(), &requests)?;
+    let steps = [
+        Cap(1),
+        Chooses(0, Choice::Act { place: 0 }),
+        Act(0, 0, 0, 0),
+        Chooses(4, Choice::Column { place: 0 }),
+        Rd(4, 0, 0, 0, 0),
+        Remove(0),
+        // the younger row hit waits, and RAS holds the PRE up to cycle 10
+        Chooses(9, Choice::Nothing),
+        Chooses(10, Choice::Pre { place: 0 }),
+        Pre(10, 0, 0),
+        // RP and RC hold the ACT up to cycle 14
+        Chooses(13, Choice::Nothing),
+        Chooses(14, Choice::Act { place: 0 }),
+        Act(14, 0, 0, 1),
+        Chooses(18, Choice::Column { place: 0 }),
+        Rd(18, 0, 0, 1, 0),
+        Remove(0),
+        Chooses(23, Choice::Nothing),
+        Chooses(24, Choice::Pre { place: 0 }),
+        Pre(24, 0, 0),
+        Chooses(28, Choice::Act { place: 0 }),
+        Act(28, 0, 0, 0),
+        Chooses(31, Choice::Nothing),
+        Chooses(32, Choice::Column { place: 0 }),
+    ];
+    scene.play(&rt, &steps)
 }
 
 #[test]
 fn write_waits_for_an_older_read_of_its_line(rt: HostRuntime) -> Result<(), Fail> {
-    let alloc = rt.alloc();
-    let mut scene = Scene::open(alloc)?;
-    scene.drain = true;
-    scene.admit(alloc, Kind::Read, 0, 0, 0, 0)?;
-    scene.admit(alloc, Kind::Write, 0, 0, 0, 0)?;
-    assert_eq!(rt; scene.choice(0)?, Choice::Act { place: 0 });
-    scene.issue(0, activate(0, 0, 0))?;
-    assert_eq!(rt; scene.choice(4)?, Choice::Column { place: 0 });
-    scene.issue(4, read(0, 0, 0, 0))?;
-    assert!(rt; scene.pending.remove(0).is_some());
-    // RTW holds the write up to cycle 11
-    assert_eq!(rt; scene.choice(10)?, Choice::Nothing);
-    assert_eq!(rt; scene.choice(11)?, Choice::Column { place: 0 });
-    Ok(())
+    let requests = [(Kind::Read, 0, 0, 0, 0), (Kind::Write, 0, 0, 0, 0)];
+    let mut scene = scene_of(rt.alloc(), &requests)?;
+    let steps = [
+        Drain(true),
+        Chooses(0, Choice::Act { place: 0 }),
+        Act(0, 0, 0, 0),
+        Chooses(4, Choice::Column { place: 0 }),
+        Rd(4, 0, 0, 0, 0),
+        Remove(0),
+        // RTW holds the write up to cycle 11
+        Chooses(10, Choice::Nothing),
+        Chooses(11, Choice::Column { place: 0 }),
+    ];
+    scene.play(&rt, &steps)
 }
 
 #[test]
 fn read_waits_for_an_older_write_of_its_line(rt: HostRuntime) -> Result<(), Fail> {
-    let alloc = rt.alloc();
-    let mut scene = Scene::open(alloc)?;
-    scene.admit(alloc, Kind::Write, 0, 0, 0, 0)?;
-    scene.admit(alloc, Kind::Read, 0, 0, 0, 0)?;
-    scene.issue(0, activate(0, 0, 0))?;
-    assert_eq!(rt; scene.choice(4)?, Choice::Column { place: 0 });
-    Ok(())
+    let requests = [(Kind::Write, 0, 0, 0, 0), (Kind::Read, 0, 0, 0, 0)];
+    let mut scene = scene_of(rt.alloc(), &requests)?;
+    let steps = [Act(0, 0, 0, 0), Chooses(4, Choice::Column { place: 0 })];
+    scene.play(&rt, &steps)
 }
 
 #[test]
 fn idle_rank_is_refreshed_when_one_is_due(rt: HostRuntime) -> Result<(), Fail> {
-    let alloc = rt.alloc();
-    let mut scene = Scene::open(alloc)?;
-    assert_eq!(rt; scene.choice(199)?, Choice::Nothing);
-    assert_eq!(rt; scene.choice(200)?, Choice::Refresh);
-    Ok(())
+    let mut scene = scene_of(rt.alloc(), &[])?;
+    let steps = [Chooses(199, Choice::Nothing), Chooses(200, Choice::Refresh)];
+    scene.play(&rt, &steps)
 }
 
 #[test]
 fn refresh_is_put_off_twice_and_then_forced(rt: HostRuntime) -> Result<(), Fail> {
-    let alloc = rt.alloc();
-    let mut scene = Scene::open(alloc)?;
-    scene.admit(alloc, Kind::Read, 0, 0, 0, 0)?;
-    scene.issue(0, activate(0, 0, 0))?;
-    assert_eq!(rt; scene.choice(599)?, Choice::Column { place: 0 });
-    scene.issue(599, read(0, 0, 0, 0))?;
-    // RTP holds PREA up to cycle 602, and RP holds REF up to 606
-    assert_eq!(rt; scene.choice(601)?, Choice::Nothing);
-    assert_eq!(rt; scene.choice(602)?, Choice::PreAll);
-    scene.issue(602, Command::PreAll { rank: 0 })?;
-    assert_eq!(rt; scene.choice(605)?, Choice::Nothing);
-    assert_eq!(rt; scene.choice(606)?, Choice::Refresh);
-    scene.issue(606, Command::Refresh { rank: 0 })?;
-    // two are owed, so the read goes on as soon as RFC is over
-    assert_eq!(rt; scene.choice(625)?, Choice::Nothing);
-    assert_eq!(rt; scene.choice(626)?, Choice::Act { place: 0 });
-    scene.issue(626, activate(0, 0, 0))?;
-    assert_eq!(rt; scene.choice(630)?, Choice::Column { place: 0 });
-    assert_eq!(rt; scene.choice(795)?, Choice::Column { place: 0 });
-    scene.issue(795, read(0, 0, 0, 0))?;
-    // the fourth falls due in cycle 800
-    assert_eq!(rt; scene.choice(799)?, Choice::Nothing);
-    assert_eq!(rt; scene.choice(800)?, Choice::PreAll);
-    scene.issue(800, Command::PreAll { rank: 0 })?;
-    assert_eq!(rt; scene.choice(803)?, Choice::Nothing);
-    assert_eq!(rt; scene.choice(804)?, Choice::Refresh);
-    Ok(())
+    let mut scene = scene_of(rt.alloc(), &[(Kind::Read, 0, 0, 0, 0)])?;
+    let steps = [
+        Act(0, 0, 0, 0),
+        Chooses(599, Choice::Column { place: 0 }),
+        Rd(599, 0, 0, 0, 0),
+        // RTP holds PREA up to cycle 602, and RP holds REF up to 606
+        Chooses(601, Choice::Nothing),
+        Chooses(602, Choice::PreAll),
+        PreAll(602),
+        Chooses(605, Choice::Nothing),
+        Chooses(606, Choice::Refresh),
+        Refresh(606),
+        // two are owed, so the read goes on as soon as RFC is over
+        Chooses(625, Choice::Nothing),
+        Chooses(626, Choice::Act { place: 0 }),
+        Act(626, 0, 0, 0),
+        Chooses(630, Choice::Column { place: 0 }),
+        Chooses(795, Choice::Column { place: 0 }),
+        Rd(795, 0, 0, 0, 0),
+        // the fourth falls due in cycle 800
+        Chooses(799, Choice::Nothing),
+        Chooses(800, Choice::PreAll),
+        PreAll(800),
+        Chooses(803, Choice::Nothing),
+        Chooses(804, Choice::Refresh),
+    ];
+    scene.play(&rt, &steps)
 }
 
 #[test]
 fn read_goes_before_an_older_write_until_writes_drain(rt: HostRuntime) -> Result<(), Fail> {
-    let alloc = rt.alloc();
-    let mut scene = Scene::open(alloc)?;
-    scene.admit(alloc, Kind::Write, 0, 0, 0, 0)?;
-    scene.admit(alloc, Kind::Read, 1, 0, 0, 0)?;
-    assert_eq!(rt; scene.choice(0)?, Choice::Act { place: 1 });
-    scene.drain = true;
-    assert_eq!(rt; scene.choice(0)?, Choice::Act { place: 0 });
-    scene.drain = false;
-    scene.issue(0, activate(1, 0, 0))?;
-    assert_eq!(rt; scene.choice(4)?, Choice::Column { place: 1 });
-    scene.issue(4, read(1, 0, 0, 0))?;
-    assert!(rt; scene.pending.remove(1).is_some());
-    // no read is left, so the write may be served
-    assert_eq!(rt; scene.choice(5)?, Choice::Act { place: 0 });
-    scene.issue(5, activate(0, 0, 0))?;
-    // RTW holds it up to cycle 11
-    assert_eq!(rt; scene.choice(10)?, Choice::Nothing);
-    assert_eq!(rt; scene.choice(11)?, Choice::Column { place: 0 });
-    Ok(())
+    let requests = [(Kind::Write, 0, 0, 0, 0), (Kind::Read, 1, 0, 0, 0)];
+    let mut scene = scene_of(rt.alloc(), &requests)?;
+    let steps = [
+        Chooses(0, Choice::Act { place: 1 }),
+        Drain(true),
+        Chooses(0, Choice::Act { place: 0 }),
+        Drain(false),
+        Act(0, 1, 0, 0),
+        Chooses(4, Choice::Column { place: 1 }),
+        Rd(4, 1, 0, 0, 0),
+        Remove(1),
+        // no read is left, so the write may be served
+        Chooses(5, Choice::Act { place: 0 }),
+        Act(5, 0, 0, 0),
+        // RTW holds it up to cycle 11
+        Chooses(10, Choice::Nothing),
+        Chooses(11, Choice::Column { place: 0 }),
+    ];
+    scene.play(&rt, &steps)
 }
 
 #[test]
@@ -372,55 +454,56 @@ fn writes_drain_between_the_marks(rt: HostRuntime) {
 
 #[test]
 fn no_column_command_without_room(rt: HostRuntime) -> Result<(), Fail> {
-    let alloc = rt.alloc();
-    let mut scene = Scene::open(alloc)?;
-    scene.admit(alloc, Kind::Read, 0, 0, 0, 0)?;
-    scene.admit(alloc, Kind::Read, 0, 0, 1, 0)?;
-    scene.admit(alloc, Kind::Read, 0, 0, 0, 1)?;
-    scene.issue(0, activate(0, 0, 0))?;
-    scene.room = false;
-    // no PRE either, since a candidate wants the open row
-    assert_eq!(rt; scene.choice(10)?, Choice::Nothing);
-    scene.room = true;
-    assert_eq!(rt; scene.choice(10)?, Choice::Column { place: 0 });
-    Ok(())
+    let requests = [
+        (Kind::Read, 0, 0, 0, 0),
+        (Kind::Read, 0, 0, 1, 0),
+        (Kind::Read, 0, 0, 0, 1),
+    ];
+    let mut scene = scene_of(rt.alloc(), &requests)?;
+    let steps = [
+        Act(0, 0, 0, 0),
+        // no PRE either, since a candidate wants the open row
+        Room(false),
+        Chooses(10, Choice::Nothing),
+        Room(true),
+        Chooses(10, Choice::Column { place: 0 }),
+    ];
+    scene.play(&rt, &steps)
 }
 
 #[test]
 fn activation_goes_before_an_older_precharge_that_waits(rt: HostRuntime) -> Result<(), Fail> {
-    let alloc = rt.alloc();
-    let mut scene = Scene::open(alloc)?;
-    scene.admit(alloc, Kind::Read, 0, 0, 1, 0)?;
-    scene.admit(alloc, Kind::Read, 0, 1, 0, 0)?;
-    scene.issue(0, activate(0, 0, 0))?;
-    assert_eq!(rt; scene.choice(2)?, Choice::Nothing);
-    assert_eq!(rt; scene.choice(3)?, Choice::Act { place: 1 });
-    assert_eq!(rt; scene.choice(10)?, Choice::Pre { place: 0 });
-    Ok(())
+    let requests = [(Kind::Read, 0, 0, 1, 0), (Kind::Read, 0, 1, 0, 0)];
+    let mut scene = scene_of(rt.alloc(), &requests)?;
+    let steps = [
+        Act(0, 0, 0, 0),
+        Chooses(2, Choice::Nothing),
+        Chooses(3, Choice::Act { place: 1 }),
+        Chooses(10, Choice::Pre { place: 0 }),
+    ];
+    scene.play(&rt, &steps)
 }
 
 #[test]
 fn row_that_no_candidate_wants_is_closed(rt: HostRuntime) -> Result<(), Fail> {
-    let alloc = rt.alloc();
-    let mut scene = Scene::open(alloc)?;
-    scene.admit(alloc, Kind::Read, 0, 0, 1, 0)?;
-    scene.admit(alloc, Kind::Write, 0, 0, 0, 1)?;
-    scene.issue(0, activate(0, 0, 0))?;
-    // a write wants the row, but reads are served
-    assert_eq!(rt; scene.choice(10)?, Choice::Pre { place: 0 });
-    scene.drain = true;
-    assert_eq!(rt; scene.choice(10)?, Choice::Column { place: 1 });
-    Ok(())
+    let requests = [(Kind::Read, 0, 0, 1, 0), (Kind::Write, 0, 0, 0, 1)];
+    let mut scene = scene_of(rt.alloc(), &requests)?;
+    let steps = [
+        Act(0, 0, 0, 0),
+        // a write wants the row, but reads are served
+        Chooses(10, Choice::Pre { place: 0 }),
+        Drain(true),
+        Chooses(10, Choice::Column { place: 1 }),
+    ];
+    scene.play(&rt, &steps)
 }
 
 // The older request is a read in bank 2 of group 1, the younger one a write in bank 0 of group 3; each names its
 // own DRAM row and line.
 #[test]
 fn command_of_each_choice(rt: HostRuntime) -> Result<(), Fail> {
-    let alloc = rt.alloc();
-    let mut scene = Scene::open(alloc)?;
-    scene.admit(alloc, Kind::Read, 1, 2, 7, 5)?;
-    scene.admit(alloc, Kind::Write, 3, 0, 9, 6)?;
+    let requests = [(Kind::Read, 1, 2, 7, 5), (Kind::Write, 3, 0, 9, 6)];
+    let scene = scene_of(rt.alloc(), &requests)?;
     let write = Command::Wr {
         rank: 0,
         group: 3,
