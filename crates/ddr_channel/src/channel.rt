@@ -221,6 +221,13 @@ impl Channel {
         self.pending.is_empty() && self.flight.is_empty() && self.done.is_empty()
     }
 
+    /// The configuration that the channel was opened with.
+    pub fn config(&self) -> &Config
+        ensures { result.now ≡ self.entry.now.config }
+    {
+        &self.config
+    }
+
     /// The next cycle to be made.
     pub fn now(&self) -> u64
         ensures value { result ≡ self.entry.now.now }

@@ -45,30 +45,31 @@ fn push_line(text: &mut String, line: &str, lines: &[(&str, &str)]) -> Result<()
 
 /// What is asked of a line. All bytes of a write are the same.
 #[derive(Clone, Copy)]
-struct Access {
-    kind: Kind,
-    addr: u64,
-    mask: u64,
-    fill: u8,
+enum Access {
+    Read(u64),
+    /// The address, the mask and the byte.
+    Write(u64, u64, u8),
 }
 
-/// A read, whose line comes with other bytes than the memory has.
-fn read(addr: u64) -> Access {
-    Access {
-        kind: Kind::Read,
-        addr,
-        mask: 0,
-        fill: 0xee,
+impl Access {
+    fn echo(self) -> Echo {
+        let (kind, addr) = match self {
+            Access::Read(addr) => (Kind::Read, addr),
+            Access::Write(addr, ..) => (Kind::Write, addr),
+        };
+        Echo {
+            kind,
+            addr,
+            len: 64,
+        }
     }
-}
 
-/// A write of the bytes whose bit in `mask` is set.
-fn write(addr: u64, mask: u64, fill: u8) -> Access {
-    Access {
-        kind: Kind::Write,
-        addr,
-        mask,
-        fill,
+    /// The mask and the byte. The line of a read comes with other bytes than the memory has.
+    fn mask_and_byte(self) -> (u64, u8) {
+        match self {
+            Access::Read(_) => (0, 0xee),
+            Access::Write(_, mask, byte) => (mask, byte),
+        }
     }
 }
 
@@ -76,50 +77,211 @@ fn write(addr: u64, mask: u64, fill: u8) -> Access {
 fn request(alloc: Global, config: &Config, number: u64, access: Access) -> Result<Req, Fail>
     ensures { IfOk result (λ r. IsServed config.now r.place) }
 {
+    let echo = access.echo();
+    let (mask, byte) = access.mask_and_byte();
     let place = Map::new(config)
-        .place(access.addr)
+        .place(echo.addr)
         .ok_or("outside the memory")?;
-    let line = Box::new(alloc, [access.fill; 64])?;
     Ok(Req {
         port: 0,
         number,
-        echo: Echo {
-            kind: access.kind,
-            addr: access.addr,
-            len: 64,
-        },
+        echo,
         place,
-        mask: access.mask,
-        line,
+        mask,
+        line: Box::new(alloc, [byte; 64])?,
     })
 }
 
-/// Makes cycles until nothing is left, 100 at most, and takes the completions.
-fn finish(alloc: Global, channel: &mut Channel) -> Result<Vec<Done>, CycleError>
+/// A channel of profile S with other lines, before cycle 0.
+fn open(alloc: Global, lines: &[(&str, &str)]) -> Result<Channel, Fail> {
+    let config = config_with(alloc, lines)?;
+    Ok(Channel::open(alloc, &config, 0)?)
+}
+
+/// Admits a request for each access, with numbers from `first` on.
+fn admit_all(
+    alloc: Global,
+    channel: &mut Channel,
+    first: u64,
+    accesses: &[Access],
+) -> Result<(), Fail>
     ensures { channel.new.config ≡ channel.old.config }
 {
+    for (number, access) in (first..).zip(accesses.iter()) {
+        let next = request(alloc, channel.config(), number, *access)?;
+        if channel.admit(next).is_err() {
+            return Err("the queue is full".into());
+        }
+    }
+    Ok(())
+}
+
+/// Makes so many cycles.
+fn make_cycles(channel: &mut Channel, count: u32) -> Result<(), CycleError> {
+    for _nth in 0..count {
+        channel.cycle()?;
+    }
+    Ok(())
+}
+
+/// Takes turns: makes so many cycles, and then admits a request for each access. The requests are numbered from 0.
+fn admit_in_turns(
+    alloc: Global,
+    channel: &mut Channel,
+    turns: &[(u32, &[Access])],
+) -> Result<(), Fail> {
+    let mut first = 0u64;
+    for (cycles, accesses) in turns {
+        make_cycles(channel, *cycles)?;
+        admit_all(alloc, channel, first, accesses)?;
+        first = first.wrapping_add(accesses.len() as u64);
+    }
+    Ok(())
+}
+
+/// Makes cycles until nothing is left, 100 at most, and takes the completions.
+fn finish(alloc: Global, channel: &mut Channel) -> Result<Vec<Done>, Fail> {
     let mut taken = Vec::new(alloc);
-    for _ in 0..100 {
+    for _nth in 0..100 {
         if channel.is_empty() {
             break;
         }
         channel.cycle()?;
         if let Some(done) = channel.pop_done() {
-            if taken.push(done).is_err() {
-                return Err(CycleError::OutOfMemory);
-            }
+            taken.push(done)?;
         }
     }
     Ok(taken)
 }
 
-/// The number of each request that came back, the cycle of its column command and that of its completion.
-fn times(alloc: Global, taken: &[Done]) -> Result<Vec<(u64, u64, u64)>, Fail> {
+/// A command of rank 0, with its cycle and then the group, the bank, the row and the line that it names.
+#[derive(Drop)]
+enum Step {
+    Act(u64, u32, u32, u32),
+    Rd(u64, u32, u32, u32, u32),
+    Wr(u64, u32, u32, u32, u32),
+    Pre(u64, u32, u32),
+    PreAll(u64),
+    Refresh(u64),
+}
+
+impl Step {
+    fn cycle(&self) -> u64 {
+        match *self {
+            Step::Act(cycle, ..)
+            | Step::Rd(cycle, ..)
+            | Step::Wr(cycle, ..)
+            | Step::Pre(cycle, ..)
+            | Step::PreAll(cycle)
+            | Step::Refresh(cycle) => cycle,
+        }
+    }
+
+    fn command(&self) -> Command {
+        let rank = 0;
+        match *self {
+            Step::Act(_, group, bank, row) => Command::Act {
+                rank,
+                group,
+                bank,
+                row,
+            },
+            Step::Rd(_, group, bank, row, line) => Command::Rd {
+                rank,
+                group,
+                bank,
+                row,
+                line,
+            },
+            Step::Wr(_, group, bank, row, line) => Command::Wr {
+                rank,
+                group,
+                bank,
+                row,
+                line,
+            },
+            Step::Pre(_, group, bank) => Command::Pre { rank, group, bank },
+            Step::PreAll(_) => Command::PreAll { rank },
+            Step::Refresh(_) => Command::Refresh { rank },
+        }
+    }
+
+    fn entry(&self) -> Entry {
+        Entry {
+            cycle: self.cycle(),
+            command: self.command(),
+        }
+    }
+}
+
+/// What comes of requests.
+#[derive(Drop)]
+struct Outcome {
+    /// The commands of the trace.
+    commands: &'static [Step],
+    /// The first cycle that was not made.
+    end: u64,
+    /// The number of each request that came back, the cycle of its column command and that of its completion.
+    times: &'static [(u64, u64, u64)],
+    /// Numbers, each with the bytes with which the line that came back begins. All bytes behind them are zero.
+    lines: &'static [(u64, &'static [u8])],
+}
+
+fn push_steps(entries: &mut Vec<Entry>, steps: &[Step]) -> Result<(), AllocError> {
+    for step in steps {
+        entries.push(step.entry())?;
+    }
+    Ok(())
+}
+
+/// Compares the trace so far, and the next cycle.
+fn check_entries(rt: &impl Abort, channel: &Channel, commands: &[Entry], now: u64) {
+    assert_eq!(rt; channel.trace(), commands);
+    assert_eq!(rt; channel.now(), now);
+}
+
+/// Compares a whole trace from cycle 0 on.
+fn check_whole(rt: &impl Abort, trace: &Trace, commands: &[Entry], end: u64) {
+    assert_eq!(rt; trace.entries.as_slice(), commands);
+    assert_eq!(rt; (trace.start, trace.end), (0, end));
+}
+
+/// Compares the trace and its end. The channel is given up.
+fn check_trace(
+    rt: &impl Abort,
+    alloc: Global,
+    channel: Channel,
+    outcome: &Outcome,
+) -> Result<(), Fail> {
+    let mut commands = Vec::new(alloc);
+    push_steps(&mut commands, outcome.commands)?;
+    check_entries(rt, &channel, &commands, outcome.end);
+    check_whole(rt, &channel.into_trace(), &commands, outcome.end);
+    Ok(())
+}
+
+/// Compares the number of each request that came back, the cycle of its column command and that of its completion.
+fn check_times(
+    rt: &impl Abort,
+    alloc: Global,
+    taken: &[Done],
+    expected: &[(u64, u64, u64)],
+) -> Result<(), Fail> {
     let mut times = Vec::new(alloc);
     for done in taken {
         times.push((done.number, done.issued, done.due))?;
     }
-    Ok(times)
+    assert_eq!(rt; times.as_slice(), expected);
+    Ok(())
+}
+
+/// A line that begins with these bytes. All behind them are zero.
+fn line_with(bytes: &[u8]) -> Line {
+    let mut line = ZEROS;
+    for (old, new) in line.iter_mut().zip(bytes.iter()) {
+        *old = *new;
+    }
+    line
 }
 
 /// The line that came back with a number.
@@ -132,121 +294,41 @@ fn line_of(taken: &[Done], number: u64) -> Option<Line> {
     None
 }
 
-/// What a channel made of requests that all stood before its first cycle.
-#[derive(Drop)]
-struct Run {
-    trace: Trace,
-    taken: Vec<Done>,
+/// Compares lines that came back, each of a number, with the bytes with which they begin.
+fn check_lines(rt: &impl Abort, taken: &[Done], expected: &[(u64, &[u8])]) {
+    for (number, bytes) in expected {
+        let line = line_of(taken, *number);
+        assert_eq!(rt;
+            line,
+            Some(line_with(bytes)),
+            "the line of request {number}"
+        );
+    }
 }
 
-/// Admits a request for each access, with numbers from `first` on.
-fn admit_all(
+/// Makes cycles until nothing is left, and compares what comes back.
+fn check_rest(
+    rt: &impl Abort,
     alloc: Global,
-    config: &Config,
     channel: &mut Channel,
-    first: u64,
-    accesses: &[Access],
-) -> Result<(), Fail>
-    requires { channel.old.config ≡ config.now }
-    ensures { channel.new.config ≡ config.now }
-{
-    for (number, access) in (first..).zip(accesses.iter()) {
-        let next = request(alloc, config, number, *access)?;
-        if channel.admit(next).is_err() {
-            return Err("the queue is full".into());
-        }
-    }
+    outcome: &Outcome,
+) -> Result<(), Fail> {
+    let taken = finish(alloc, channel)?;
+    check_times(rt, alloc, &taken, outcome.times)?;
+    check_lines(rt, &taken, outcome.lines);
     Ok(())
 }
 
-/// Admits requests for the accesses, numbered from 0, and makes cycles until nothing is left.
-fn serve(alloc: Global, config: &Config, accesses: &[Access]) -> Result<Run, Fail> {
-    let mut channel = Channel::open(alloc, config, 0)?;
-    admit_all(alloc, config, &mut channel, 0, accesses)?;
-    let taken = finish(alloc, &mut channel)?;
-    Ok(Run {
-        trace: channel.into_trace(),
-        taken,
-    })
-}
-
-/// Serves the accesses, and compares the trace, its end, and the number, command and completion of each request.
+/// Opens a channel of profile S with other lines, admits requests in turns, and compares all that comes of them.
 fn check(
     rt: &impl Abort,
     alloc: Global,
-    config: &Config,
-    accesses: &[Access],
-    commands: &[Entry],
-    end: u64,
-    expected: &[(u64, u64, u64)],
-) -> Result<Run, Fail> {
-    let run = serve(alloc, config, accesses)?;
-    assert_eq!(rt; run.trace.entries.as_slice(), commands);
-    assert_eq!(rt; (run.trace.start, run.trace.end), (0, end));
-    let times = times(alloc, &run.taken)?;
-    assert_eq!(rt; times.as_slice(), expected);
-    Ok(run)
-}
-
-/// Compares the line that came back with a number.
-fn check_line(rt: &impl Abort, taken: &[Done], number: u64, line: Line) {
-    assert_eq!(rt; line_of(taken, number), Some(line));
-}
-
-/// Compares each line that came back with zeros.
-fn check_zeros(rt: &impl Abort, taken: &[Done]) {
-    for done in taken {
-        assert_eq!(rt; *done.line, ZEROS);
-    }
-}
-
-fn act(cycle: u64, group: u32, bank: u32, row: u32) -> Entry {
-    let command = Command::Act {
-        rank: 0,
-        group,
-        bank,
-        row,
-    };
-    Entry { cycle, command }
-}
-
-fn rd(cycle: u64, group: u32, bank: u32, row: u32, line: u32) -> Entry {
-    let command = Command::Rd {
-        rank: 0,
-        group,
-        bank,
-        row,
-        line,
-    };
-    Entry { cycle, command }
-}
-
-fn wr(cycle: u64, group: u32, bank: u32, row: u32, line: u32) -> Entry {
-    let command = Command::Wr {
-        rank: 0,
-        group,
-        bank,
-        row,
-        line,
-    };
-    Entry { cycle, command }
-}
-
-fn pre(cycle: u64, group: u32, bank: u32) -> Entry {
-    let command = Command::Pre {
-        rank: 0,
-        group,
-        bank,
-    };
-    Entry { cycle, command }
-}
-
-fn pre_all(cycle: u64) -> Entry {
-    let command = Command::PreAll { rank: 0 };
-    Entry { cycle, command }
-}
-
-fn refresh(cycle: u64) -> Entry {
-    let command = Command::Refresh { rank: 0 };
-    Entry { cycle, command }
+    lines: &[(&str, &str)],
+    turns: &[(u32, &[Access])],
+    outcome: &Outcome,
+) -> Result<(), Fail> {
+    let mut channel = open(alloc, lines)?;
+    admit_in_turns(alloc, &mut channel, turns)?;
+    check_rest(rt, alloc, &mut channel, outcome)?;
+    check_trace(rt, alloc, channel, outcome)
 }

@@ -1,6 +1,6 @@
 //! Calls of a channel by chance. Each completion is compared with a flat map of bytes in the order of admission, and
 //! the whole trace is checked.
-ghost use Rattle.std.specs.Prelude.{◌≡◌, ◌<◌, IfOk};
+ghost use Rattle.std.specs.Prelude.{◌<◌};
 
 use super::*;
 use ddr_legality::checker;
@@ -58,9 +58,9 @@ impl Chance {
     fn access(&mut self) -> Access {
         let addr = self.address();
         if self.below(2) == 0 {
-            read(addr)
+            Access::Read(addr)
         } else {
-            write(addr, self.mask(), 0)
+            Access::Write(addr, self.mask(), 0)
         }
     }
 
@@ -97,7 +97,6 @@ struct Admitted {
 #[derive(Drop)]
 struct Run {
     alloc: Global,
-    config: Config,
     channel: Channel,
     chance: Chance,
     /// Each line as the requests admitted so far leave it, in the order of their admission.
@@ -110,13 +109,10 @@ struct Run {
     last_due: u64,
 }
 
-fn open(alloc: Global, lines: &[(&str, &str)]) -> Result<Run, Fail>
-    ensures { IfOk result (λ r. r.channel.config ≡ r.config) }
-{
+fn start(alloc: Global, lines: &[(&str, &str)]) -> Result<Run, Fail> {
     let config = config_with(alloc, lines)?;
     Ok(Run {
         alloc,
-        config,
         channel: Channel::open(alloc, &config, START)?,
         chance: Chance(1),
         memory: vec![in alloc; ZEROS; LINES]?,
@@ -128,39 +124,32 @@ fn open(alloc: Global, lines: &[(&str, &str)]) -> Result<Run, Fail>
 
 impl Run {
     /// Offers a request by chance.
-    fn admit(&mut self, rt: &impl Abort) -> Result<(), Fail>
-        requires { self.old.channel.config ≡ self.old.config }
-        ensures { self.new.channel.config ≡ self.new.config }
-    {
+    fn admit(&mut self, rt: &impl Abort) -> Result<(), Fail> {
         let number = self.admitted.len() as u64;
         let access = self.chance.access();
         let line = self.chance.line();
-        let mut offered = request(self.alloc, &self.config, number, access)?;
+        let mut offered = request(self.alloc, self.channel.config(), number, access)?;
         *offered.line = line;
         match self.channel.admit(offered) {
             Ok(()) => self.note(access, &line),
             Err(returned) => {
                 self.refused = self.refused.wrapping_add(1);
                 assert!(rt; !self.channel.room());
-                assert_eq!(rt; (returned.port, returned.number), (0, number));
-                assert_eq!(rt; returned.echo, echo_of(access));
-                assert_eq!(rt; returned.mask, access.mask);
-                assert_eq!(rt; *returned.line, line);
+                check_returned(rt, &returned, number, access, &line);
                 Ok(())
             }
         }
     }
 
     /// Notes a request that was admitted, with its line: a write changes the memory.
-    fn note(&mut self, access: Access, bytes: &Line) -> Result<(), Fail>
-        requires { self.old.channel.config ≡ self.old.config }
-        ensures { self.new.channel.config ≡ self.new.config }
-    {
-        let number = (access.addr / 64) as usize;
+    fn note(&mut self, access: Access, bytes: &Line) -> Result<(), Fail> {
+        let echo = access.echo();
+        let (mask, _) = access.mask_and_byte();
+        let number = (echo.addr / 64) as usize;
         let line = self.memory.get_mut(number).ok_or("outside the lines")?;
-        merge(line, access.mask, bytes);
+        merge(line, mask, bytes);
         self.admitted.push(Admitted {
-            echo: echo_of(access),
+            echo,
             line: *line,
             came_back: false,
         })?;
@@ -168,36 +157,30 @@ impl Run {
     }
 
     /// Takes what was done first, if anything is, and checks it.
-    fn take(&mut self, rt: &impl Abort) -> Result<(), Fail>
-        requires { self.old.channel.config ≡ self.old.config }
-        ensures { self.new.channel.config ≡ self.new.config }
-    {
+    fn take(&mut self, rt: &impl Abort) -> Result<(), Fail> {
         let Some(done) = self.channel.pop_done() else {
             return Ok(());
         };
-        let number = done.number as usize;
-        let admitted = self.admitted.get_mut(number).ok_or("never admitted")?;
-        assert!(rt; !admitted.came_back, "request {number} came twice");
-        admitted.came_back = true;
-        assert_eq!(rt; done.echo, admitted.echo);
-        let latency = match done.echo.kind {
-            Kind::Read => {
-                assert_eq!(rt; *done.line, admitted.line, "the line of request {number}");
-                8
-            }
-            Kind::Write => 7,
-        };
-        assert_eq!(rt; done.due, done.issued.wrapping_add(latency));
+        let admitted = self.note_return(rt, done.number)?;
+        check_done(rt, &done, &admitted);
         assert!(rt; self.last_due < done.due && done.due < self.channel.now());
         self.last_due = done.due;
         Ok(())
     }
 
+    /// Notes that the request of a number came back, and gives what was noted at its admission.
+    fn note_return(&mut self, rt: &impl Abort, number: u64) -> Result<Admitted, Fail> {
+        let admitted = self
+            .admitted
+            .get_mut(number as usize)
+            .ok_or("never admitted")?;
+        assert!(rt; !admitted.came_back, "request {number} came twice");
+        admitted.came_back = true;
+        Ok(*admitted)
+    }
+
     /// One call by chance: of 64 calls so many are admissions.
-    fn call(&mut self, rt: &impl Abort, admissions: u64) -> Result<(), Fail>
-        requires { self.old.channel.config ≡ self.old.config }
-        ensures { self.new.channel.config ≡ self.new.config }
-    {
+    fn call(&mut self, rt: &impl Abort, admissions: u64) -> Result<(), Fail> {
         let chosen = self.chance.below(64);
         if chosen < admissions {
             self.admit(rt)
@@ -208,20 +191,17 @@ impl Run {
         }
     }
 
-    /// The calls of a run, and then cycles until nothing is left.
-    fn calls(&mut self, rt: &impl Abort) -> Result<(), Fail>
-        requires { self.old.channel.config ≡ self.old.config }
-    {
+    /// The calls of a run.
+    fn calls(&mut self, rt: &impl Abort) -> Result<(), Fail> {
         for nth in 0..CALLS {
             let admissions = if nth < CALLS / 2 { 24 } else { 2 };
             self.call(rt, admissions)?;
         }
-        self.finish(rt)
+        Ok(())
     }
 
-    fn finish(&mut self, rt: &impl Abort) -> Result<(), Fail>
-        requires { self.old.channel.config ≡ self.old.config }
-    {
+    /// Makes cycles until nothing is left.
+    fn finish(&mut self, rt: &impl Abort) -> Result<(), Fail> {
         for _cycle in 0..5000 {
             if self.channel.is_empty() {
                 break;
@@ -231,6 +211,21 @@ impl Run {
         }
         assert!(rt; self.channel.is_empty());
         Ok(())
+    }
+
+    /// Makes the calls of a run, and checks what comes of them.
+    fn runs_well(&mut self, rt: &impl Abort) -> Result<(), Fail> {
+        self.calls(rt)?;
+        self.finish(rt)?;
+        self.check_whole(rt)
+    }
+
+    /// Checks that all came back, each by a column command of its own, and that the trace is legal.
+    fn check_whole(&self, rt: &impl Abort) -> Result<(), Fail> {
+        let count = self.admitted.len();
+        assert_eq!(rt; (self.all_came_back(), self.columns()), (true, count));
+        assert!(rt; count > 100 && self.refused > 100);
+        check_legal(rt, self.alloc, &self.channel)
     }
 
     /// Whether each admitted request came back.
@@ -255,27 +250,46 @@ impl Run {
     }
 }
 
-fn echo_of(access: Access) -> Echo {
-    Echo {
-        kind: access.kind,
-        addr: access.addr,
-        len: 64,
-    }
+/// Compares a request that was handed back with what was offered.
+fn check_returned(rt: &impl Abort, returned: &Req, number: u64, access: Access, line: &Line) {
+    let (mask, _) = access.mask_and_byte();
+    assert_eq!(rt; (returned.port, returned.number), (0, number));
+    assert_eq!(rt;
+        (returned.echo, returned.mask, *returned.line),
+        (access.echo(), mask, *line)
+    );
+}
+
+/// Compares what is done with the request that was admitted. Nothing is said of the line of a write.
+fn check_done(rt: &impl Abort, done: &Done, admitted: &Admitted) {
+    let (latency, line) = match admitted.echo.kind {
+        Kind::Read => (8, admitted.line),
+        Kind::Write => (7, *done.line),
+    };
+    let due = done.issued.wrapping_add(latency);
+    assert_eq!(rt;
+        (done.echo, done.due, *done.line),
+        (admitted.echo, due, line)
+    );
+}
+
+/// Checks a whole trace by both checkers.
+fn check_legal(rt: &impl Abort, alloc: Global, channel: &Channel) -> Result<(), Fail> {
+    let config = channel.config();
+    let entries = channel.trace();
+    let end = channel.now();
+    let fault = checker::first_fault(alloc, entries, config, START, end)?;
+    assert_eq!(rt;
+        (fault, plain::first_fault(entries, config, START, end)),
+        (None, None)
+    );
+    Ok(())
 }
 
 /// Calls by chance of a channel of profile S with other lines.
 fn runs_well(rt: &impl Abort, alloc: Global, lines: &[(&str, &str)]) -> Result<(), Fail> {
-    let mut run = open(alloc, lines)?;
-    run.calls(rt)?;
-    assert!(rt; run.all_came_back());
-    assert_eq!(rt; run.columns(), run.admitted.len());
-    assert!(rt; run.admitted.len() > 100 && run.refused > 100);
-    let entries = run.channel.trace();
-    let now = run.channel.now();
-    let fault = checker::first_fault(alloc, entries, &run.config, START, now)?;
-    assert_eq!(rt; fault, None);
-    assert_eq!(rt; plain::first_fault(entries, &run.config, START, now), None);
-    Ok(())
+    let mut run = start(alloc, lines)?;
+    run.runs_well(rt)
 }
 
 #[test]

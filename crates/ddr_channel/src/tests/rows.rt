@@ -2,262 +2,245 @@
 //! 64 * line + 512 * group + 2048 * bank + 8192 * row + offset.
 use super::*;
 
+const ONE_READ: Outcome = Outcome {
+    commands: &[Step::Act(0, 0, 0, 0), Step::Rd(4, 0, 0, 0, 0)],
+    end: 13,
+    times: &[(0, 4, 12)],
+    lines: &[(0, &[])],
+};
+
 #[test]
 fn a_read_of_what_was_never_written(rt: HostRuntime) -> Result<(), Fail> {
-    let config = Config::read(rt.alloc(), PROFILE_S)?;
-    let commands = [act(0, 0, 0, 0), rd(4, 0, 0, 0, 0)];
-    let expected = [(0, 4, 12)];
-    let run = check(
-        &rt,
-        rt.alloc(),
-        &config,
-        &[read(0)],
-        commands.as_slice(),
-        13,
-        expected.as_slice(),
-    )?;
-    check_line(&rt, &run.taken, 0, ZEROS);
-    Ok(())
+    check(&rt, rt.alloc(), &[], &[(0, &[Access::Read(0)])], &ONE_READ)
 }
+
+/// WL + 4 + WTR_L behind the write.
+const READ_BEHIND_A_WRITE: Outcome = Outcome {
+    commands: &[
+        Step::Act(0, 0, 0, 0),
+        Step::Wr(4, 0, 0, 0, 0),
+        Step::Rd(15, 0, 0, 0, 0),
+    ],
+    end: 24,
+    times: &[(0, 4, 11), (1, 15, 23)],
+    lines: &[(1, &[0xab; 4])],
+};
 
 #[test]
 fn a_read_behind_a_write(rt: HostRuntime) -> Result<(), Fail> {
-    let config = Config::read(rt.alloc(), PROFILE_S)?;
-    // WL + 4 + WTR_L behind the write
-    let commands = [act(0, 0, 0, 0), wr(4, 0, 0, 0, 0), rd(15, 0, 0, 0, 0)];
-    let expected = [(0, 4, 11), (1, 15, 23)];
-    let run = check(
+    let accesses = [Access::Write(0, 0b1111, 0xab), Access::Read(0)];
+    check(
         &rt,
         rt.alloc(),
-        &config,
-        &[write(0, 0b1111, 0xab), read(0)],
-        commands.as_slice(),
-        24,
-        expected.as_slice(),
-    )?;
-    let mut line = ZEROS;
-    line[..4].copy_from_slice(&[0xab; 4]);
-    check_line(&rt, &run.taken, 1, line);
-    Ok(())
+        &[],
+        &[(0, &accesses)],
+        &READ_BEHIND_A_WRITE,
+    )
 }
+
+/// RAS, then RP and RC.
+const ANOTHER_ROW: Outcome = Outcome {
+    commands: &[
+        Step::Act(0, 0, 0, 0),
+        Step::Rd(4, 0, 0, 0, 0),
+        Step::Pre(10, 0, 0),
+        Step::Act(14, 0, 0, 1),
+        Step::Rd(18, 0, 0, 1, 0),
+    ],
+    end: 27,
+    times: &[(0, 4, 12), (1, 18, 26)],
+    lines: &[(0, &[]), (1, &[])],
+};
 
 #[test]
 fn another_row_is_opened(rt: HostRuntime) -> Result<(), Fail> {
-    let config = Config::read(rt.alloc(), PROFILE_S)?;
-    // RAS, then RP and RC
-    let commands = [
-        act(0, 0, 0, 0),
-        rd(4, 0, 0, 0, 0),
-        pre(10, 0, 0),
-        act(14, 0, 0, 1),
-        rd(18, 0, 0, 1, 0),
-    ];
-    let expected = [(0, 4, 12), (1, 18, 26)];
-    let run = check(
-        &rt,
-        rt.alloc(),
-        &config,
-        &[read(0), read(8192)],
-        commands.as_slice(),
-        27,
-        expected.as_slice(),
-    )?;
-    check_line(&rt, &run.taken, 0, ZEROS);
-    check_line(&rt, &run.taken, 1, ZEROS);
-    Ok(())
+    let accesses = [Access::Read(0), Access::Read(8192)];
+    check(&rt, rt.alloc(), &[], &[(0, &accesses)], &ANOTHER_ROW)
 }
+
+/// RRD_S between the rows, CCD_S between the reads.
+const TWO_GROUPS: Outcome = Outcome {
+    commands: &[
+        Step::Act(0, 0, 0, 0),
+        Step::Act(2, 1, 0, 0),
+        Step::Rd(4, 0, 0, 0, 0),
+        Step::Rd(8, 1, 0, 0, 0),
+    ],
+    end: 17,
+    times: &[(0, 4, 12), (1, 8, 16)],
+    lines: &[(0, &[]), (1, &[])],
+};
 
 #[test]
 fn reads_in_two_groups(rt: HostRuntime) -> Result<(), Fail> {
-    let config = Config::read(rt.alloc(), PROFILE_S)?;
-    // RRD_S between the rows, CCD_S between the reads
-    let commands = [
-        act(0, 0, 0, 0),
-        act(2, 1, 0, 0),
-        rd(4, 0, 0, 0, 0),
-        rd(8, 1, 0, 0, 0),
-    ];
-    let expected = [(0, 4, 12), (1, 8, 16)];
-    let run = check(
-        &rt,
-        rt.alloc(),
-        &config,
-        &[read(0), read(512)],
-        commands.as_slice(),
-        17,
-        expected.as_slice(),
-    )?;
-    check_line(&rt, &run.taken, 0, ZEROS);
-    check_line(&rt, &run.taken, 1, ZEROS);
-    Ok(())
+    let accesses = [Access::Read(0), Access::Read(512)];
+    check(&rt, rt.alloc(), &[], &[(0, &accesses)], &TWO_GROUPS)
 }
 
 /// The third ACT waits for the read of cycle 4, and the fifth, which FAW allows at 12, for the one of that cycle.
-#[test]
-fn reads_in_five_banks(rt: HostRuntime) -> Result<(), Fail> {
-    let config = Config::read(rt.alloc(), PROFILE_S)?;
-    let reads = [read(0), read(512), read(1024), read(1536), read(2048)];
-    let commands = [
-        act(0, 0, 0, 0),
-        act(2, 1, 0, 0),
-        rd(4, 0, 0, 0, 0),
-        act(5, 2, 0, 0),
-        act(7, 3, 0, 0),
-        rd(8, 1, 0, 0, 0),
-        rd(12, 2, 0, 0, 0),
-        act(13, 0, 1, 0),
-        rd(16, 3, 0, 0, 0),
-        rd(20, 0, 1, 0, 0),
-    ];
-    let expected = [
+const FIVE_BANKS: Outcome = Outcome {
+    commands: &[
+        Step::Act(0, 0, 0, 0),
+        Step::Act(2, 1, 0, 0),
+        Step::Rd(4, 0, 0, 0, 0),
+        Step::Act(5, 2, 0, 0),
+        Step::Act(7, 3, 0, 0),
+        Step::Rd(8, 1, 0, 0, 0),
+        Step::Rd(12, 2, 0, 0, 0),
+        Step::Act(13, 0, 1, 0),
+        Step::Rd(16, 3, 0, 0, 0),
+        Step::Rd(20, 0, 1, 0, 0),
+    ],
+    end: 29,
+    times: &[
         (0, 4, 12),
         (1, 8, 16),
         (2, 12, 20),
         (3, 16, 24),
         (4, 20, 28),
+    ],
+    lines: &[(0, &[]), (1, &[]), (2, &[]), (3, &[]), (4, &[])],
+};
+
+#[test]
+fn reads_in_five_banks(rt: HostRuntime) -> Result<(), Fail> {
+    let accesses = [
+        Access::Read(0),
+        Access::Read(512),
+        Access::Read(1024),
+        Access::Read(1536),
+        Access::Read(2048),
     ];
-    let run = check(
-        &rt,
-        rt.alloc(),
-        &config,
-        &reads,
-        commands.as_slice(),
-        29,
-        expected.as_slice(),
-    )?;
-    check_zeros(&rt, &run.taken);
-    Ok(())
+    check(&rt, rt.alloc(), &[], &[(0, &accesses)], &FIVE_BANKS)
 }
+
+/// CCD_L, and RTP behind the second read.
+const YOUNGER_FIRST: Outcome = Outcome {
+    commands: &[
+        Step::Act(0, 0, 0, 0),
+        Step::Rd(4, 0, 0, 0, 0),
+        Step::Rd(9, 0, 0, 0, 1),
+        Step::Pre(12, 0, 0),
+        Step::Act(16, 0, 0, 1),
+        Step::Rd(20, 0, 0, 1, 0),
+    ],
+    end: 29,
+    times: &[(0, 4, 12), (2, 9, 17), (1, 20, 28)],
+    lines: &[(0, &[]), (1, &[]), (2, &[])],
+};
 
 #[test]
 fn younger_row_hit_first(rt: HostRuntime) -> Result<(), Fail> {
-    let config = Config::read(rt.alloc(), PROFILE_S)?;
-    // CCD_L, and RTP behind the second read
-    let commands = [
-        act(0, 0, 0, 0),
-        rd(4, 0, 0, 0, 0),
-        rd(9, 0, 0, 0, 1),
-        pre(12, 0, 0),
-        act(16, 0, 0, 1),
-        rd(20, 0, 0, 1, 0),
-    ];
-    let expected = [(0, 4, 12), (2, 9, 17), (1, 20, 28)];
-    let run = check(
-        &rt,
-        rt.alloc(),
-        &config,
-        &[read(0), read(8192), read(64)],
-        commands.as_slice(),
-        29,
-        expected.as_slice(),
-    )?;
-    check_zeros(&rt, &run.taken);
-    Ok(())
+    let accesses = [Access::Read(0), Access::Read(8192), Access::Read(64)];
+    check(&rt, rt.alloc(), &[], &[(0, &accesses)], &YOUNGER_FIRST)
 }
+
+const OLDEST_FIRST: Outcome = Outcome {
+    commands: &[
+        Step::Act(0, 0, 0, 0),
+        Step::Rd(4, 0, 0, 0, 0),
+        Step::Pre(10, 0, 0),
+        Step::Act(14, 0, 0, 1),
+        Step::Rd(18, 0, 0, 1, 0),
+        Step::Pre(24, 0, 0),
+        Step::Act(28, 0, 0, 0),
+        Step::Rd(32, 0, 0, 0, 1),
+    ],
+    end: 41,
+    times: &[(0, 4, 12), (1, 18, 26), (2, 32, 40)],
+    lines: &[(0, &[]), (1, &[]), (2, &[])],
+};
 
 /// With a cap of one clock the oldest request is served alone.
 #[test]
 fn oldest_request_first_at_the_cap(rt: HostRuntime) -> Result<(), Fail> {
-    let config = config_with(rt.alloc(), &[("cap", "cap = 1")])?;
-    let commands = [
-        act(0, 0, 0, 0),
-        rd(4, 0, 0, 0, 0),
-        pre(10, 0, 0),
-        act(14, 0, 0, 1),
-        rd(18, 0, 0, 1, 0),
-        pre(24, 0, 0),
-        act(28, 0, 0, 0),
-        rd(32, 0, 0, 0, 1),
-    ];
-    let expected = [(0, 4, 12), (1, 18, 26), (2, 32, 40)];
-    let run = check(
-        &rt,
-        rt.alloc(),
-        &config,
-        &[read(0), read(8192), read(64)],
-        commands.as_slice(),
-        41,
-        expected.as_slice(),
-    )?;
-    check_zeros(&rt, &run.taken);
-    Ok(())
+    let lines = [("cap", "cap = 1")];
+    let accesses = [Access::Read(0), Access::Read(8192), Access::Read(64)];
+    check(&rt, rt.alloc(), &lines, &[(0, &accesses)], &OLDEST_FIRST)
 }
+
+const MASKED_WRITES: Outcome = Outcome {
+    commands: &[
+        Step::Act(0, 0, 0, 0),
+        Step::Wr(4, 0, 0, 0, 0),
+        Step::Wr(9, 0, 0, 0, 0),
+        Step::Rd(20, 0, 0, 0, 0),
+    ],
+    end: 29,
+    times: &[(0, 4, 11), (1, 9, 16), (2, 20, 28)],
+    lines: &[(2, &[0x11, 0x11, 0x22, 0x22, 0x22, 0x22])],
+};
 
 #[test]
 fn masked_writes_keep_the_other_bytes(rt: HostRuntime) -> Result<(), Fail> {
-    let config = Config::read(rt.alloc(), PROFILE_S)?;
     let accesses = [
-        write(0, 0b00_1111, 0x11),
-        write(0, 0b11_1100, 0x22),
-        read(0),
+        Access::Write(0, 0b00_1111, 0x11),
+        Access::Write(0, 0b11_1100, 0x22),
+        Access::Read(0),
     ];
-    let commands = [
-        act(0, 0, 0, 0),
-        wr(4, 0, 0, 0, 0),
-        wr(9, 0, 0, 0, 0),
-        rd(20, 0, 0, 0, 0),
-    ];
-    let expected = [(0, 4, 11), (1, 9, 16), (2, 20, 28)];
-    let run = check(
-        &rt,
-        rt.alloc(),
-        &config,
-        &accesses,
-        commands.as_slice(),
-        29,
-        expected.as_slice(),
-    )?;
-    let mut line = ZEROS;
-    line[..6].copy_from_slice(&[0x11, 0x11, 0x22, 0x22, 0x22, 0x22]);
-    check_line(&rt, &run.taken, 2, line);
+    check(&rt, rt.alloc(), &[], &[(0, &accesses)], &MASKED_WRITES)
+}
+
+/// The write's request has number 0 too, and comes back first.
+const TWO_PORTS: Outcome = Outcome {
+    commands: &[
+        Step::Act(0, 0, 0, 0),
+        Step::Wr(4, 0, 0, 0, 0),
+        Step::Rd(15, 0, 0, 0, 0),
+    ],
+    end: 24,
+    times: &[(0, 4, 11), (0, 15, 23)],
+    lines: &[],
+};
+
+/// Admits a write of port 1 and a read of port 0, both of the first line and both of number 0.
+fn admit_of_two_ports(rt: &impl Abort, alloc: Global, channel: &mut Channel) -> Result<(), Fail> {
+    let mut first = request(alloc, channel.config(), 0, Access::Write(0, 1, 0xff))?;
+    first.port = 1;
+    assert!(rt; channel.admit(first).is_ok());
+    admit_all(alloc, channel, 0, &[Access::Read(0)])
+}
+
+/// Compares the ports of the two completions, and the line that was read.
+fn check_ports(rt: &impl Abort, taken: &[Done]) -> Result<(), Fail> {
+    let [write, read] = taken else {
+        return Err("not two completions".into());
+    };
+    assert_eq!(rt; (write.port, read.port), (1, 0));
+    assert_eq!(rt; *read.line, line_with(&[0xff]));
     Ok(())
+}
+
+/// Serves both, and compares what comes of them.
+fn serve_two_ports(rt: &impl Abort, alloc: Global, channel: &mut Channel) -> Result<(), Fail> {
+    admit_of_two_ports(rt, alloc, channel)?;
+    let taken = finish(alloc, channel)?;
+    check_times(rt, alloc, &taken, TWO_PORTS.times)?;
+    check_ports(rt, &taken)
 }
 
 #[test]
 fn a_read_of_another_port_behind_a_write(rt: HostRuntime) -> Result<(), Fail> {
-    let config = Config::read(rt.alloc(), PROFILE_S)?;
-    let mut channel = Channel::open(rt.alloc(), &config, 0)?;
-    let mut first = request(rt.alloc(), &config, 0, write(0, 1, 0xff))?;
-    first.port = 1;
-    let second = request(rt.alloc(), &config, 0, read(0))?;
-    assert!(rt; channel.admit(first).is_ok());
-    assert!(rt; channel.admit(second).is_ok());
-    let taken = finish(rt.alloc(), &mut channel)?;
-    let commands = [act(0, 0, 0, 0), wr(4, 0, 0, 0, 0), rd(15, 0, 0, 0, 0)];
-    assert_eq!(rt; channel.trace(), commands.as_slice());
-    assert_eq!(rt; channel.now(), 24);
-    let times = times(rt.alloc(), &taken)?;
-    assert_eq!(rt; times.as_slice(), [(0, 4, 11), (0, 15, 23)].as_slice());
-    assert_eq!(rt; taken.len(), 2);
-    assert_eq!(rt; taken[0].port, 1);
-    assert_eq!(rt; taken[1].port, 0);
-    let mut line = ZEROS;
-    line[0] = 0xff;
-    assert_eq!(rt; *taken[1].line, line);
-    Ok(())
+    let mut channel = open(rt.alloc(), &[])?;
+    serve_two_ports(&rt, rt.alloc(), &mut channel)?;
+    check_trace(&rt, rt.alloc(), channel, &TWO_PORTS)
 }
 
-/// The read's row is opened first, though the write is older.
+/// RTW behind the read, whose row is opened first, though the write is older.
+const READ_FIRST: Outcome = Outcome {
+    commands: &[
+        Step::Act(0, 1, 0, 0),
+        Step::Rd(4, 1, 0, 0, 0),
+        Step::Act(5, 0, 0, 0),
+        Step::Wr(11, 0, 0, 0, 0),
+    ],
+    end: 19,
+    times: &[(1, 4, 12), (0, 11, 18)],
+    lines: &[(1, &[])],
+};
+
 #[test]
 fn read_passes_older_write(rt: HostRuntime) -> Result<(), Fail> {
-    let config = Config::read(rt.alloc(), PROFILE_S)?;
-    // RTW behind the read
-    let commands = [
-        act(0, 1, 0, 0),
-        rd(4, 1, 0, 0, 0),
-        act(5, 0, 0, 0),
-        wr(11, 0, 0, 0, 0),
-    ];
-    let expected = [(1, 4, 12), (0, 11, 18)];
-    let run = check(
-        &rt,
-        rt.alloc(),
-        &config,
-        &[write(0, 1, 0xff), read(512)],
-        commands.as_slice(),
-        19,
-        expected.as_slice(),
-    )?;
-    check_line(&rt, &run.taken, 1, ZEROS);
-    Ok(())
+    let accesses = [Access::Write(0, 1, 0xff), Access::Read(512)];
+    check(&rt, rt.alloc(), &[], &[(0, &accesses)], &READ_FIRST)
 }
