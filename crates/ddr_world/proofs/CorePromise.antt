@@ -1,19 +1,30 @@
 -- The core's promise, from what every record of events keeps.
-use Rattle.std.proofs.Common.{◌≡◌, ℕ, suc, ◌+◌, ◌≤◌, Bool, true, false, cond, List, [], ◌∷◌, ◌++◌, Option, Some, None, IfSome, is_none, Err, map, take, length, refl, sym, ap, ap₂, subst, ◌∙◌, inl, inr, arith}
-use Rattle.std.specs.List.{sum_by, slice_get, range_with_len}
+use Rattle.std.proofs.Common.{◌≡◌, ℕ, suc, ◌+◌, ◌<◌, ◌≤◌, Bool, true, false, not, cond, eqb, List, [], ◌∷◌, ◌++◌, Option, Some, None, IfSome, is_none, Ok, Err, map, take, length, refl, sym, ap, ap₂, subst, subst₂, ◌∙◌, inl, inr, arith}
+use Rattle.std.specs.List.{filter, sum_by, slice_get, range_with_len}
 use Rattle.std.specs.Option.{option_map, option_map_or, option_and_then, unwrap_or}
-use Rattle.std.specs.Result.{IsErr}
+use Rattle.std.specs.Result.{IfOk, IsErr}
 use Rattle.std.proofs.lemmas.Bool.{eq-eqb, eqb-true}
 use Rattle.std.proofs.lemmas.List.{length-map, take_all, append-nil}
+use Rattle.std.proofs.lemmas.List.Elements.{All-set}
 use Rattle.std.proofs.lemmas.List.Sums.{count_by-le-length}
 use Rattle.std.proofs.lemmas.Option.{slice_get_within}
 use Rattle.std.proofs.Math.Seq.{take-append_seam}
-use Rattle.circular_buffer.proofs.Places.{below_or_not, slice_get-some}
+use Rattle.circular_buffer.proofs.Places.{below_or_not, slice_get-some, slice_get-set_same, slice_get-set_other}
 use Rattle.ddr_address_map.specs.Requests.{Request, Completion}
 use Rattle.ddr_channel.proofs.HeldLemmas.{weigh_done, part_of_sum}
 use Rattle.ddr_channel.proofs.ListLemmas.{All-at}
 use Rattle.ddr_channel.proofs.PromiseLemmas.{promise_kept}
+use Rattle.ddr_arbiter.proofs.LawLemmas.{choice_lawful}
+use Rattle.ddr_arbiter.specs.declared.choice.Choice.{Choice}
+use Rattle.ddr_arbiter.specs.declared.choice.Choice.TheVariants as choice
+use Rattle.ddr_arbiter.specs.Commands.{precharge_all, refresh}
+use Rattle.ddr_arbiter.specs.Laws.{place_of}
+use Rattle.ddr_channel.specs.Choice.{choice_of, situation_of}
+use Rattle.ddr_channel.specs.Cycle.{at_choice, issued, after_cycle}
 use Rattle.ddr_channel.specs.State as channel_state
+use Rattle.ddr_timing.specs.declared.units.TheConstants.{CLOCK_STOP}
+use Rattle.ddr_trace.specs.declared.command.Entry.{Entry}
+use Rattle.ddr_trace.specs.Commands.{entry}
 use Rattle.ddr_trace.specs.Legality.{IsLegal}
 use Rattle.ddr_reorder.specs.Replies.{Answer, nth_answer}
 use Rattle.ddr_reorder.specs.State.{Outstanding}
@@ -24,9 +35,9 @@ use Rattle.ddr_world.specs.declared.event.Outcome.TheVariants as outcome
 use Rattle.ddr_world.specs.declared.item.Item.{Item}
 use Rattle.ddr_world.specs.Events.{Event, Submit, Take, Cycle, Deliver, Collect, Release, End}
 use Rattle.ddr_world.specs.History.{Opening, Answered, Whereabouts, History, front_of, run}
-use Rattle.ddr_world.specs.Promise.{reply_of, reply_at, replies_of_port, IsOver, KeepsPromise}
-use Rattle.ddr_world.specs.State.{PortSide, ChannelSide, is_completion_queue_full, IsPortDrained, IsChannelDrained, IsDrained}
-use Rattle.ddr_world.specs.Step.{made, with_port, with_channel, at_channel, sent, after_deliver, deliver_to, push_completion, deliver_by, submit_by, collect_by, release_by, change_channel, taken, end_at}
+use Rattle.ddr_world.specs.Promise.{reply_of, reply_at, replies_of_port, AddsRefresh, IsIdleCycle, IsOver, KeepsPromise}
+use Rattle.ddr_world.specs.State.{PortSide, ChannelSide, State, is_completion_queue_full, IsPortDrained, IsChannelDrained, IsDrained}
+use Rattle.ddr_world.specs.Step.{made, with_port, with_channel, at_channel, sent, after_deliver, deliver_to, push_completion, deliver_by, submit_by, collect_by, release_by, change_channel, taken, cycled, end_at}
 use Rattle.ddr_world.proofs.CoreCounts.{sum_ones}
 use Rattle.ddr_world.proofs.CoreKeeps.{requests_in, CoreKeeps, held_in, weight}
 use Rattle.ddr_world.proofs.CoreReplies.{awaited, awaited_test, done_right, lent_next}
@@ -191,10 +202,54 @@ over_end_by : (o : Opening) (h : History) (p c : ℕ) (x : Option PortSide) → 
 over_end_by o h p c None k drained there = refl
 over_end_by o h p c (Some port) k drained there = over_end o h p c port (slice_get h.state.channels c) k drained there refl
 
+-- but for a cycle
+
+-- with nothing pending only a refresh, or a precharge of all banks before it, is chosen
+only_refresh : (c : Choice) (s : channel_state.State) → s.pending ≡ [] → IfSome (place_of c) (λ place. place < length s.pending)
+    → ((issued c s).pending ≡ []) × ((issued c s).flight ≡ s.flight) × ((issued c s).done ≡ s.done) × AddsRefresh s.trace (issued c s).trace
+only_refresh choice.Nothing s empty within = (empty, refl, refl, inl refl)
+only_refresh choice.Refresh s empty within = (empty, refl, refl, inr (entry s.now refresh, refl, refl))
+only_refresh choice.PreAll s empty within = (empty, refl, refl, inr (entry s.now precharge_all, refl, refl))
+only_refresh (choice.Act place) s empty within = absurd (omega (arith, within, ap length empty))
+only_refresh (choice.Pre place) s empty within = absurd (omega (arith, within, ap length empty))
+only_refresh (choice.Column place) s empty within = absurd (omega (arith, within, ap length empty))
+
+cycle_drained : (side : ChannelSide) → IsChannelDrained side
+    → IsChannelDrained (record side { channel = after_cycle side.channel }) × AddsRefresh side.channel.trace (after_cycle side.channel).trace
+cycle_drained side drained =
+    let s = side.channel in
+    let t = at_choice s in
+    let only = only_refresh (choice_of t) t drained.pending (choice_lawful (situation_of t)).in_list in
+    let flight : t.flight ≡ [] = ap (filter (λ d. not (eqb d.due s.now))) drained.flight in
+    let done : t.done ≡ [] = ap₂ (λ (done flight : List Completion). done ++ filter (λ d. eqb d.due s.now) flight) drained.done drained.flight in
+    (record { noted = drained.noted; requests = drained.requests; pending = only.0; flight = only.1 ∙ flight; done = only.2 ∙ done }, only.3)
+
+over_cycle : (s : State) (c : ℕ) (x : Option ChannelSide) → IsDrained s → slice_get s.channels c ≡ x
+    → IfOk (option_map_or (λ side. change_channel s c outcome.Cycled (cycled side)) x (Err refusal.NoSuch)) (λ m. IsIdleCycle s c m.state)
+over_cycle s c None drained there = tt
+over_cycle s c (Some side) drained there = by_clock (eqb side.channel.now CLOCK_STOP)
+  where
+    trace_of_side : Option ChannelSide → List Entry
+    trace_of_side x = option_map_or (λ side. side.channel.trace) x []
+
+    next : ChannelSide
+    next = record side { channel = after_cycle side.channel }
+
+    by_clock : (stopped : Bool) → IfOk (change_channel s c outcome.Cycled (cond stopped (Err refusal.ClockSpent) (Ok next))) (λ m. IsIdleCycle s c m.state)
+    by_clock true = tt
+    by_clock false =
+        let idle = cycle_drained side (All-at IsChannelDrained s.channels c side drained.channels there) in
+        let here = slice_get-set_same s.channels c next (slice_get_within s.channels c side there) in record {
+          drained = record { ports = drained.ports; channels = All-set IsChannelDrained s.channels c next idle.0 drained.channels };
+          trace = subst₂ AddsRefresh (ap trace_of_side (sym there)) (ap trace_of_side (sym here)) idle.1;
+          ports = refl;
+          others = λ other apart. slice_get-set_other s.channels c other next apart;
+        }
+
 over : (o : Opening) (h : History) (event : Event) → CoreKeeps o h → IsDrained h.state → IsOver h.state event
 over o h (Submit p asked) k drained = over_submit o h p asked (slice_get h.state.ports p) k drained refl
 over o h (Take c) k drained = over_take o h c (slice_get h.state.channels c) drained refl
-over o h (Cycle c) k drained = tt
+over o h (Cycle c) k drained = over_cycle h.state c (slice_get h.state.channels c) drained refl
 over o h (Deliver c) k drained = over_deliver o h c (slice_get h.state.channels c) drained refl
 over o h (Collect p) k drained = over_collect o h p (slice_get h.state.ports p) drained refl
 over o h (Release p) k drained = over_release o h p (slice_get h.state.ports p) drained refl

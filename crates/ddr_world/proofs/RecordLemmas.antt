@@ -5,10 +5,9 @@ use Rattle.std.specs.Option.{option_map, option_and_then}
 use Rattle.ddr_channel.proofs.ListLemmas.{All-at}
 use Rattle.ddr_reorder.specs.declared.reply.Reply.{Reply}
 use Rattle.ddr_reorder.specs.Replies.{Answer, said, nth_answer}
-use Rattle.ddr_world.specs.declared.world.Closed.{Closed}
 use Rattle.ddr_world.specs.Close.{GaveAll}
 use Rattle.ddr_world.specs.History.{front_of, run}
-use Rattle.ddr_world.specs.Kept.{Kept, state_of}
+use Rattle.ddr_world.specs.Kept.{Kept, Left, state_of}
 use Rattle.ddr_world.specs.Promise.{replies_of_port}
 use Rattle.ddr_world.specs.Record.{IsNext}
 use Rattle.ddr_world.specs.State.{PortSide, State, IsPortDrained, IsDrained}
@@ -29,8 +28,8 @@ told_by_index f g a [] told = refl
 told_by_index f g a (x ∷ xs) told = ap₂ ◌∷◌ (told 0 x refl ∙ ap g (omega arith)) (told_by_index f g (a + 1) xs (λ i y is. told (suc i) y is ∙ ap g (omega arith)))
 
 -- a drained core that is closed gave all
-pub closed_gave_all : (k : Kept) (closed : Closed) → IsDrained (state_of k) → closed.accepted.items ≡ map (λ side. side.accepted) k.ports → closed.taken.items ≡ map (λ side. side.taken) k.ports → GaveAll k closed
-closed_gave_all k closed drained accepted taken opening events stands =
+pub closed_gave_all : (k : Kept) (left : Left) → IsDrained (state_of k) → left.accepted ≡ map (λ side. side.accepted) k.ports → left.taken ≡ map (λ side. side.taken) k.ports → GaveAll k left
+closed_gave_all k left drained accepted taken opening events stands =
     let h = run opening events in
     let promise = core_keeps_promise opening events in
     let ports : k.ports ≡ h.state.ports = ap (λ (s : State). s.ports) stands.state in

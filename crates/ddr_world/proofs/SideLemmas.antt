@@ -1,7 +1,7 @@
 -- What the calls of a port or a channel make of its side.
 use Rattle.std.proofs.Common.{◌≡◌, ◌↔◌, IsTrue, ℕ, Bool, true, false, cond, eqb, List, Result, Ok, Err, length, drop, refl, sym, ap, subst, ◌∙◌, arith}
 use Rattle.std.specs.List.{All}
-use Rattle.std.specs.Result.{IsOk, IsErr, IsErrOf, OnOk}
+use Rattle.std.specs.Result.{IsOk, IsErr, IsErrOf, IsErrAnd, IfErr, OnOk}
 use Rattle.std.specs.Vec.{with_item}
 use Rattle.std.proofs.lemmas.Bool.{false≢true, ne_eqb}
 use Rattle.std.proofs.lemmas.List.{length-drop, length-set}
@@ -11,16 +11,21 @@ use Rattle.ddr_timing.specs.declared.config.Config.{Config}
 use Rattle.ddr_timing.specs.declared.units.TheConstants.{CLOCK_STOP}
 use Rattle.ddr_address_map.specs.declared.request.Kind.{Kind}
 use Rattle.ddr_address_map.specs.declared.request.Kind.TheVariants.{Read, Write}
+use Rattle.ddr_arbiter.specs.declared.choice.Choice.TheVariants as choice
 use Rattle.ddr_channel.specs.declared.channel.CycleError.{CycleError}
-use Rattle.ddr_channel.specs.declared.channel.CycleError.TheVariants.{ClockSpent}
-use Rattle.ddr_channel.specs.Cycle.{after_cycle}
+use Rattle.ddr_channel.specs.declared.channel.CycleError.TheVariants.{ClockSpent, OutOfMemory}
+use Rattle.ddr_channel.specs.Choice.{choice_of}
+use Rattle.ddr_channel.specs.Cycle.{at_choice, after_cycle}
 use Rattle.ddr_channel.specs.Kept as channel
 use Rattle.ddr_channel.specs.State as channel_state
 use Rattle.ddr_channel.specs.State.{is_queue_full}
+use Rattle.ddr_world.specs.declared.event.Refusal.{Refusal}
 use Rattle.ddr_world.specs.declared.event.Refusal.TheVariants as refusal
 use Rattle.ddr_world.specs.declared.item.Item.{Item}
 use Rattle.ddr_world.specs.declared.channel_side.ChannelSide.TheInside.{Inside}
+use Rattle.ddr_world.specs.Answer.{Issues}
 use Rattle.ddr_world.specs.Kept.{KeptSide, side_of}
+use Rattle.ddr_world.specs.Refusals.{cycle_refusal_from}
 use Rattle.ddr_world.specs.Step.{cycled}
 use Rattle.ddr_world.specs.View.{IsChannelWhole, IsServedItem}
 
@@ -61,3 +66,10 @@ cycled_ok side k (Ok x) is spent =
     ap (λ b. cond b (Err refusal.ClockSpent) (Ok (record (side_of side) { channel = after_cycle (channel.state_of side.channel) }))) running
     ∙ ap (λ (s : channel_state.State). Ok (record (side_of side) { channel = s })) (sym is)
 cycled_ok side k (Err e) is spent = tt
+
+-- a cycle that was refused for want of memory would have issued a command
+pub wanted : {T U : Type 0} (s : channel_state.State) (e : CycleError) (r : Result T Refusal) → (choice_of (at_choice s) ≡ choice.Nothing → IsErrOf {T = U} {E = CycleError} (Err e) OutOfMemory → ⊥)
+    → IsErrAnd r (λ cause. cause ≡ cycle_refusal_from e) → IfErr r (λ cause. cause ≡ refusal.OutOfMemory → Issues s)
+wanted s e (Ok x) idle is = absurd is
+wanted s ClockSpent (Err cause) idle is = λ memory. absurd (let clock : refusal.ClockSpent ≡ refusal.OutOfMemory = sym is ∙ memory in cc)
+wanted s OutOfMemory (Err cause) idle is = λ memory nothing. idle nothing refl

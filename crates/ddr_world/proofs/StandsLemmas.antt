@@ -20,7 +20,7 @@ record_more h (first ∷ later) a is may = (is.0, record_more (after h first) la
 
 may_answer : (s : State) (k k' : Kept) (event : Event) (answer : Result Outcome Refusal) → state_of k ≡ s → IsAnswered k k' event answer → MayAnswer s event answer
 may_answer s k k' event (Ok o) is answered = (state_of k', ap (λ (t : State). step t event) (sym is) ∙ answered.ok)
-may_answer s k k' event (Err cause) is answered = subst (λ (t : State). MayAnswer t event (Err cause)) is answered.refused
+may_answer s k k' event (Err cause) is answered = subst (λ (t : State). MayAnswer t event (Err cause)) is (answered.refused, answered.memory)
 
 state_after : (h : History) (k k' : Kept) (event : Event) (answer : Result Outcome Refusal) → state_of k ≡ h.state → IsAnswered k k' event answer → state_of k' ≡ (after_answer h event answer).state
 state_after h k k' event (Ok o) is answered =

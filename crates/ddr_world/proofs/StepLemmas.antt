@@ -7,6 +7,8 @@ use Rattle.std.proofs.lemmas.Option.{slice_get-map, slice_get_past, get_or_from_
 use Rattle.std.proofs.Math.Seq.{map-set_same}
 use Rattle.ddr_address_map.specs.Requests.{Request, Completion}
 use Rattle.ddr_reorder.specs.Replies.{front_number}
+use Rattle.ddr_timing.specs.declared.units.TheConstants.{CLOCK_STOP}
+use Rattle.ddr_channel.specs.Cycle.{after_cycle}
 use Rattle.ddr_ports.specs.Asked.{Asked}
 use Rattle.ddr_ports.specs.State.{refusal_of, request_at}
 use Rattle.ddr_ports.specs.declared.refusal.PortError.{PortError}
@@ -15,12 +17,12 @@ use Rattle.ddr_world.specs.declared.event.Outcome.TheVariants as outcome
 use Rattle.ddr_world.specs.declared.event.Refusal.{Refusal}
 use Rattle.ddr_world.specs.declared.event.Refusal.TheVariants as refusal
 use Rattle.ddr_world.specs.declared.item.Item.TheVariants as item
-use Rattle.ddr_world.specs.Answer.{IsRefused, IsAnswered}
+use Rattle.ddr_world.specs.Answer.{IsRefused, Issues, MayWantMemory, IsAnswered}
 use Rattle.ddr_world.specs.Events.{Event, Submit, Take, Cycle, Deliver, Collect, Release, End}
 use Rattle.ddr_world.specs.Kept.{KeptSide, Kept, side_of, state_of}
 use Rattle.ddr_world.specs.Refusals.{refusal_from}
 use Rattle.ddr_world.specs.State.{PortSide, ChannelSide, State, is_busy, is_completion_queue_full}
-use Rattle.ddr_world.specs.Step.{Step, IsRefusedFor, made, with_port, with_channel, at_port, at_channel, change_channel, queued, after_submit, push_on, push_request, submit_by, sent, after_deliver, deliver_to, push_completion, deliver_by, after_collect, collect_by, after_release, release_by, after_end, end_at, step}
+use Rattle.ddr_world.specs.Step.{Step, IsRefusedFor, made, with_port, with_channel, at_port, at_channel, change_channel, cycled, queued, after_submit, push_on, push_request, submit_by, sent, after_deliver, deliver_to, push_completion, deliver_by, after_collect, collect_by, after_release, release_by, after_end, end_at, step}
 
 -- the side of a number
 
@@ -62,11 +64,37 @@ is_refused (Collect p) cause s is = is
 is_refused (Release p) cause s is = is
 is_refused (End p c) cause s is = is
 
+-- what the step refuses by name is not refused for want of memory
+
+no_want_clock : (s : State) (c : ℕ) (side : ChannelSide) (stopped : Bool)
+    → change_channel s c outcome.Cycled (cond stopped (Err refusal.ClockSpent) (Ok (record side { channel = after_cycle side.channel }))) ≡ Err refusal.OutOfMemory → ⊥
+no_want_clock s c side true is = cc
+no_want_clock s c side false is = cc
+
+no_want_cycle : (s : State) (c : ℕ) (x : Option ChannelSide) → option_map_or (λ side. change_channel s c outcome.Cycled (cycled side)) x (Err refusal.NoSuch) ≡ Err refusal.OutOfMemory → ⊥
+no_want_cycle s c None is = cc
+no_want_cycle s c (Some side) is = no_want_clock s c side (eqb side.channel.now CLOCK_STOP) is
+
+no_want : (s : State) (event : Event) (cause : Refusal) → step s event ≡ Err cause → cause ≡ refusal.OutOfMemory → MayWantMemory s event
+no_want s (Submit p asked) cause is memory = tt
+no_want s (Take c) cause is memory = tt
+no_want s (Cycle c) cause is memory = absurd (no_want_cycle s c (slice_get s.channels c) (is ∙ ap (λ (name : Refusal). Err name) memory))
+no_want s (Deliver c) cause is memory = tt
+no_want s (Collect p) cause is memory = tt
+no_want s (Release p) cause is memory = tt
+no_want s (End p c) cause is memory = tt
+
 pub answered : (k k' : Kept) (event : Event) (o : Outcome) (s : State) → step (state_of k) event ≡ made s o → state_of k' ≡ s → k'.config ≡ k.config → IsAnswered k k' event (Ok o)
-answered k k' event o s is state config = record { ok = is ∙ ap (λ t. made t o) (sym state); refused = tt; err = tt; config = config }
+answered k k' event o s is state config = record { ok = is ∙ ap (λ t. made t o) (sym state); refused = tt; memory = tt; err = tt; config = config }
 
 pub refused : (k k' : Kept) (event : Event) (cause : Refusal) → step (state_of k) event ≡ Err cause → state_of k' ≡ state_of k → k'.config ≡ k.config → IsAnswered k k' event (Err cause)
-refused k k' event cause is state config = record { ok = tt; refused = is_refused event cause (step (state_of k) event) is; err = state; config = config }
+refused k k' event cause is state config = record {
+  ok = tt;
+  refused = is_refused event cause (step (state_of k) event) is;
+  memory = no_want (state_of k) event cause is;
+  err = state;
+  config = config;
+}
 
 -- an event of one channel alone
 
@@ -92,11 +120,13 @@ refused_for s c o cause (Err name) is = is
 
 -- a cycle, which want of memory may stop too
 pub cycle_refused : (k : Kept) (c : ℕ) (old new : KeptSide) (o : Outcome) (cause : Refusal) (f : ChannelSide → Result ChannelSide Refusal)
-    → step (state_of k) (Cycle c) ≡ at_channel (state_of k) c (λ side. change_channel (state_of k) c o (f side)) → slice_get k.channels c ≡ Some old → IsRefusedFor cause (f (side_of old)) → side_of new ≡ side_of old
+    → step (state_of k) (Cycle c) ≡ at_channel (state_of k) c (λ side. change_channel (state_of k) c o (f side)) → slice_get k.channels c ≡ Some old → IsRefusedFor cause (f (side_of old)) → (cause ≡ refusal.OutOfMemory → Issues (side_of old).channel)
+    → side_of new ≡ side_of old
     → IsAnswered k (record k { channels = slice_set k.channels c new }) (Cycle c) (Err cause)
-cycle_refused k c old new o cause f is there refused_is same = record {
+cycle_refused k c old new o cause f is there refused_is wanted same = record {
   ok = tt;
   refused = subst (IsRefusedFor cause) (sym (is ∙ at_channel_is k c old (λ side. change_channel (state_of k) c o (f side)) there)) (refused_for (state_of k) c o cause (f (side_of old)) refused_is);
+  memory = λ memory. subst (λ (x : Option ChannelSide). IfSome x (λ side. Issues side.channel)) (sym (slice_get-map side_of k.channels c ∙ ap (option_map side_of) there)) (wanted memory);
   err = channel_same k c old new there same;
   config = refl;
 }

@@ -1,6 +1,8 @@
--- What contracts see of the core: its state, with what is kept of each channel in place of the channel's state.
-use Rattle.std.specs.Prelude.{Bool, List, map}
+-- What contracts see of the core: its state, with what is kept of each channel in place of the channel's state; and of
+-- what is left of it.
+use Rattle.std.specs.Prelude.{ℕ, Bool, List, Option, map}
 use Rattle.ddr_timing.specs.declared.config.Config.{Config}
+use Rattle.ddr_trace.specs.Traces.{Recorded}
 use Rattle.ddr_channel.specs.Kept as channel_kept
 use Rattle.ddr_world.specs.declared.item.Item.{Item}
 use Rattle.ddr_world.specs.State.{PortSide, ChannelSide, State}
@@ -14,6 +16,12 @@ pub record Kept : Type 0 where
   pub config : Config
   pub ports : List PortSide
   pub channels : List KeptSide
+
+-- of each port how many requests it had accepted and how many replies it gave up, and the trace of each channel
+pub record Left : Type 0 where
+  pub accepted : List ℕ
+  pub taken : List ℕ
+  pub traces : List (Option Recorded)
 
 abbrev pub side_of : KeptSide → ChannelSide
 side_of k = record { channel = channel_kept.state_of k.channel; requests = k.requests; noted = k.noted }

@@ -1,10 +1,13 @@
 -- The core's promise, over every record of events: which replies each port has a right to, and that it takes
 -- the first of them, in order.
-use Rattle.std.specs.Prelude.{◌≡◌, ◌≢◌, ℕ, ◌+◌, ◌/◌, ◌%◌, Bool, true, ◌&&◌, ◌==◌, List, [], length, take, map, fold, if◌then◌else◌, slice_get, slice_index, Option, Some, Err, IfSome, IsErr}
+use Rattle.std.specs.Prelude.{◌≡◌, ◌≢◌, ℕ, ◌+◌, ◌/◌, ◌%◌, Bool, true, false, ◌&&◌, ◌==◌, ◌⊎◌, List, [], ◌∷◌, ◌++◌, length, take, map, fold, if◌then◌else◌, slice_get, slice_index, Option, Some, Err, IfOk, IfSome, IsErr}
 use Rattle.std.specs.List.{range_with_len}
 use Rattle.std.specs.Int.{bit_at}
-use Rattle.std.specs.Option.{option_map}
+use Rattle.std.specs.Option.{option_map, option_map_or}
 use Rattle.ddr_timing.specs.declared.units.TheConstants.{LINE_BYTES}
+use Rattle.ddr_trace.specs.declared.command.Command.{Command}
+use Rattle.ddr_trace.specs.declared.command.Command.TheVariants as command
+use Rattle.ddr_trace.specs.declared.command.Entry.{Entry}
 use Rattle.ddr_trace.specs.Legality.{IsLegal}
 use Rattle.ddr_address_map.specs.declared.request.Kind.{Kind}
 use Rattle.ddr_address_map.specs.declared.request.Kind.TheVariants.{Read, Write}
@@ -58,9 +61,30 @@ pub record IsCounted (h : History) (p : ℕ) (side : PortSide) : Type 0 where
   pub taken : side.taken ≡ length (h.taken p)
   pub outstanding : length (h.taken p) + length side.core.reorder.outstanding ≡ length (h.sent p)
 
--- the event is refused, whatever it asks for; a channel may still make cycles
+-- the commands of the channel so far
+abbrev pub trace_at : State → ℕ → List Entry
+trace_at s c = option_map_or (λ side. side.channel.trace) (slice_get s.channels c) []
+
+-- REF, and PREA before it: they serve no request
+abbrev pub is_for_refresh : Command → Bool
+is_for_refresh (command.Refresh rank) = true
+is_for_refresh (command.PreAll rank) = true
+is_for_refresh _ = false
+
+-- a refresh or a precharge of all banks stands behind the commands, or nothing does
+abbrev pub AddsRefresh : List Entry → List Entry → Type 0
+AddsRefresh before after = (after ≡ before) ⊎ ((e : Entry) × (is_for_refresh e.command ≡ true) × (after ≡ before ++ e ∷ []))
+
+-- a cycle of the channel that only goes on refreshing: all is drained as before
+pub record IsIdleCycle (before : State) (c : ℕ) (after : State) : Type 0 where
+  pub drained : IsDrained after
+  pub trace : AddsRefresh (trace_at before c) (trace_at after c)
+  pub ports : after.ports ≡ before.ports
+  pub others : (other : ℕ) → other ≢ c → slice_get after.channels other ≡ slice_get before.channels other
+
+-- the event is refused, whatever it asks for; a cycle may still be made, which only goes on refreshing
 abbrev pub IsOver : State → Event → Type 0
-IsOver s (Cycle c) = Unit {0}
+IsOver s (Cycle c) = IfOk (step s (Cycle c)) (λ m. IsIdleCycle s c m.state)
 IsOver s event = IsErr (step s event)
 
 -- after orderly close: each port took all its replies, each channel admitted all that was accepted, and nothing more comes

@@ -3,7 +3,8 @@ use Rattle.std.specs.Prelude.{◌≡◌, ℕ, List, [], ◌∷◌, ◌++◌, len
 use Rattle.ddr_reorder.specs.Replies.{Answer}
 use Rattle.ddr_world.specs.declared.event.Outcome.{Outcome}
 use Rattle.ddr_world.specs.declared.event.Refusal.{Refusal}
-use Rattle.ddr_world.specs.Answer.{IsRefused}
+use Rattle.ddr_world.specs.declared.event.Refusal.TheVariants.{OutOfMemory}
+use Rattle.ddr_world.specs.Answer.{IsRefused, MayWantMemory}
 use Rattle.ddr_world.specs.Events.{Event}
 use Rattle.ddr_world.specs.History.{Opening, Answered, History, begun, after, run}
 use Rattle.ddr_world.specs.Kept.{Kept, state_of}
@@ -14,7 +15,7 @@ use Rattle.ddr_world.specs.Step.{made, step}
 -- what may come of an event in a state
 abbrev pub MayAnswer : State → Event → Result Outcome Refusal → Type 0
 MayAnswer s event (Ok o) = (next : State) × (step s event ≡ made next o)
-MayAnswer s event (Err cause) = IsRefused cause event (step s event)
+MayAnswer s event (Err cause) = IsRefused cause event (step s event) × (cause ≡ OutOfMemory → MayWantMemory s event)
 
 -- each event came to what it may in the state that those before it left
 abbrev pub IsRecord : History → List Answered → Type 0

@@ -65,7 +65,7 @@ pub struct RunReport {
 #[derive(Clone, Copy, Debug, PartialEq, Eq)]
 pub struct NotDrained;
 
-/// What is left of a core that was closed.
+/// What is left of a core that was closed. Contracts see three lists, as a `Left` of `specs/`.
 #[derive(Drop)]
 pub struct Closed {
     /// How many requests each port had accepted.
@@ -74,6 +74,14 @@ pub struct Closed {
     pub taken: ArrayVec<u64, MOST_PORTS>,
     /// The commands of each channel. Each is there: a trace has no blank, which the vector needs.
     pub traces: ArrayVec<Option<Trace>, MOST_CHANNELS>,
+}
+
+impl Model for Closed {
+    ghost use Rattle.ddr_world.specs.Kept.{Left};
+
+    ghost Value = { Left };
+
+    ghost view = { λ c. record { accepted = c.accepted.items; taken = c.taken.items; traces = c.traces.items } };
 }
 
 impl World {
@@ -105,7 +113,8 @@ impl World {
         })
     }
 
-    /// Makes an event, or says why not. Memory is asked for in `Cycle` alone.
+    /// Makes an event, or says why not. Memory is asked for in `Cycle` alone, and there only where the channel issues a
+    /// command.
     pub fn step(&mut self, event: Event<'_>) -> Result<Outcome, Refusal>
         ensures answer { IsAnswered self.old self.new (event_of event.entry) result }
         ensures stands { (opening : Opening) (earlier : List Answered) → StandsFor self.old opening earlier
@@ -299,7 +308,9 @@ impl World {
         self.channels.iter().all(|side| side.is_drained())
     }
 
-    /// Gives up the core where it is drained, and tells what each port did and the commands of each channel.
+    /// Gives up the core where it is drained, and tells what each port did and the commands of each channel. Nothing
+    /// more could come of it: each further event would be refused, but for a cycle, which adds a refresh, a precharge of
+    /// all banks or nothing to its channel's trace.
     pub fn close(self) -> Result<Closed, (World, NotDrained)>
         ensures drained { IsOk result ↔ IsDrained (state_of self) }
         ensures ok { IfOk result (IsLeftOf self) }

@@ -1,5 +1,5 @@
 //! A port and a channel by themselves: what stands ready as completions come in another order than the requests.
-ghost use Rattle.std.specs.Prelude.{◌≡◌};
+ghost use Rattle.std.specs.Prelude.{◌≡◌, IfOk};
 
 use super::*;
 use ddr_channel::channel::Channel;
@@ -19,37 +19,67 @@ fn ask(port: &mut PortCore, channel: &mut Channel, addr: u64) -> Result<(), Fail
     }
 }
 
-/// So many cycles. What is done in each goes to the port.
-fn cycles(port: &mut PortCore, channel: &mut Channel, count: u32) -> Result<(), Fail> {
-    for _cycle in 0..count {
-        channel.cycle()?;
-        if let Some(done) = channel.pop_done() {
-            if port.fill(done).is_err() {
-                return Err("the port does not wait for it".into());
-            }
+/// Reads of two DRAM rows of a bank, and then of another line of the first of them.
+fn ask_all(port: &mut PortCore, channel: &mut Channel) -> Result<(), Fail>
+    requires { port.old.geometry ≡ channel.old.config.geometry }
+{
+    ask(port, channel, 0)?;
+    ask(port, channel, 8192)?;
+    ask(port, channel, 64)
+}
+
+/// A cycle. What is done in it goes to the port.
+fn cycle(port: &mut PortCore, channel: &mut Channel) -> Result<(), Fail> {
+    channel.cycle()?;
+    if let Some(done) = channel.pop_done() {
+        if port.fill(done).is_err() {
+            return Err("the port does not wait for it".into());
         }
     }
     Ok(())
 }
 
-/// Reads of two DRAM rows of a bank, and then another line of the first of them: that younger row hit comes back in
-/// cycle 17, and the read of the second DRAM row in cycle 28.
+fn cycles(port: &mut PortCore, channel: &mut Channel, count: u32) -> Result<(), Fail> {
+    for _cycle in 0..count {
+        cycle(port, channel)?;
+    }
+    Ok(())
+}
+
+/// The number of the reply behind the oldest one, where it is ready.
+fn second(port: &PortCore) -> Option<u64> {
+    match port.nth(1) {
+        Some(reply) => Some(reply.number),
+        None => None,
+    }
+}
+
+/// The younger row hit comes back in cycle 17, and the read of the second DRAM row in cycle 28.
+fn has_replies(rt: &impl Abort, port: &mut PortCore, channel: &mut Channel) -> Result<(), Fail> {
+    cycles(port, channel, 17)?;
+    assert_eq!(rt; port.release(), Some(0));
+    for (count, ready, number) in [(1, 0, None), (11, 2, Some(2))] {
+        cycles(port, channel, count)?;
+        assert_eq!(rt;
+            (port.ready(), port.outstanding(), second(port)),
+            (ready, 2, number)
+        );
+    }
+    Ok(())
+}
+
+/// A port and a channel of profile S.
+fn open(alloc: Global) -> Result<(PortCore, Channel), Fail>
+    ensures { IfOk result (λ both. both.0.geometry ≡ both.1.config.geometry) }
+{
+    let config = Config::read(alloc, PROFILE_S)?;
+    let port = PortCore::open(alloc, &config, 0, 0)?;
+    Ok((port, Channel::open(alloc, &config, 0)?))
+}
+
 #[test]
 fn a_younger_reply_waits_for_the_older_one(rt: HostRuntime) -> Result<(), Fail> {
-    let config = Config::read(rt.alloc(), PROFILE_S)?;
-    let mut port = PortCore::open(rt.alloc(), &config, 0, 0)?;
-    let mut channel = Channel::open(rt.alloc(), &config, 0)?;
-    ask(&mut port, &mut channel, 0)?;
-    ask(&mut port, &mut channel, 8192)?;
-    ask(&mut port, &mut channel, 64)?;
-    cycles(&mut port, &mut channel, 17)?;
-    assert_eq!(rt; port.release(), Some(0));
-    cycles(&mut port, &mut channel, 1)?;
-    assert_eq!(rt; (port.ready(), port.outstanding()), (0, 2));
-    assert!(rt; port.nth(1).is_none());
-    cycles(&mut port, &mut channel, 11)?;
-    assert_eq!(rt; (port.ready(), port.outstanding()), (2, 2));
-    let reply = port.nth(1).ok_or("no reply")?;
-    assert_eq!(rt; reply.number, 2);
-    Ok(())
+    let (mut port, mut channel) = open(rt.alloc())?;
+    ask_all(&mut port, &mut channel)?;
+    has_replies(&rt, &mut port, &mut channel)
 }

@@ -24,7 +24,7 @@ returns-in_err-cycle c =
     let after = record (kept_of a) { channels = slice_set a.channels.items c.args.channel c.cycle.new.self } in
     subst (λ (r : Result Outcome Refusal). IsAnswered c.args.self.now after (Cycle c.args.channel) r) (sym is)
     (subst (λ (k : Kept). IsAnswered k after (Cycle c.args.channel) (Err cause)) c.self.view_is
-    (cycle_refused (kept_of a) c.args.channel c.index_mut.result.now c.cycle.new.self Cycled cause cycled refl there c.in_err-cycle.ensures.refused c.in_err-cycle.ensures.err))
+    (cycle_refused (kept_of a) c.args.channel c.index_mut.result.now c.cycle.new.self Cycled cause cycled refl there c.in_err-cycle.ensures.refused c.in_err-cycle.ensures.memory c.in_err-cycle.ensures.err))
 
 pub invariant_of-self : goal.invariant_of-self
 invariant_of-self c =
