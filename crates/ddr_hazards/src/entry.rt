@@ -7,7 +7,7 @@ ghost use Rattle.ddr_hazards.specs.Hazards.{is_same_line};
 use crate::waiting::Waiting;
 use ddr_address_map::place::Place;
 
-/// A pending request with what is kept of it, so that no call looks through the older ones for it.
+/// A pending request with what is kept of it, so that `blocked` looks through no older ones.
 #[derive(Drop)]
 pub(crate) struct Entry {
     pub waiting: Waiting,

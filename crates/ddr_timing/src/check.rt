@@ -1,6 +1,6 @@
 //! Why a configuration's table is refused.
 //!
-//! Below stands `table`, with what the table holds at a key; `config` takes the values of a table that
+//! Below stands `table`, with what the table holds at a key; `values` takes the values of a table that
 //! passed.
 ghost use Rattle.std.specs.Prelude.{◌≡◌, ◌≢◌, ◌<◌, IfErr, IfSome, None, OnOk, find, length, not, position};
 ghost use Rattle.std.specs.Result.{result_err};

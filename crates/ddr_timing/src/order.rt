@@ -1,6 +1,6 @@
 //! The text of `map`: the words of the five address digits, the least significant digit first.
 //!
-//! Below stands `geometry` with the digits themselves; `table` reads the text of a configuration by it.
+//! Below stands `geometry` with the digits themselves; `table` reads the text of `map` by it.
 ghost use Rattle.std.specs.Prelude.{◌≡◌, List, IfSome, IsTrue, Some, option_map};
 ghost use Rattle.ddr_timing.specs.declared.geometry.Digit.{Digit};
 ghost use Rattle.ddr_timing.specs.Order.{digit_of, each_once, order_of, same_digit, stands_once, text_of};

@@ -1,7 +1,7 @@
 //! What the table of a configuration's text holds at a key.
 //!
 //! Below stand `key`, with the keys and their domains, and `order`, which reads the text of `map`;
-//! `check` and `config` read a table by this module alone.
+//! `check` and `values` read a table by this module alone.
 ghost use Rattle.std.specs.Prelude.{◌≡◌, IsTrue, option_and_then, option_map};
 ghost use Rattle.toml.specs.Data.{as_integer};
 ghost use Rattle.toml.specs.View.{table_view, view};

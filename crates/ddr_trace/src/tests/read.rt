@@ -177,6 +177,8 @@ fn headers(rt: HostRuntime) {
             Err(TraceError::Header),
         ),
         ("cycle,cmd,rank,group,bank,row,col\r\n9,END,,,,,\r\n", Ok(9)),
+        // A carriage return alone ends a record too.
+        ("cycle,cmd,rank,group,bank,row,col\r9,END,,,,,\r", Ok(9)),
         (
             "\u{feff}cycle,cmd,rank,group,bank,row,col\n9,END,,,,,",
             Ok(9),
@@ -258,4 +260,42 @@ fn each_read_fails(rt: HostRuntime) {
     };
     let end = read_trace(rt.alloc(), reader).map(|trace| trace.end);
     assert_eq!(rt; end, Ok(24));
+}
+
+const REFRESH: &[u8] = b"7,REF,0,,,,\n";
+
+/// A reader that gives the header and then refreshes without end, and fails once it gave 900,000 bytes: 113,522 more than
+/// the header and 65,537 refreshes.
+#[derive(Drop)]
+struct Endless {
+    given: usize,
+}
+
+impl Endless {
+    fn next_byte(&mut self) -> u8 {
+        let place = self.given;
+        self.given = place.wrapping_add(1);
+        match place.checked_sub(HEADER.len()) {
+            None => HEADER[place],
+            Some(behind) => REFRESH[behind % REFRESH.len()],
+        }
+    }
+}
+
+impl Read for Endless {
+    fn read(&mut self, buf: &mut [u8]) -> io::Result<usize> {
+        if self.given >= 900_000 {
+            return Err(io::Error::from(ErrorKind::Other));
+        }
+        for byte in buf.iter_mut() {
+            *byte = self.next_byte();
+        }
+        Ok(buf.len())
+    }
+}
+
+#[test]
+fn a_text_without_end_is_read_to_an_answer(rt: HostRuntime) {
+    let read = read_trace(rt.alloc(), Endless { given: 0 });
+    assert_eq!(rt; read.err(), Some(TraceError::TooLong));
 }
