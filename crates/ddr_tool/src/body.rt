@@ -1,6 +1,6 @@
 //! The two parts of a command's input: a configuration, and the body that the command is for.
 //!
-//! `fault` and `ddr_timing` stand below; `map` opens its input by this.
+//! `fault` and `ddr_timing` stand below; every command opens its input by this.
 ghost use Rattle.std.specs.Prelude.{◌≡◌, ◌≤◌, ◌++◌, ◌∷◌, IfErr, IfOk, None, Some, false, length};
 ghost use Rattle.std.specs.Str.Lines.{lines};
 ghost use Rattle.ddr_tool.specs.Body.{IsOpened, IsRefused, has_mark, is_mark, parts_of, split_of};

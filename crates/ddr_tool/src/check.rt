@@ -1,6 +1,6 @@
 //! Whether a trace is legal: a configuration and a trace's text in, a verdict out.
 //!
-//! `input`, `body`, `writing`, `ddr_legality` and `ddr_trace` stand below, and `main` above.
+//! `input`, `body`, `writing`, `ddr_legality` and `ddr_trace` stand below, and `main` and `outcome` above.
 ghost use Rattle.std.specs.Prelude.{◌≡◌, IfErr, IfOk, IfSome, IsErrOf, IsTrue, string_bytes};
 ghost use Rattle.ddr_trace.specs.declared.checker.Fault as checker;
 ghost use Rattle.ddr_tool.specs.Check.{HasCheckFault, IsChecked, IsVerdict, verdict_text};

@@ -41,13 +41,13 @@ pub enum Fault {
     /// No port takes the request of a line of the script. Lines count from 1, skipped ones too.
     #[error("request line {line} {cause}")]
     RequestLine { line: u64, cause: RequestError },
-    /// A line of addresses is none. Lines count from 1, behind the line `---`, skipped ones too.
+    /// A line of the addresses is no address. Lines count from 1, behind the line `---`, skipped ones too.
     #[error("map line {line}")]
     MapLine { line: u64 },
     /// The trace's first record is not the header.
     #[error("trace Header")]
     TraceHeader,
-    /// A record of the trace is none of a trace. Lines count records from 1, the header being 1.
+    /// A record is of no form that a trace has. Lines count records from 1, the header being 1.
     #[error("trace Row {line}")]
     TraceRow { line: u64 },
     /// A record stands behind END.

@@ -1,7 +1,7 @@
 //! How the threads of a run stop one another.
 //!
-//! `ddr_workers` stands below, whose workers ask a gate before each turn; `hosting` and `threads` raise the flag and look
-//! at it.
+//! `ddr_workers` stands below, whose workers ask a gate before each turn; `threads` raises the flag; `hosting` and the
+//! workers' gates look at it.
 ghost use Rattle.std.specs.Prelude.{◌≡◌};
 ghost use Rattle.ddr_tool.specs.declared.flag.Stop.TheVariants.{OutOfMemory};
 

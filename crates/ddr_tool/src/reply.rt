@@ -1,6 +1,6 @@
 //! The texts that a run prints: of a reply, and of a request that is refused.
 //!
-//! `ddr_reorder` and `ddr_world` stand below; `simulation` prints by this.
+//! `ddr_reorder` and `ddr_world` stand below; `simulation` and `hosting` print by this.
 ghost use Rattle.std.specs.Prelude.{◌≡◌, IfOk, string_bytes};
 ghost use Rattle.ddr_reorder.specs.Replies.{said};
 ghost use Rattle.ddr_tool.specs.Replies.{name_of, refused_text, reply_text};

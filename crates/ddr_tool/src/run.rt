@@ -1,6 +1,6 @@
 //! A run of a script in threads: bytes in, the replies of each port and a verdict on each channel's trace out.
 //!
-//! Every other module of the program but `sim`, `check` and `map` stands below, and `main` above.
+//! `input`, `body`, `instructions`, `requests`, `threads`, `outcome` and `writing` stand below, and `main` above.
 ghost use Rattle.std.specs.Prelude.{◌≡◌, IfErr, IfOk, IfSome, None, map, string_bytes};
 ghost use Rattle.ddr_tool.specs.Input.{IsText};
 ghost use Rattle.ddr_tool.specs.Script.{view};

@@ -1,6 +1,6 @@
 //! A run of a script: bytes in, replies or a trace out.
 //!
-//! Every other module of the program stands below, and `main` above.
+//! `input`, `body`, `instructions`, `simulation` and `writing` stand below, and `main` above.
 ghost use Rattle.std.specs.Prelude.{◌≡◌, IsTrue, IfErr, IfSome, OnOk};
 ghost use Rattle.ddr_tool.specs.Fault.{is_before_output};
 ghost use Rattle.ddr_tool.specs.Sims.{HasSimFault, IsRun, has_channel};

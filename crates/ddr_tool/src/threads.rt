@@ -52,7 +52,8 @@ impl Ended {
 /// Runs ports and workers to their ends, each in a thread. The ports ask for what the script says.
 ///
 /// Where one stops before its end the others stop too, and it is told why the first one stopped by itself, in the
-/// order of channels and then of ports. No memory but that of the replies' texts is asked for while threads run.
+/// order of channels and then of ports. While threads run, memory is asked for by the replies' texts and the
+/// channels' cycles alone.
 pub fn run_all<R: Threads + Wait + Sync>(
     rt: &R,
     alloc: Global,

@@ -473,32 +473,38 @@ fn runs_well<R: Threads + Wait + Sync>(
     Ok(legal && is_right(alloc, &script, text.as_str())?)
 }
 
-/// Profile S with eight ports and four channels, in which lines next to each other are of different channels.
-fn eight_by_four(alloc: Global) -> Result<String, AllocError> {
-    PROFILE_S
-        .replace(alloc, "\nchannels = 2", "\nchannels = 4")?
-        .replace(alloc, "\nports = 2", "\nports = 8")?
-        .replace(
-            alloc,
-            "column group bank row channel",
-            "channel column group bank row",
-        )
-}
+/// Eight ports and four channels, in which lines next to each other are of different channels.
+const EIGHT_BY_FOUR: [(&str, &str); 3] = [
+    ("\nchannels = 2", "\nchannels = 4"),
+    ("\nports = 2", "\nports = 8"),
+    (
+        "column group bank row channel",
+        "channel column group bank row",
+    ),
+];
 
-/// The same with the smallest queues and a window that they can't hold.
-fn in_small_queues(alloc: Global) -> Result<String, AllocError> {
-    eight_by_four(alloc)?
-        .replace(alloc, "\nwindow = 4", "\nwindow = 16")?
-        .replace(alloc, "\nintake = 8", "\nintake = 1")?
-        .replace(alloc, "\nreads = 8", "\nreads = 1")?
-        .replace(alloc, "\nwrites = 8", "\nwrites = 1")?
-        .replace(alloc, "\ndone = 8", "\ndone = 1")?
-        .replace(alloc, "\nlow = 2\nhigh = 6", "\nlow = 0\nhigh = 1")
+/// The smallest queues, and a window that they can't hold.
+const SMALL_QUEUES: [(&str, &str); 6] = [
+    ("\nwindow = 4", "\nwindow = 16"),
+    ("\nintake = 8", "\nintake = 1"),
+    ("\nreads = 8", "\nreads = 1"),
+    ("\nwrites = 8", "\nwrites = 1"),
+    ("\ndone = 8", "\ndone = 1"),
+    ("\nlow = 2\nhigh = 6", "\nlow = 0\nhigh = 1"),
+];
+
+/// A configuration with other lines in the place of some.
+fn with_lines(alloc: Global, config: &str, lines: &[(&str, &str)]) -> Result<String, AllocError> {
+    let mut text = String::from_str(alloc, config)?;
+    for (old, new) in lines {
+        text = text.replace(alloc, old, new)?;
+    }
+    Ok(text)
 }
 
 #[test]
 fn eight_ports_over_four_channels(rt: HostRuntime) -> Result<(), Fail> {
-    let config = eight_by_four(rt.alloc())?;
+    let config = with_lines(rt.alloc(), PROFILE_S, &EIGHT_BY_FOUR)?;
     for seed in 0..10 {
         let is_well = runs_well(&rt, rt.alloc(), config.as_str(), seed)?;
         assert!(rt; is_well, "seed {seed}");
@@ -508,7 +514,8 @@ fn eight_ports_over_four_channels(rt: HostRuntime) -> Result<(), Fail> {
 
 #[test]
 fn eight_ports_over_four_channels_in_small_queues(rt: HostRuntime) -> Result<(), Fail> {
-    let config = in_small_queues(rt.alloc())?;
+    let config = with_lines(rt.alloc(), PROFILE_S, &EIGHT_BY_FOUR)?;
+    let config = with_lines(rt.alloc(), config.as_str(), &SMALL_QUEUES)?;
     for seed in 10..20 {
         let is_well = runs_well(&rt, rt.alloc(), config.as_str(), seed)?;
         assert!(rt; is_well, "seed {seed}");
@@ -541,17 +548,25 @@ fn three_writes(alloc: Global) -> Result<(Script, Memory), Fail> {
     Ok((script, memory))
 }
 
+/// Bytes that are read from a place on, one after another, and whether they may be.
+const READS: &[(usize, &[u8], bool)] = &[
+    // Never written, at a place that isn't written, and from before the port's own write.
+    (0, &[LATER + 1], false),
+    (8, &[THEIRS], false),
+    (0, &[0], false),
+    // Once the second of another port is read neither its first nor the own one comes again.
+    (0, &[FIRST, THEIRS, LATER], true),
+    (1, &[LATER, LATER], true),
+    (2, &[THEIRS], false),
+    (2, &[FIRST], false),
+];
+
 #[test]
 fn bytes_that_may_not_be_read_are_told(rt: HostRuntime) -> Result<(), Fail> {
     let (script, mut memory) = three_writes(rt.alloc())?;
-    // Never written, at a place that isn't written, and from before the port's own write.
-    assert!(rt; !memory.reads(&script, OWN, 0, &[LATER + 1]));
-    assert!(rt; !memory.reads(&script, OWN, 8, &[THEIRS]));
-    assert!(rt; !memory.reads(&script, OWN, 0, &[0]));
-    // Once the second of another port is read neither its first nor the own one comes again.
-    assert!(rt; memory.reads(&script, OWN, 0, &[FIRST, THEIRS, LATER]));
-    assert!(rt; memory.reads(&script, OWN, 1, &[LATER, LATER]));
-    assert!(rt; !memory.reads(&script, OWN, 2, &[THEIRS]));
-    assert!(rt; !memory.reads(&script, OWN, 2, &[FIRST]));
+    for (first, bytes, may_be) in READS {
+        let is_right = memory.reads(&script, OWN, *first, bytes);
+        assert_eq!(rt; is_right, *may_be, "{bytes:?} at {first}");
+    }
     Ok(())
 }

@@ -8,6 +8,7 @@ use crate::sim::sim;
 use std::alloc::Global;
 use std::io;
 use std::io::{ErrorKind, Read, Write};
+use std::process::Abort;
 use std::sync::Wait;
 use std::test::Fail;
 use std::thread::Threads;
@@ -35,15 +36,20 @@ impl Read for Failing<'_> {
     }
 }
 
+/// A script, given by a reader that fails where no call is left.
+fn script_from<'a>(calls: u32, kind: ErrorKind) -> Failing<'a> {
+    Failing {
+        text: WRITE_THEN_READ.as_bytes(),
+        calls,
+        kind,
+    }
+}
+
 #[test]
-fn each_read_fails(rt: HostRuntime) -> Result<(), Fail> {
+fn each_read_fails(rt: HostRuntime) {
     // 30 bytes are read in 4 calls, and their end by one more.
     for calls in 0..8 {
-        let mut reader = Failing {
-            text: WRITE_THEN_READ.as_bytes(),
-            calls,
-            kind: ErrorKind::Other,
-        };
+        let mut reader = script_from(calls, ErrorKind::Other);
         let mut written = Vec::new(rt.alloc());
         let end = sim(rt.alloc(), true, None, &mut reader, &mut written);
         let (wanted, text) = if calls < 5 {
@@ -54,17 +60,12 @@ fn each_read_fails(rt: HostRuntime) -> Result<(), Fail> {
         assert_eq!(rt; end, wanted, "{calls} calls");
         assert_eq!(rt; written.as_slice(), text.as_bytes(), "{calls} calls");
     }
-    Ok(())
 }
 
 #[test]
 fn each_read_is_interrupted(rt: HostRuntime) -> Result<(), Fail> {
     for calls in 0..8 {
-        let mut reader = Failing {
-            text: WRITE_THEN_READ.as_bytes(),
-            calls,
-            kind: ErrorKind::Interrupted,
-        };
+        let mut reader = script_from(calls, ErrorKind::Interrupted);
         let mut written = Vec::new(rt.alloc());
         sim(rt.alloc(), true, None, &mut reader, &mut written)?;
         assert_eq!(rt; written.as_slice(), REPLIES.as_bytes(), "{calls} calls");
@@ -91,7 +92,7 @@ impl Read for Comments {
 }
 
 #[test]
-fn inputs_that_are_too_long(rt: HostRuntime) -> Result<(), Fail> {
+fn inputs_that_are_too_long(rt: HostRuntime) {
     let too_long = Err(Fault::InputTooLong);
     for (left, wanted) in [
         (16_777_216, Ok(())),
@@ -101,11 +102,9 @@ fn inputs_that_are_too_long(rt: HostRuntime) -> Result<(), Fail> {
         let mut reader = Comments { left, asked: 0 };
         let mut written = Vec::new(rt.alloc());
         let end = sim(rt.alloc(), true, None, &mut reader, &mut written);
-        assert_eq!(rt; end, wanted, "{left} bytes");
-        assert!(rt; written.is_empty(), "{left} bytes");
+        assert_eq!(rt; (end, written.len()), (wanted, 0), "{left} bytes");
         assert!(rt; reader.asked <= 16_777_218, "{left} bytes");
     }
-    Ok(())
 }
 
 /// A writer that takes at most 5 bytes at a time, and fails where no call is left.
@@ -140,41 +139,68 @@ impl Write for Full {
     }
 }
 
-#[test]
-fn each_write_fails(rt: HostRuntime) -> Result<(), Fail> {
-    // The replies are two lines of 12 and 20 bytes, written in 3 and 4 calls, and flushed by one more.
-    // The trace is 92 bytes, written in 19 calls, and flushed by one more.
-    for (trace, text, needed) in [(None, REPLIES, 8), (Some(0), TRACE, 20)] {
-        for calls in 0..needed + 2 {
-            let mut reader = WRITE_THEN_READ.as_bytes();
-            let mut writer = Full {
-                text: Vec::new(rt.alloc()),
-                calls,
-            };
-            let end = sim(rt.alloc(), true, trace, &mut reader, &mut writer);
-            let wanted = if calls < needed {
-                Err(Fault::Write)
-            } else {
-                Ok(())
-            };
-            assert_eq!(rt; end, wanted, "{calls} calls");
-            assert!(rt;
-                text.as_bytes().starts_with(writer.text.as_slice()),
-                "{calls} calls"
-            );
-            assert!(rt;
-                end.is_err() || writer.text.len() == text.len(),
-                "{calls} calls"
-            );
+impl Full {
+    /// A writer with so many calls left.
+    fn new(alloc: Global, calls: u32) -> Full {
+        Full {
+            text: Vec::new(alloc),
+            calls,
         }
     }
-    Ok(())
+}
+
+/// How a run of the script ends whose writer fails where no call is left, and what it writes.
+fn sim_to(alloc: Global, trace: Option<u32>, calls: u32) -> (Result<(), Fault>, Vec<u8>) {
+    let mut reader = WRITE_THEN_READ.as_bytes();
+    let mut writer = Full::new(alloc, calls);
+    let end = sim(alloc, true, trace, &mut reader, &mut writer);
+    (end, writer.text)
+}
+
+/// That a run whose writer takes so many calls, of those that are needed, writes a beginning of the text, or all of it.
+fn fails_unless_all_is_written(
+    rt: &impl Abort,
+    (end, written): (Result<(), Fault>, Vec<u8>),
+    text: &str,
+    calls: u32,
+    needed: u32,
+) {
+    let wanted = if calls < needed {
+        Err(Fault::Write)
+    } else {
+        Ok(())
+    };
+    assert_eq!(rt; end, wanted, "{calls} calls");
+    assert!(rt;
+        text.as_bytes().starts_with(written.as_slice()),
+        "{calls} calls"
+    );
+    assert!(rt;
+        end.is_err() || written.len() == text.len(),
+        "{calls} calls"
+    );
 }
 
 #[test]
-fn each_read_and_write_of_a_map_fails(rt: HostRuntime) {
-    const ADDRESSES: &[u8] = b"0\n64\n262144\n";
-    const PLACES: &[u8] = b"0 0 0 0 0 0 0\n64 0 0 0 0 8 0\n262144 out\n";
+fn each_write_fails(rt: HostRuntime) {
+    // The replies are two lines of 12 and 20 bytes, written in 3 and 4 calls, and flushed by one more.
+    for calls in 0..10 {
+        let ran = sim_to(rt.alloc(), None, calls);
+        fails_unless_all_is_written(&rt, ran, REPLIES, calls, 8);
+    }
+    // The trace is 92 bytes, written in 19 calls, and flushed by one more.
+    for calls in 0..22 {
+        let ran = sim_to(rt.alloc(), Some(0), calls);
+        fails_unless_all_is_written(&rt, ran, TRACE, calls, 20);
+    }
+}
+
+const ADDRESSES: &[u8] = b"0\n64\n262144\n";
+
+const PLACES: &str = "0 0 0 0 0 0 0\n64 0 0 0 0 8 0\n262144 out\n";
+
+#[test]
+fn each_read_of_a_map_fails(rt: HostRuntime) {
     // 12 bytes are read in 2 calls, and their end by one more.
     for calls in 0..5 {
         let mut reader = Failing {
@@ -185,29 +211,28 @@ fn each_read_and_write_of_a_map_fails(rt: HostRuntime) {
         let mut written = Vec::new(rt.alloc());
         let end = map(rt.alloc(), true, &mut reader, &mut written);
         let (wanted, text) = if calls < 3 {
-            (Err(Fault::Read), b"".as_slice())
+            (Err(Fault::Read), "")
         } else {
             (Ok(()), PLACES)
         };
         assert_eq!(rt; end, wanted, "{calls} calls");
-        assert_eq!(rt; written.as_slice(), text, "{calls} calls");
-    }
-    // 40 bytes are written in 8 calls, and flushed by one more.
-    for calls in 0..11 {
-        let mut reader = ADDRESSES;
-        let mut writer = Full {
-            text: Vec::new(rt.alloc()),
-            calls,
-        };
-        let end = map(rt.alloc(), true, &mut reader, &mut writer);
-        let wanted = if calls < 9 { Err(Fault::Write) } else { Ok(()) };
-        assert_eq!(rt; end, wanted, "{calls} calls");
-        assert!(rt; PLACES.starts_with(writer.text.as_slice()), "{calls} calls");
+        assert_eq!(rt; written.as_slice(), text.as_bytes(), "{calls} calls");
     }
 }
 
 #[test]
-fn each_read_and_write_of_a_check_fails(rt: HostRuntime) {
+fn each_write_of_a_map_fails(rt: HostRuntime) {
+    // 40 bytes are written in 8 calls, and flushed by one more.
+    for calls in 0..11 {
+        let mut reader = ADDRESSES;
+        let mut writer = Full::new(rt.alloc(), calls);
+        let end = map(rt.alloc(), true, &mut reader, &mut writer);
+        fails_unless_all_is_written(&rt, (end, writer.text), PLACES, calls, 9);
+    }
+}
+
+#[test]
+fn each_read_of_a_check_fails(rt: HostRuntime) {
     // 92 bytes are read in 12 calls, and their end by one more.
     for calls in 0..16 {
         let mut reader = Failing {
@@ -225,21 +250,18 @@ fn each_read_and_write_of_a_check_fails(rt: HostRuntime) {
         assert_eq!(rt; end, wanted, "{calls} calls");
         assert_eq!(rt; written.is_empty(), end.is_err(), "{calls} calls");
     }
+}
+
+#[test]
+fn each_write_of_a_check_fails(rt: HostRuntime) {
     // 6 bytes are written in 2 calls, and flushed by one more.
     for calls in 0..5 {
         let mut reader = TRACE.as_bytes();
-        let mut writer = Full {
-            text: Vec::new(rt.alloc()),
-            calls,
-        };
+        let mut writer = Full::new(rt.alloc(), calls);
         let end = check(rt.alloc(), true, &mut reader, &mut writer);
-        let wanted = if calls < 3 {
-            Err(Fault::Write)
-        } else {
-            Ok(true)
-        };
-        assert_eq!(rt; end, wanted, "{calls} calls");
-        assert!(rt; b"legal\n".starts_with(writer.text.as_slice()));
+        assert!(rt; end != Ok(false), "{calls} calls");
+        let ran = (end.map(|_legal| ()), writer.text);
+        fails_unless_all_is_written(&rt, ran, "legal\n", calls, 3);
     }
 }
 
@@ -252,11 +274,7 @@ fn run_from<R: Threads + Wait + Sync>(
     alloc: Global,
     calls: u32,
 ) -> (Result<bool, Fault>, Vec<u8>) {
-    let mut reader = Failing {
-        text: WRITE_THEN_READ.as_bytes(),
-        calls,
-        kind: ErrorKind::Other,
-    };
+    let mut reader = script_from(calls, ErrorKind::Other);
     let mut written = Vec::new(alloc);
     let end = run(rt, alloc, true, &mut reader, &mut written);
     (end, written)
@@ -269,10 +287,7 @@ fn run_to<R: Threads + Wait + Sync>(
     calls: u32,
 ) -> (Result<bool, Fault>, Vec<u8>) {
     let mut reader = WRITE_THEN_READ.as_bytes();
-    let mut writer = Full {
-        text: Vec::new(alloc),
-        calls,
-    };
+    let mut writer = Full::new(alloc, calls);
     let end = run(rt, alloc, true, &mut reader, &mut writer);
     (end, writer.text)
 }

@@ -1,137 +1,126 @@
 //! Command lines, and the jobs that they state.
 use crate::job::{Job, job_of};
 use clap::error::ErrorKind;
-use std::alloc::Global;
+use std::alloc::{AllocError, Global};
+use std::process::Abort;
 use std::test::Fail;
 
-/// The kind of the error that the words give.
-fn kind_of(alloc: Global, words: &[&str]) -> Option<ErrorKind> {
-    job_of(alloc, words).err().map(|error| error.kind())
+/// The words of a command line, between spaces.
+fn words_of(alloc: Global, line: &str) -> Result<Vec<&str>, AllocError> {
+    let mut words = Vec::new(alloc);
+    for word in line.split(' ') {
+        words.push(word)?;
+    }
+    Ok(words)
 }
 
+/// That a command line states a job.
+fn states(rt: &impl Abort, alloc: Global, line: &str, job: Job) -> Result<(), Fail> {
+    let words = words_of(alloc, line)?;
+    assert_eq!(rt; job_of(alloc, words.as_slice())?, job, "{line:?}");
+    Ok(())
+}
+
+/// That a command line gives an error of this kind.
+fn gives(rt: &impl Abort, alloc: Global, line: &str, kind: ErrorKind) -> Result<(), Fail> {
+    let words = words_of(alloc, line)?;
+    let given = job_of(alloc, words.as_slice()).err();
+    assert_eq!(rt; given.map(|error| error.kind()), Some(kind), "{line:?}");
+    Ok(())
+}
+
+const SIMS: [(&str, bool, Option<u32>); 6] = [
+    ("ddr", true, None),
+    ("ddr sim", false, None),
+    ("ddr sim --sample", true, None),
+    ("ddr sim --trace 1", false, Some(1)),
+    ("ddr sim --trace 0 --sample", true, Some(0)),
+    (
+        "ddr sim --sample --trace=4294967295",
+        true,
+        Some(4_294_967_295),
+    ),
+];
+
 #[test]
-fn subcommands(rt: HostRuntime) -> Result<(), Fail> {
+fn sims(rt: HostRuntime) -> Result<(), Fail> {
     let alloc = rt.alloc();
-    let sim = |sample: bool, trace: Option<u32>| Job::Sim { sample, trace };
-    let run = |sample: bool| Job::Run { sample };
-    let check = |sample: bool| Job::Check { sample };
-    let map = |sample: bool| Job::Map { sample };
-    assert_eq!(rt; job_of(alloc, [].as_slice())?, sim(true, None));
-    assert_eq!(rt; job_of(alloc, ["ddr"].as_slice())?, sim(true, None));
-    assert_eq!(rt; job_of(alloc, ["ddr", "sim"].as_slice())?, sim(false, None));
-    assert_eq!(rt;
-        job_of(alloc, ["ddr", "sim", "--sample"].as_slice())?,
-        sim(true, None)
-    );
-    assert_eq!(rt;
-        job_of(alloc, ["ddr", "sim", "--trace", "1"].as_slice())?,
-        sim(false, Some(1))
-    );
-    assert_eq!(rt;
-        job_of(alloc, ["ddr", "sim", "--trace", "0", "--sample"].as_slice())?,
-        sim(true, Some(0))
-    );
-    assert_eq!(rt;
-        job_of(
-            alloc,
-            ["ddr", "sim", "--sample", "--trace=4294967295"].as_slice()
-        )?,
-        sim(true, Some(4_294_967_295))
-    );
-    assert_eq!(rt; job_of(alloc, ["ddr", "run"].as_slice())?, run(false));
-    assert_eq!(rt;
-        job_of(alloc, ["ddr", "run", "--sample"].as_slice())?,
-        run(true)
-    );
-    assert_eq!(rt; job_of(alloc, ["ddr", "check"].as_slice())?, check(false));
-    assert_eq!(rt;
-        job_of(alloc, ["ddr", "check", "--sample"].as_slice())?,
-        check(true)
-    );
-    assert_eq!(rt; job_of(alloc, ["ddr", "map"].as_slice())?, map(false));
-    assert_eq!(rt;
-        job_of(alloc, ["ddr", "map", "--sample"].as_slice())?,
-        map(true)
-    );
-    // The program may have another name.
-    assert_eq!(rt;
-        job_of(alloc, ["/bin/model", "map"].as_slice())?,
-        map(false)
-    );
+    let sample = Job::Sim {
+        sample: true,
+        trace: None,
+    };
+    assert_eq!(rt; job_of(alloc, [].as_slice())?, sample);
+    for (line, sample, trace) in SIMS {
+        states(&rt, alloc, line, Job::Sim { sample, trace })?;
+    }
     Ok(())
 }
 
 #[test]
-fn unknown_words(rt: HostRuntime) {
-    let alloc = rt.alloc();
-    let unknown = Some(ErrorKind::UnknownArgument);
-    assert_eq!(rt; kind_of(alloc, ["ddr", "--sample"].as_slice()), unknown);
-    assert_eq!(rt;
-        kind_of(alloc, ["ddr", "map", "--other"].as_slice()),
-        unknown
-    );
-    assert_eq!(rt; kind_of(alloc, ["ddr", "map", "-s"].as_slice()), unknown);
-    assert_eq!(rt; kind_of(alloc, ["ddr", "map", "more"].as_slice()), unknown);
-    assert_eq!(rt;
-        kind_of(alloc, ["ddr", "check", "--trace", "0"].as_slice()),
-        unknown
-    );
-    assert_eq!(rt;
-        kind_of(alloc, ["ddr", "map", "--trace=0"].as_slice()),
-        unknown
-    );
-    assert_eq!(rt;
-        kind_of(alloc, ["ddr", "run", "--trace", "1"].as_slice()),
-        unknown
-    );
-    let subcommand = Some(ErrorKind::InvalidSubcommand);
-    assert_eq!(rt; kind_of(alloc, ["ddr", "trace"].as_slice()), subcommand);
-    assert_eq!(rt; kind_of(alloc, ["ddr", "SIM"].as_slice()), subcommand);
-    assert_eq!(rt; kind_of(alloc, ["ddr", ""].as_slice()), subcommand);
+fn subcommands(rt: HostRuntime) -> Result<(), Fail> {
+    for (line, job) in [
+        ("ddr run", Job::Run { sample: false }),
+        ("ddr run --sample", Job::Run { sample: true }),
+        ("ddr check", Job::Check { sample: false }),
+        ("ddr check --sample", Job::Check { sample: true }),
+        ("ddr map", Job::Map { sample: false }),
+        ("ddr map --sample", Job::Map { sample: true }),
+        // The program may have another name.
+        ("/bin/model map", Job::Map { sample: false }),
+    ] {
+        states(&rt, rt.alloc(), line, job)?;
+    }
+    Ok(())
 }
 
 #[test]
-fn bad_values(rt: HostRuntime) {
-    let alloc = rt.alloc();
+fn unknown_words(rt: HostRuntime) -> Result<(), Fail> {
+    for line in [
+        "ddr --sample",
+        "ddr map --other",
+        "ddr map -s",
+        "ddr map more",
+        "ddr check --trace 0",
+        "ddr map --trace=0",
+        "ddr run --trace 1",
+    ] {
+        gives(&rt, rt.alloc(), line, ErrorKind::UnknownArgument)?;
+    }
+    for line in ["ddr trace", "ddr SIM", "ddr "] {
+        gives(&rt, rt.alloc(), line, ErrorKind::InvalidSubcommand)?;
+    }
+    Ok(())
+}
+
+#[test]
+fn bad_channels(rt: HostRuntime) {
     for channel in ["x", "", "-1", "1.0", "0x1", " 1", "4294967296"] {
         let words = ["ddr", "sim", "--sample", "--trace", channel];
-        let kind = kind_of(alloc, words.as_slice());
-        assert!(rt; kind.is_some(), "{channel:?}");
+        let job = job_of(rt.alloc(), words.as_slice());
+        assert!(rt; job.is_err(), "{channel:?}");
     }
-    let validation = Some(ErrorKind::ValueValidation);
-    assert_eq!(rt;
-        kind_of(alloc, ["ddr", "sim", "--trace", "x"].as_slice()),
-        validation
-    );
-    assert_eq!(rt;
-        kind_of(alloc, ["ddr", "sim", "--trace=-1"].as_slice()),
-        validation
-    );
-    assert_eq!(rt;
-        kind_of(alloc, ["ddr", "sim", "--trace=4294967296"].as_slice()),
-        validation
-    );
-    let value = Some(ErrorKind::InvalidValue);
-    assert_eq!(rt; kind_of(alloc, ["ddr", "sim", "--trace"].as_slice()), value);
-    let many = Some(ErrorKind::TooManyValues);
-    assert_eq!(rt;
-        kind_of(alloc, ["ddr", "sim", "--sample=true"].as_slice()),
-        many
-    );
-    let repeated = Some(ErrorKind::ArgumentConflict);
-    assert_eq!(rt;
-        kind_of(alloc, ["ddr", "map", "--sample", "--sample"].as_slice()),
-        repeated
-    );
+}
+
+#[test]
+fn bad_values(rt: HostRuntime) -> Result<(), Fail> {
+    for (line, kind) in [
+        ("ddr sim --trace x", ErrorKind::ValueValidation),
+        ("ddr sim --trace=-1", ErrorKind::ValueValidation),
+        ("ddr sim --trace=4294967296", ErrorKind::ValueValidation),
+        ("ddr sim --trace", ErrorKind::InvalidValue),
+        ("ddr sim --sample=true", ErrorKind::TooManyValues),
+        ("ddr map --sample --sample", ErrorKind::ArgumentConflict),
+    ] {
+        gives(&rt, rt.alloc(), line, kind)?;
+    }
+    Ok(())
 }
 
 #[test]
 fn requests_for_help(rt: HostRuntime) -> Result<(), Fail> {
-    let alloc = rt.alloc();
-    let help = Some(ErrorKind::DisplayHelp);
-    assert_eq!(rt; kind_of(alloc, ["ddr", "--help"].as_slice()), help);
-    assert_eq!(rt; kind_of(alloc, ["ddr", "-h"].as_slice()), help);
-    assert_eq!(rt; kind_of(alloc, ["ddr", "sim", "--help"].as_slice()), help);
+    for line in ["ddr --help", "ddr -h", "ddr sim --help"] {
+        gives(&rt, rt.alloc(), line, ErrorKind::DisplayHelp)?;
+    }
     Ok(())
 }
 

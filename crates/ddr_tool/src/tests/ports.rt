@@ -1,25 +1,42 @@
 //! Scripts of several ports and channels, refusals, masks and rounds, with what hand calculation gives.
-use super::{run, written};
+use super::{gives, run, writes};
 use crate::fault::Fault;
 use crate::sim::sim;
 use ddr_timing::profile::PROFILE_S;
 use std::alloc::Global;
+use std::process::Abort;
 use std::test::Fail;
 
-/// What a script without a fault writes where a key of the sample has another value.
-fn changed(
+/// What a script without a fault writes in a configuration.
+fn written_in(
     alloc: Global,
-    old: &str,
-    new: &str,
+    config: &str,
     trace: Option<u32>,
     script: &str,
 ) -> Result<String, Fail> {
-    let config = PROFILE_S.replace(alloc, old, new)?;
     let input = format!(in alloc; "{config}---\n{script}")?;
     let mut reader = input.as_bytes();
     let mut bytes = Vec::new(alloc);
     sim(alloc, false, trace, &mut reader, &mut bytes)?;
     Ok(String::from_utf8(bytes)?)
+}
+
+/// That a script without a fault writes this text in a configuration.
+fn writes_in(
+    rt: &impl Abort,
+    alloc: Global,
+    config: &str,
+    trace: Option<u32>,
+    script: &str,
+    text: &str,
+) -> Result<(), Fail> {
+    assert_eq!(rt; written_in(alloc, config, trace, script)?.as_str(), text);
+    Ok(())
+}
+
+/// The sample configuration, with other lines in the place of some.
+fn sample_with(alloc: Global, lines: &str, others: &str) -> Result<String, Fail> {
+    Ok(PROFILE_S.replace(alloc, lines, others)?)
 }
 
 /// With an age cap of 1 the oldest is served alone, so the younger hit waits.
@@ -37,11 +54,8 @@ fn the_oldest_alone(rt: HostRuntime) -> Result<(), Fail> {
 32,RD,0,0,0,0,8
 41,END,,,,,
 ";
-    assert_eq!(rt;
-        changed(rt.alloc(), "cap = 1000", "cap = 1", Some(0), script)?.as_str(),
-        trace
-    );
-    Ok(())
+    let config = sample_with(rt.alloc(), "cap = 1000", "cap = 1")?;
+    writes_in(&rt, rt.alloc(), config.as_str(), Some(0), script, trace)
 }
 
 /// The later mask replaces the bytes that it enables and no others.
@@ -54,10 +68,7 @@ mask 0 0 000000000000003C 222222222222222222222222222222222222222222222222222222
 2222222222222222222222222222222222222222222222222222222222222222
 read 0 3 7
 ";
-    assert_eq!(rt;
-        written(rt.alloc(), None, script)?.as_str(),
-        "0 0 write 0\n0 1 write 0\n0 2 read 3 22222200000000\n"
-    );
+    let replies = "0 0 write 0\n0 1 write 0\n0 2 read 3 22222200000000\n";
     let trace = "cycle,cmd,rank,group,bank,row,col
 0,ACT,0,0,0,0,
 4,WR,0,0,0,0,0
@@ -65,8 +76,7 @@ read 0 3 7
 20,RD,0,0,0,0,0
 29,END,,,,,
 ";
-    assert_eq!(rt; written(rt.alloc(), Some(0), script)?.as_str(), trace);
-    Ok(())
+    gives(&rt, rt.alloc(), script, replies, trace)
 }
 
 /// In drain mode a write still waits for the older read of its line.
@@ -74,31 +84,23 @@ read 0 3 7
 fn drained_write_waits_for_older_read(rt: HostRuntime) -> Result<(), Fail> {
     let alloc = rt.alloc();
     let script = "read 0 0 1\nwrite 0 0 ff\n";
-    let marks = ("low = 2\nhigh = 6", "low = 0\nhigh = 1");
+    let config = sample_with(alloc, "low = 2\nhigh = 6", "low = 0\nhigh = 1")?;
     let trace = "cycle,cmd,rank,group,bank,row,col
 0,ACT,0,0,0,0,
 4,RD,0,0,0,0,0
 11,WR,0,0,0,0,0
 19,END,,,,,
 ";
-    assert_eq!(rt;
-        changed(alloc, marks.0, marks.1, Some(0), script)?.as_str(),
-        trace
-    );
-    assert_eq!(rt;
-        changed(alloc, marks.0, marks.1, None, script)?.as_str(),
-        "0 0 read 0 00\n0 1 write 0\n"
-    );
-    Ok(())
+    let replies = "0 0 read 0 00\n0 1 write 0\n";
+    writes_in(&rt, alloc, config.as_str(), Some(0), script, trace)?;
+    writes_in(&rt, alloc, config.as_str(), None, script, replies)
 }
 
 #[test]
 fn two_ports_share_a_line(rt: HostRuntime) -> Result<(), Fail> {
-    assert_eq!(rt;
-        written(rt.alloc(), None, "write 1 0 ff\nread 0 0 1\n")?.as_str(),
-        "1 0 write 0\n0 0 read 0 ff\n"
-    );
-    Ok(())
+    let script = "write 1 0 ff\nread 0 0 1\n";
+    let replies = "1 0 write 0\n0 0 read 0 ff\n";
+    writes(&rt, rt.alloc(), None, script, replies)
 }
 
 /// The refresh falls due in cycle 200, and all banks are idle.
@@ -106,10 +108,8 @@ fn two_ports_share_a_line(rt: HostRuntime) -> Result<(), Fail> {
 fn rounds_without_requests(rt: HostRuntime) -> Result<(), Fail> {
     let alloc = rt.alloc();
     let trace = "cycle,cmd,rank,group,bank,row,col\n200,REF,0,,,,\n201,END,,,,,\n";
-    assert_eq!(rt; written(alloc, None, "cycle 201\n")?.as_str(), "");
-    assert_eq!(rt; written(alloc, Some(0), "cycle 201\n")?.as_str(), trace);
-    assert_eq!(rt; written(alloc, Some(1), "cycle 201\n")?.as_str(), trace);
-    Ok(())
+    gives(&rt, alloc, "cycle 201\n", "", trace)?;
+    writes(&rt, alloc, Some(1), "cycle 201\n", trace)
 }
 
 /// The second channel serves what lies in it, and the first one nothing.
@@ -121,69 +121,58 @@ fn trace_of_the_second_channel(rt: HostRuntime) -> Result<(), Fail> {
 4,RD,0,0,0,0,0
 13,END,,,,,
 ";
-    assert_eq!(rt; written(rt.alloc(), Some(1), script)?.as_str(), trace);
-    assert_eq!(rt;
-        written(rt.alloc(), Some(0), script)?.as_str(),
-        "cycle,cmd,rank,group,bank,row,col\n13,END,,,,,\n"
-    );
-    Ok(())
+    let nothing = "cycle,cmd,rank,group,bank,row,col\n13,END,,,,,\n";
+    writes(&rt, rt.alloc(), Some(1), script, trace)?;
+    writes(&rt, rt.alloc(), Some(0), script, nothing)
 }
 
 #[test]
 fn a_window_of_one(rt: HostRuntime) -> Result<(), Fail> {
     let alloc = rt.alloc();
+    let config = sample_with(alloc, "window = 4", "window = 1")?;
     let script = "read 0 0 1\nread 0 0 1\ncycle 20\nread 0 0 1\n";
-    assert_eq!(rt;
-        changed(alloc, "window = 4", "window = 1", None, script)?.as_str(),
-        "refused 0 WindowFull\n0 0 read 0 00\n0 1 read 0 00\n"
-    );
+    let replies = "refused 0 WindowFull\n0 0 read 0 00\n0 1 read 0 00\n";
     let trace = "cycle,cmd,rank,group,bank,row,col
 0,ACT,0,0,0,0,
 4,RD,0,0,0,0,0
 20,RD,0,0,0,0,0
 29,END,,,,,
 ";
-    assert_eq!(rt;
-        changed(alloc, "window = 4", "window = 1", Some(0), script)?.as_str(),
-        trace
-    );
-    Ok(())
+    writes_in(&rt, alloc, config.as_str(), None, script, replies)?;
+    writes_in(&rt, alloc, config.as_str(), Some(0), script, trace)
 }
 
 #[test]
 fn requests_that_are_refused(rt: HostRuntime) -> Result<(), Fail> {
     let alloc = rt.alloc();
     let script = "read 0 262143 1\nread 0 262144 0\nread 0 0 0\nread 0 60 8\nread 0 60 4\n";
-    assert_eq!(rt;
-        written(alloc, None, script)?.as_str(),
-        "refused 0 OutOfRange\nrefused 0 EmptyLength\nrefused 0 CrossesLine\n\
-0 0 read 262143 00\n0 1 read 60 00000000\n"
-    );
+    let replies = "refused 0 OutOfRange\nrefused 0 EmptyLength\nrefused 0 CrossesLine\n\
+0 0 read 262143 00\n0 1 read 60 00000000\n";
+    writes(&rt, alloc, None, script, replies)?;
     let edges =
         "write 0 60 0102030405\nread 1 18446744073709551615 1\nread 1 18446744073709551615 0\n\
 read 0 0 65535\nwrite 1 18446744073709551615 00\n";
-    assert_eq!(rt;
-        written(alloc, None, edges)?.as_str(),
-        "refused 0 CrossesLine\nrefused 1 OutOfRange\nrefused 1 OutOfRange\n\
-refused 0 CrossesLine\nrefused 1 OutOfRange\n"
-    );
-    Ok(())
+    let refusals = "refused 0 CrossesLine\nrefused 1 OutOfRange\nrefused 1 OutOfRange\n\
+refused 0 CrossesLine\nrefused 1 OutOfRange\n";
+    writes(&rt, alloc, None, edges, refusals)
 }
 
 #[test]
 fn an_intake_of_one(rt: HostRuntime) -> Result<(), Fail> {
-    assert_eq!(rt;
-        changed(
-            rt.alloc(),
-            "intake = 8",
-            "intake = 1",
-            None,
-            "read 0 0 1\nread 0 0 1\n"
-        )?
-        .as_str(),
-        "refused 0 Busy\n0 0 read 0 00\n"
-    );
-    Ok(())
+    let config = sample_with(rt.alloc(), "intake = 8", "intake = 1")?;
+    let script = "read 0 0 1\nread 0 0 1\n";
+    let replies = "refused 0 Busy\n0 0 read 0 00\n";
+    writes_in(&rt, rt.alloc(), config.as_str(), None, script, replies)
+}
+
+/// A refusal, and then the replies to 64 reads.
+fn refusal_and_replies(alloc: Global) -> Result<String, Fail> {
+    let mut text = String::from_str(alloc, "refused 0 WindowFull\n")?;
+    for number in 0..64 {
+        let line = format!(in alloc; "0 {number} read 0 00\n")?;
+        text.push_str(line.as_str())?;
+    }
+    Ok(text)
 }
 
 /// Of 65 requests the window takes 64, whose replies come in the order of their numbers.
@@ -191,20 +180,20 @@ fn an_intake_of_one(rt: HostRuntime) -> Result<(), Fail> {
 fn a_full_window(rt: HostRuntime) -> Result<(), Fail> {
     let alloc = rt.alloc();
     let script = "read 0 0 1\n".repeat(alloc, 65)?;
-    let mut wanted = String::from_str(alloc, "refused 0 WindowFull\n")?;
-    for number in 0..64 {
-        let line = format!(in alloc; "0 {number} read 0 00\n")?;
-        wanted.push_str(line.as_str())?;
-    }
-    let config = PROFILE_S
-        .replace(alloc, "window = 4", "window = 64")?
-        .replace(alloc, "intake = 8", "intake = 64")?;
-    let input = format!(in alloc; "{config}---\n{script}")?;
-    let mut reader = input.as_bytes();
-    let mut bytes = Vec::new(alloc);
-    sim(alloc, false, None, &mut reader, &mut bytes)?;
-    assert_eq!(rt; bytes.as_slice(), wanted.as_bytes());
-    Ok(())
+    let replies = refusal_and_replies(alloc)?;
+    let config = sample_with(alloc, "window = 4", "window = 64")?.replace(
+        alloc,
+        "intake = 8",
+        "intake = 64",
+    )?;
+    writes_in(
+        &rt,
+        alloc,
+        config.as_str(),
+        None,
+        script.as_str(),
+        replies.as_str(),
+    )
 }
 
 /// 10,000 request lines are read, and the next one is one too many, unless it is of no form that is read.

@@ -21,69 +21,39 @@ fn is_told(
     Ok(())
 }
 
-/// That a fault of an input's line has this text, with the line's number behind it.
-fn is_told_of_line(
-    rt: &impl Abort,
-    alloc: Global,
-    fault: Fault,
-    text: &str,
-    line: u64,
-) -> Result<(), Fail> {
-    let whole = format!(in alloc; "{text} {line}")?;
-    is_told(rt, alloc, fault, whole.as_str(), 2)
-}
+const KEY: Key = Key::Rows;
 
 #[test]
 fn faults_of_the_configuration(rt: HostRuntime) -> Result<(), Fail> {
-    let alloc = rt.alloc();
-    let key = Key::Rows;
-    is_told(&rt, alloc, Fault::ConfigSyntax, "config Syntax", 2)?;
-    is_told(
-        &rt,
-        alloc,
-        Fault::ConfigMissing { key },
-        "config Missing rows",
-        2,
-    )?;
-    is_told(&rt, alloc, Fault::ConfigUnknownKey, "config UnknownKey", 2)?;
-    is_told(
-        &rt,
-        alloc,
-        Fault::ConfigRange { key },
-        "config Range rows",
-        2,
-    )?;
-    is_told(
-        &rt,
-        alloc,
-        Fault::ConfigNotPowerOfTwo { key },
-        "config NotPowerOfTwo rows",
-        2,
-    )?;
-    is_told(
-        &rt,
-        alloc,
-        Fault::ConfigRelation { n: 7 },
-        "config Relation 7",
-        2,
-    )
+    for (fault, text) in [
+        (Fault::ConfigSyntax, "config Syntax"),
+        (Fault::ConfigMissing { key: KEY }, "config Missing rows"),
+        (Fault::ConfigUnknownKey, "config UnknownKey"),
+        (Fault::ConfigRange { key: KEY }, "config Range rows"),
+        (
+            Fault::ConfigNotPowerOfTwo { key: KEY },
+            "config NotPowerOfTwo rows",
+        ),
+        (Fault::ConfigRelation { n: 7 }, "config Relation 7"),
+    ] {
+        is_told(&rt, rt.alloc(), fault, text, 2)?;
+    }
+    Ok(())
 }
 
 #[test]
 fn faults_of_the_input(rt: HostRuntime) -> Result<(), Fail> {
-    let alloc = rt.alloc();
-    is_told(&rt, alloc, Fault::InputTooLong, "input too long", 2)?;
-    is_told(&rt, alloc, Fault::InputNotUtf8, "input not UTF-8", 2)?;
-    is_told(&rt, alloc, Fault::InputHasNoMark, "input has no ---", 2)?;
-    is_told_of_line(
-        &rt,
-        alloc,
-        Fault::ScriptLine { line: 12 },
-        "script line",
-        12,
-    )?;
-    is_told(&rt, alloc, Fault::ScriptLimit, "script limit", 2)?;
-    is_told_of_line(&rt, alloc, Fault::MapLine { line: 12 }, "map line", 12)
+    for (fault, text) in [
+        (Fault::InputTooLong, "input too long"),
+        (Fault::InputNotUtf8, "input not UTF-8"),
+        (Fault::InputHasNoMark, "input has no ---"),
+        (Fault::ScriptLine { line: 12 }, "script line 12"),
+        (Fault::ScriptLimit, "script limit"),
+        (Fault::MapLine { line: 12 }, "map line 12"),
+    ] {
+        is_told(&rt, rt.alloc(), fault, text, 2)?;
+    }
+    Ok(())
 }
 
 #[test]
@@ -101,29 +71,31 @@ fn faults_of_requests(rt: HostRuntime) -> Result<(), Fail> {
 
 #[test]
 fn faults_of_a_trace(rt: HostRuntime) -> Result<(), Fail> {
-    let alloc = rt.alloc();
-    is_told(&rt, alloc, Fault::TraceHeader, "trace Header", 2)?;
-    is_told_of_line(&rt, alloc, Fault::TraceRow { line: 12 }, "trace Row", 12)?;
-    is_told_of_line(
-        &rt,
-        alloc,
-        Fault::TraceOrder { line: 12 },
-        "trace Order",
-        12,
-    )?;
-    is_told(&rt, alloc, Fault::TraceTruncated, "trace Truncated", 2)?;
-    is_told(&rt, alloc, Fault::TraceTooLong, "trace TooLong", 2)?;
-    is_told(&rt, alloc, Fault::TraceNoSuch, "trace NoSuch", 2)
+    for (fault, text) in [
+        (Fault::TraceHeader, "trace Header"),
+        (Fault::TraceRow { line: 12 }, "trace Row 12"),
+        (Fault::TraceOrder { line: 12 }, "trace Order 12"),
+        (Fault::TraceTruncated, "trace Truncated"),
+        (Fault::TraceTooLong, "trace TooLong"),
+        (Fault::TraceNoSuch, "trace NoSuch"),
+    ] {
+        is_told(&rt, rt.alloc(), fault, text, 2)?;
+    }
+    Ok(())
 }
 
 #[test]
 fn faults_of_the_device(rt: HostRuntime) -> Result<(), Fail> {
-    let alloc = rt.alloc();
-    is_told(&rt, alloc, Fault::Read, "read failed", 3)?;
-    is_told(&rt, alloc, Fault::Write, "write failed", 3)?;
-    is_told(&rt, alloc, Fault::OutOfMemory, "out of memory", 3)?;
-    is_told(&rt, alloc, Fault::ClockSpent, "clock spent", 3)?;
-    is_told(&rt, alloc, Fault::PortBroken, "port broken", 3)
+    for (fault, text) in [
+        (Fault::Read, "read failed"),
+        (Fault::Write, "write failed"),
+        (Fault::OutOfMemory, "out of memory"),
+        (Fault::ClockSpent, "clock spent"),
+        (Fault::PortBroken, "port broken"),
+    ] {
+        is_told(&rt, rt.alloc(), fault, text, 3)?;
+    }
+    Ok(())
 }
 
 #[test]

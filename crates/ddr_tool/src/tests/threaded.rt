@@ -59,39 +59,33 @@ fn an_empty_script_has_no_replies(rt: HostRuntime) {
 
 #[test]
 fn lines_at_fault(rt: HostRuntime) {
-    let alloc = rt.alloc();
-    let at = |line: u64| (Some(Fault::ScriptLine { line }), 0usize);
-    assert_eq!(rt; fault_of(&rt, alloc, "read 0 0 1\n\ncycle 1\n"), at(3));
-    assert_eq!(rt; fault_of(&rt, alloc, "cycle 1\nread 0 0\n"), at(1));
-    assert_eq!(rt; fault_of(&rt, alloc, "read 0 0\ncycle 1\n"), at(1));
-    assert_eq!(rt; fault_of(&rt, alloc, "read 2 0 1\n"), at(1));
+    for (script, line) in [
+        ("read 0 0 1\n\ncycle 1\n", 3),
+        ("cycle 1\nread 0 0\n", 1),
+        ("read 0 0\ncycle 1\n", 1),
+        ("read 2 0 1\n", 1),
+        // Before any request that no port takes.
+        ("read 0 63 2\nread 0 0\n", 2),
+    ] {
+        let fault = Some(Fault::ScriptLine { line });
+        assert_eq!(rt; fault_of(&rt, rt.alloc(), script), (fault, 0), "{script:?}");
+    }
 }
 
 #[test]
 fn requests_that_no_port_takes(rt: HostRuntime) {
-    let alloc = rt.alloc();
-    let at = |line: u64, cause: RequestError| (Some(Fault::RequestLine { line, cause }), 0usize);
-    let out = RequestError::OutOfRange;
-    assert_eq!(rt; fault_of(&rt, alloc, "read 0 262144 1\n"), at(1, out));
-    assert_eq!(rt;
-        fault_of(&rt, alloc, "# a\n\nread 1 262144 0\n"),
-        at(3, out)
-    );
-    let empty = RequestError::EmptyLength;
-    assert_eq!(rt;
-        fault_of(&rt, alloc, "read 0 0 1\nread 0 0 0\n"),
-        at(2, empty)
-    );
-    let crosses = RequestError::CrossesLine;
-    assert_eq!(rt; fault_of(&rt, alloc, "read 0 63 2\n"), at(1, crosses));
-    assert_eq!(rt; fault_of(&rt, alloc, "write 0 63 0102\n"), at(1, crosses));
-    // The first of two is told, and a line of no form comes before.
-    assert_eq!(rt;
-        fault_of(&rt, alloc, "read 0 63 2\nread 0 0 0\n"),
-        at(1, crosses)
-    );
-    let line = (Some(Fault::ScriptLine { line: 2 }), 0usize);
-    assert_eq!(rt; fault_of(&rt, alloc, "read 0 63 2\nread 0 0\n"), line);
+    for (script, line, cause) in [
+        ("read 0 262144 1\n", 1, RequestError::OutOfRange),
+        ("# a\n\nread 1 262144 0\n", 3, RequestError::OutOfRange),
+        ("read 0 0 1\nread 0 0 0\n", 2, RequestError::EmptyLength),
+        ("read 0 63 2\n", 1, RequestError::CrossesLine),
+        ("write 0 63 0102\n", 1, RequestError::CrossesLine),
+        // The first of two is told.
+        ("read 0 63 2\nread 0 0 0\n", 1, RequestError::CrossesLine),
+    ] {
+        let fault = Some(Fault::RequestLine { line, cause });
+        assert_eq!(rt; fault_of(&rt, rt.alloc(), script), (fault, 0), "{script:?}");
+    }
 }
 
 #[test]
