@@ -40,15 +40,15 @@ none_waiting accepted (n ∷ ns) e = cc
 all_nil : {X : Type 0} (xs : List X) → xs ++ [] ++ [] ≡ xs
 all_nil xs = append-nil (xs ++ []) ∙ append-nil xs
 
-pub work_done : (w : WorkerState) (trace : Recorded) → IsWhole w → HasNothing w → Promised → trace ≡ record { start = w.channel.start; end = w.channel.now; entries = w.channel.trace }
+pub work_done : (w : WorkerState) (config : Config) (trace : Recorded) → IsWhole w → HasNothing w → Promised → trace ≡ record { start = w.channel.start; end = w.channel.now; entries = w.channel.trace }
     → IsLegal w.channel.config trace.start trace.end trace.entries
-    → IsWorkDone w.channel.config (record { id = w.id; number = w.number; requests = w.requests; completions = w.completions; trace = trace })
-work_done w trace whole nothing promised is legal =
+    → IsWorkDone w.channel.config (record { id = w.id; number = w.number; config = config; requests = w.requests; completions = w.completions; trace = trace })
+work_done w config trace whole nothing promised is legal =
     let h = history_of w.channel whole.calls in
     let kept = promised w.channel.config w.channel.start whole.calls whole.at_work.stands.calls_are in
     let state = whole.at_work.stands.state in
     let accepted = whole.at_work.admitted in
-    let config : h.state.config ≡ w.channel.config = ap (λ (s : State). s.config) (sym state) in
+    let own : h.state.config ≡ w.channel.config = ap (λ (s : State). s.config) (sym state) in
     let pending : h.state.pending ≡ [] = ap (λ (s : State). s.pending) (sym state) ∙ nothing.pending in
     let done : h.state.done ≡ [] = ap (λ (s : State). s.done) (sym state) ∙ nothing.done in
     let flight : h.state.flight ≡ [] = ap (λ (s : State). s.flight) (sym state) ∙ nothing.flight in
@@ -63,7 +63,7 @@ work_done w trace whole nothing promised is legal =
           (subst (λ xs. IsPermutation (range_with_len 0 (length h.accepted)) xs) (ap (λ xs. map (λ (o : Owner). o.place) h.owners ++ xs) waiting ∙ append-nil (map (λ (o : Owner). o.place) h.owners)) kept.each_once);
       commands = ap (λ (es : List Entry). map (λ (e : Entry). Some e) (filter (λ e. is_column e.command) es)) (sym entries) ∙ kept.commands ∙ ap (λ rs. map (owned_entry rs) h.owners) accepted;
       dones = h.popped;
-      answers = ap (map (λ (d : Completion). Some d)) (sym all_popped) ∙ kept.answers ∙ ap₂ (λ (c : Config) (rs : List records.Request). map (right_answer c rs) h.owners) config accepted;
+      answers = ap (map (λ (d : Completion). Some d)) (sym all_popped) ∙ kept.answers ∙ ap₂ (λ (c : Config) (rs : List records.Request). map (right_answer c rs) h.owners) own accepted;
       sent = subst (λ o. AreSent h.popped (option_to_list o) w.completions) nothing.held whole.at_work.sent;
       legal = legal;
       calls = whole.calls;

@@ -93,13 +93,13 @@ ended_kept s t port whole counted working within nothing is number =
     }
 
 -- a worker at its end
-pub worker_ended : (w : WorkerState) (trace : Recorded) → worker.IsWhole w → IsWorkDone w.channel.config (record { id = w.id; number = w.number; requests = w.requests; completions = w.completions; trace = trace })
-    → IsWorkerEnded (record { id = w.id; number = w.number; requests = w.requests; completions = w.completions; trace = trace })
-worker_ended w trace whole done = record {
-  config = w.channel.config;
-  work = done;
-  route = whole.route;
+pub worker_ended : (w : WorkerState) (config : Config) (trace : Recorded) → worker.IsWhole w → config ≡ w.channel.config
+    → IsWorkDone w.channel.config (record { id = w.id; number = w.number; config = config; requests = w.requests; completions = w.completions; trace = trace })
+    → IsWorkerEnded (record { id = w.id; number = w.number; config = config; requests = w.requests; completions = w.completions; trace = trace })
+worker_ended w config trace whole own done = record {
+  work = subst (λ (c : Config). IsWorkDone c (record { id = w.id; number = w.number; config = config; requests = w.requests; completions = w.completions; trace = trace })) (sym own) done;
+  route = subst (λ (c : Config). w.requests.who.queue.purpose ≡ record { geometry = c.geometry; channel = w.number }) (sym own) whole.route;
   count = whole.ports;
-  sides = whole.sides;
+  sides = λ p side there. subst (λ (c : Config). worker.IsSideOf c.geometry w.number p side) (sym own) (whole.sides p side there);
   taken = whole.taken;
 }

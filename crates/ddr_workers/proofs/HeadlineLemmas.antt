@@ -223,6 +223,13 @@ numbered ports workers left p e c place r j at there port =
     let f = is_number r.number in
     counted_below r.number e.taken (omega (arith, port_weighs ports workers left f p e j at, part_of_sum (of_worker f p) workers c a.worker a.at, in_worker p r.number place a.worker r a.there port refl))
 
+-- two that are not nothing are more than one
+more_than_one : (total most first second : ℕ) → first + second ≤ total → total ≡ most → most ≤ 1 → 1 ≤ first → 1 ≤ second → ⊥
+more_than_one total most first second parts same limit one other = omega (arith, parts, same, limit, one, other)
+
+two_in_one : (total most whole first second : ℕ) → whole ≤ total → first + second ≤ whole → total ≡ most → most ≤ 1 → first ≡ 1 → second ≡ 1 → ⊥
+two_in_one total most whole first second part parts same limit one other = omega (arith, part, parts, same, limit, one, other)
+
 one_place : (ports : List PortEnded) (workers : List WorkerEnded) (left : ℕ → List Completion) (p : ℕ) (e : PortEnded) (c d place other : ℕ) (r q : records.Request) → AreJoined ports workers left → slice_get ports p ≡ Some e
     → slice_get (accepted_by workers c) place ≡ Some r → slice_get (accepted_by workers d) other ≡ Some q → r.port ≡ p → q.port ≡ p → r.number ≡ q.number → (c ≡ d) × (place ≡ other)
 one_place ports workers left p e c d place other r q j at r_there q_there r_port q_port number =
@@ -232,35 +239,25 @@ one_place ports workers left p e c d place other r q j at r_there q_there r_port
     let total = port_weighs ports workers left f p e j at in
     let most = at_most_once r.number e.taken in
     elim (eqb_tells c d) [
-      | inr apart ↦ absurd (omega (
-        arith,
-        total,
-        most,
-        two_parts (of_worker f p) workers c d a.worker b.worker apart.1 a.at b.at,
-        in_worker p r.number place a.worker r a.there r_port refl,
-        in_worker p r.number other b.worker q b.there q_port (sym number),
-      ))
+      | inr apart ↦ absurd (more_than_one _ _ (of_worker f p a.worker) (of_worker f p b.worker) (two_parts (of_worker f p) workers c d a.worker b.worker apart.1 a.at b.at) total most
+          (in_worker p r.number place a.worker r a.there r_port refl)
+          (in_worker p r.number other b.worker q b.there q_port (sym number)))
       | inl same ↦ (let workers_are : Some a.worker ≡ Some b.worker = sym a.at ∙ ap (slice_get workers) same.1 ∙ b.at in
           let worker : a.worker ≡ b.worker = cc in
           let q_here : slice_get (requests_of a.worker.requests.took) other ≡ Some q = ap (λ (w : WorkerEnded). slice_get (requests_of w.requests.took) other) worker ∙ b.there in
           elim (eqb_tells place other) [
             | inl here ↦ (same.1, here.1)
-            | inr apart ↦ absurd (omega (
-              arith,
-              total,
-              most,
-              part_of_sum (of_worker f p) workers c a.worker a.at,
-              two_parts (weigh f p) (requests_of a.worker.requests.took) place other r q apart.1 a.there q_here,
-              own_weight p r.number r r_port refl,
-              own_weight p r.number q q_port (sym number),
-            ))
+            | inr apart ↦ absurd (two_in_one _ _ (of_worker f p a.worker) (weigh f p r) (weigh f p q) (part_of_sum (of_worker f p) workers c a.worker a.at)
+                (two_parts (weigh f p) (requests_of a.worker.requests.took) place other r q apart.1 a.there q_here) total most
+                (own_weight p r.number r r_port refl)
+                (own_weight p r.number q q_port (sym number)))
           ])
     ]
 
 -- each accepted request stands at its address's place, on its channel, and lies in one line
 
 placed : (ports : List PortEnded) (workers : List WorkerEnded) (left : ℕ → List Completion) (c : ℕ) (w : WorkerEnded) (j : AreJoined ports workers left) → (at : slice_get workers c ≡ Some w)
-    → (i : ℕ) (r : records.Request) → slice_get (requests_of w.requests.took) i ≡ Some r → lines.IsPlaced (j.worker c w at).1.config.geometry c r
+    → (i : ℕ) (r : records.Request) → slice_get (requests_of w.requests.took) i ≡ Some r → lines.IsPlaced w.config.geometry c r
 placed ports workers left c w j at i r there =
     let ended = (j.worker c w at).1 in
     let taken : IsTaken w.requests.who.queue.purpose (length w.completions) r = All-at (IsTaken w.requests.who.queue.purpose (length w.completions)) (requests_of w.requests.took) i r ended.taken there in
@@ -278,17 +275,17 @@ placed ports workers left c w j at i r there =
 
 -- a right answer is the reply to its request
 right_reply : (ports : List PortEnded) (workers : List WorkerEnded) (left : ℕ → List Completion) (c : ℕ) (w : WorkerEnded) (j : AreJoined ports workers left) → (at : slice_get workers c ≡ Some w)
-    → (owner : Owner) (r : records.Request) (d : Completion) → slice_get (requests_of w.requests.took) owner.place ≡ Some r → answer_to (j.worker c w at).1.config (requests_of w.requests.took) owner r ≡ d
+    → (owner : Owner) (r : records.Request) (d : Completion) → slice_get (requests_of w.requests.took) owner.place ≡ Some r → answer_to w.config (requests_of w.requests.took) owner r ≡ d
     → reply_of d ≡ core.reply_of (take owner.place (requests_of w.requests.took)) r
 right_reply ports workers left c w j at owner r d there is =
     let accepted = requests_of w.requests.took in
     let earlier = take owner.place accepted in
-    let geometry = (j.worker c w at).1.config.geometry in
+    let geometry = w.config.geometry in
     let burst = line_after earlier (line_of r.place) in
     let off = r.echo.addr % 64 in
     let its = placed ports workers left c w j at in
     let asked = asked_of_line geometry c r earlier (its owner.place r there) (all_taken (lines.IsPlaced geometry c) accepted owner.place its) in
-    ap reply_of (sym is) ∙ same_answer (reply_of (answer_to (j.worker c w at).1.config accepted owner r)) (core.reply_of earlier r) refl refl
+    ap reply_of (sym is) ∙ same_answer (reply_of (answer_to w.config accepted owner r)) (core.reply_of earlier r) refl refl
     (served_bytes r.echo.kind off r.echo.len r.echo.addr burst r.line earlier asked)
 
 -- a completion that a port got is the answer to a request
@@ -315,7 +312,7 @@ answered ports workers left p i e d j at got =
     let own = into_filter (λ x. eqb (source_of purpose x) c) all i d here (eq-eqb c c refl) in
     let put : slice_get side.0.put own.0 ≡ Some d = ap (λ (ds : List Completion). slice_get ds own.0) (sym (j.completions p c e w side.0 at worker.1 side.1)) ∙ own.1 in
     let work = (j.worker c w worker.1).1.work in
-    let config = (j.worker c w worker.1).1.config in
+    let config = w.config in
     let sent : to_port p work.dones ≡ side.0.put = work.sent.sent p side.0 side.1 ∙ append-nil side.0.put in
     let done = within_filter (λ x. eqb x.port p) work.dones own.0 d (ap (λ (ds : List Completion). slice_get ds own.0) sent ∙ put) in
     let accepted = requests_of w.requests.took in
@@ -428,7 +425,7 @@ none_left ports workers left p e j at =
     let same : Some list ≡ Some (put_of p w) = sym list_is ∙ mapped_at (put_of p) workers c w w_is in
     let list_put : list ≡ put_of p w = cc in
     let put : put_of p w ≡ side.0.put = ap (λ (o : Option (PutSide Delivery Completion)). option_map_or (λ s. s.put) o []) side.1 in
-    ap length (list_put ∙ put) ∙ pushed_count w (j.worker c w w_is).1.config p side.0 (j.worker c w w_is).1.work side.1) in
+    ap length (list_put ∙ put) ∙ pushed_count w w.config p side.0 (j.worker c w w_is).1.work side.1) in
     let asked = port_weighs ports workers left (λ n. 1) p e j at in
     let got : sum_by (λ (d : Completion). 1) e.completions.took ≡ sum_by (λ n. 1) (range_with_len 0 e.taken) = sym (sum_mapped (λ n. 1) (λ (d : Completion). d.number) e.completions.took) ∙ ended.got (λ n. 1) in
     let length_got : sum_by (λ (d : Completion). 1) e.completions.took ≡ length e.completions.took = sum_ones e.completions.took in

@@ -9,7 +9,7 @@ use Rattle.ddr_workers.specs.declared.closing.SystemClosed.{SystemClosed}
 use Rattle.ddr_workers.specs.Headline.{AreJoined, GotAll, accepted_by}
 use Rattle.ddr_workers.specs.Port.{PortState, PortEnded, IsEndOfPort}
 use Rattle.ddr_workers.specs.Sides.{put_id}
-use Rattle.ddr_workers.specs.Worker.{WorkerState, WorkerEnded, IsEndOf, requests_of}
+use Rattle.ddr_workers.specs.Worker.{WorkerState, WorkerEnded, IsEndOf, IsWorkDone, requests_of}
 
 -- Of the channel's queue the worker has the take side and the port the put side of its number, and of the port's queue the
 -- other way round.
@@ -101,6 +101,8 @@ pub record IsEmptied (ports : List PortEnded) (workers : List WorkerEnded) (clos
   pub joined : AreJoined ports workers (λ p. [])
   -- each port got the right reply to each of its requests, once
   pub got : (p : ℕ) (e : PortEnded) → slice_get ports p ≡ Some e → GotAll (accepted_by workers) p e
+  -- each worker admitted, answered and traced rightly under the configuration of its channel: its trace is legal
+  pub work : (c : ℕ) (w : WorkerEnded) → slice_get workers c ≡ Some w → IsWorkDone w.config w
   -- as many requests of each port were accepted as replies were given up
   pub accepted : closed.accepted.items ≡ map (λ p. length (accepted_of workers p)) (range_with_len 0 (length ports))
   pub taken : closed.taken.items ≡ map (λ e. e.taken) ports

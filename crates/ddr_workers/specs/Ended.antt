@@ -1,7 +1,6 @@
 -- What a finished port and a worker at its end leave keeps, for the closing of the system.
 use Rattle.std.specs.Prelude.{◌≡◌, ℕ, All, length, map, Some, slice_get}
 use Rattle.std.specs.List.{range_with_len}
-use Rattle.ddr_timing.specs.declared.config.Config.{Config}
 use Rattle.ddr_timing.specs.declared.geometry.Geometry.{Geometry}
 use Rattle.ddr_address_map.specs.Requests.{Completion}
 use Rattle.ddr_workers.specs.declared.completions.Delivery.{Delivery}
@@ -26,11 +25,10 @@ pub record IsEnded (e : PortEnded) : Type 0 where
   pub got : AreAlike (map (λ d. d.number) e.completions.took) (range_with_len 0 e.taken)
 
 pub record IsWorkerEnded (e : WorkerEnded) : Type 0 where
-  pub config : Config
-  pub work : IsWorkDone config e
-  pub route : e.requests.who.queue.purpose ≡ record { geometry = config.geometry; channel = e.number }
+  pub work : IsWorkDone e.config e
+  pub route : e.requests.who.queue.purpose ≡ record { geometry = e.config.geometry; channel = e.number }
   pub count : e.requests.who.count ≡ length e.completions
   -- its sides lead to the ports in order
-  pub sides : (p : ℕ) (side : PutSide Delivery Completion) → slice_get e.completions p ≡ Some side → IsSideOf config.geometry e.number p side
+  pub sides : (p : ℕ) (side : PutSide Delivery Completion) → slice_get e.completions p ≡ Some side → IsSideOf e.config.geometry e.number p side
   -- what it took is of these ports and of its channel
   pub taken : All (IsTaken e.requests.who.queue.purpose (length e.completions)) (requests_of e.requests.took)

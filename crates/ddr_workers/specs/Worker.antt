@@ -102,10 +102,11 @@ pub record HasNothing (w : WorkerState) : Type 0 where
   pub flight : w.channel.flight ≡ []
   pub done : w.channel.done ≡ []
 
--- What a worker leaves at its end: the sides of its queues, and the commands of its channel
+-- What a worker leaves at its end: the configuration and the commands of its channel, and the sides of its queues
 pub record WorkerEnded : Type 0 where
   pub id : ℕ
   pub number : ℕ
+  pub config : Config
   pub requests : TakeSide Route Item
   pub completions : List (PutSide Delivery Completion)
   pub trace : Recorded
@@ -114,6 +115,7 @@ pub record WorkerEnded : Type 0 where
 pub record IsEndOf (w : WorkerState) (e : WorkerEnded) : Type 0 where
   pub id : e.id ≡ w.id
   pub number : e.number ≡ w.number
+  pub config : e.config ≡ w.channel.config
   pub start : e.trace.start ≡ w.channel.start
   pub requests : e.requests.who ≡ w.requests.who
   pub completions : map (λ side. side.who) e.completions ≡ map (λ side. side.who) w.completions

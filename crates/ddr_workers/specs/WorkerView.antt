@@ -28,7 +28,7 @@ state_of a = record {
 }
 
 abbrev pub ended_of : end_inside.Inside → WorkerEnded
-ended_of a = record { id = a.id; number = a.number; requests = a.requests; completions = a.completions.items; trace = a.trace }
+ended_of a = record { id = a.id; number = a.number; config = a.config; requests = a.requests; completions = a.completions.items; trace = a.trace }
 
 -- what the calls since `open` make of the channel
 abbrev pub history_of : Kept → List Call → History

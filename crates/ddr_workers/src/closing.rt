@@ -206,8 +206,10 @@ fn is_missing(ports: &[PortEnd], workers: &[WorkerEnd]) -> bool
 /// it. The ends may come in any order, and have to be those of one call of `open`, that with this id. It may wait.
 ///
 /// What each port got, and that every queue is empty, is then known: exactly one completion for each of its requests, the
-/// right reply by the requests that its channel accepted before. `Foreign` comes where an end carries another id or a port or
-/// channel stands twice, else `Missing` where a port or channel has no end, no ends at all included, else `OutOfMemory`.
+/// right reply by the requests that its channel accepted before. So is what each channel did: its trace is legal under its
+/// configuration, and has one column command for each request that it accepted. `Foreign` comes where an end carries
+/// another id or a port or channel stands twice, else `Missing` where a port or channel has no end, no ends at all
+/// included, else `OutOfMemory`.
 pub fn close<R: Wait>(
     rt: &R,
     alloc: Global,

@@ -115,3 +115,6 @@ pub fn open(alloc: Global, config: &Config, id: u64) -> Result<(Vec<Port>, Vec<W
     let workers = open_workers(alloc, config, id, worker_rows, worker_takes)?;
     Ok((ports, workers))
 }
+
+#[cfg(test)]
+mod tests;

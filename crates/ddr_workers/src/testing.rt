@@ -1,4 +1,6 @@
-//! What the tests of both kinds of queue share.
+//! What the tests of queues, ports and workers share.
+use ddr_address_map::request::{Echo, Kind};
+use ddr_reorder::reply::Reply;
 use ddr_timing::config::Config;
 use ddr_timing::profile::PROFILE_S;
 use std::alloc::Global;
@@ -19,4 +21,30 @@ pub fn config_with(alloc: Global, key: &str, other: &str) -> Result<Config, Fail
         text.push('\n')?;
     }
     Ok(Config::read(alloc, text.as_str())?)
+}
+
+/// What the reply of a read repeats of it.
+pub fn read_echo(addr: u64, len: u32) -> Echo {
+    Echo {
+        kind: Kind::Read,
+        addr,
+        len,
+    }
+}
+
+/// What the reply of a write repeats of it.
+pub fn write_echo(addr: u64, len: u32) -> Echo {
+    Echo {
+        kind: Kind::Write,
+        addr,
+        len,
+    }
+}
+
+/// Whether a reply is there, with this number, for this request and with these bytes.
+pub fn is_reply(reply: Option<Reply<'_>>, number: u64, echo: Echo, bytes: &[u8]) -> bool {
+    match reply {
+        Some(reply) => reply.number == number && reply.echo == echo && reply.bytes == bytes,
+        None => false,
+    }
 }

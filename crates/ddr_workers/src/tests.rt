@@ -2,7 +2,8 @@
 //!
 //! Here stands what the tests share: a gate, and systems of two ports and two workers that are run to their ends.
 //! `closing` has what `close` gives of such a system, `refusals` which ends it gives back, `finishing` how ports finish
-//! and workers stop, and `gates` that workers run at the same time.
+//! and workers stop, `gates` that workers run at the same time, and `waiting` that a port that doesn't poll holds no other
+//! up.
 ghost use Rattle.std.specs.Prelude.{◌≡◌, ◌∷◌, [], IfOk, IfSome};
 ghost use Rattle.std.specs.Thread.{IsSync};
 ghost use Rattle.ddr_workers.specs.Closing.{AreOfOneOpen};
@@ -13,11 +14,11 @@ ghost use Rattle.ddr_workers.specs.Worker.{IsEndOf};
 use crate::closing::{SystemClosed, ends_of_one_open};
 use crate::gate::{Gate, Turn};
 use crate::port::{PollAnswer, Port, PortEnd};
-use crate::testing::{TRIES, config_with};
+use crate::testing::{TRIES, config_with, is_reply, read_echo, write_echo};
 use crate::worker::{Stopped, Worker, WorkerEnd};
 use crate::{close, open};
-use ddr_address_map::request::{Echo, Kind};
-use ddr_reorder::reply::Reply;
+use ddr_address_map::request::Echo;
+use ddr_ports::request::Request;
 use ddr_timing::config::Config;
 use std::alloc::Global;
 use std::sync::Wait;
@@ -30,9 +31,13 @@ mod closing;
 mod finishing;
 mod gates;
 mod refusals;
+mod waiting;
 
 /// How many turns each worker of a test may make.
 const TURNS: u64 = 10_000_000;
+
+/// How often a port polls for one reply: a port has up to four of them, and polls `TRIES` times at most.
+const POLLS: u32 = TRIES / 4;
 
 /// The first address of channel 1: profile S has the channel as its highest digit.
 const HALF: u64 = 131_072;
@@ -208,21 +213,34 @@ fn expect(is_there: bool, what: &'static str) -> Result<(), &'static str> {
     if is_there { Ok(()) } else { Err(what) }
 }
 
-/// What the reply of a read repeats of it.
-fn read_echo(addr: u64, len: u32) -> Echo {
-    Echo {
-        kind: Kind::Read,
-        addr,
-        len,
-    }
+/// Submits a request, which has to get this number.
+fn submit<R: Wait>(
+    rt: &R,
+    port: &mut Port,
+    request: Request<'_>,
+    number: u64,
+) -> Result<(), &'static str>
+    ensures { IsSamePort port.old port.new }
+{
+    let submitted = port.submit(rt, request);
+    expect(submitted == Ok(number), "the request is submitted")
 }
 
-/// Whether a reply is there, with this number, for this request and with these bytes.
-fn is_reply(reply: Option<Reply<'_>>, number: u64, echo: Echo, bytes: &[u8]) -> bool {
-    match reply {
-        Some(reply) => reply.number == number && reply.echo == echo && reply.bytes == bytes,
-        None => false,
-    }
+/// Takes a completion in, which has to be that of this number.
+fn fill<R: Wait>(rt: &R, port: &mut Port, number: u64) -> Result<(), &'static str>
+    ensures { IsSamePort port.old port.new }
+{
+    let filled = poll_in_time(rt, port, POLLS);
+    expect(filled == Some(number), "the number is filled")
+}
+
+/// Gives up the reply in front, which has to be this one.
+fn take_front(port: &mut Port, number: u64, echo: Echo, bytes: &[u8]) -> Result<(), &'static str>
+    ensures { IsSamePort port.old port.new }
+{
+    let is_there = is_reply(port.front(), number, echo, bytes);
+    expect(is_there, "the reply in front")?;
+    expect(port.release() == Some(number), "the reply is given up")
 }
 
 /// What two ports give back.
@@ -249,22 +267,23 @@ fn host_both<A: Host + Sync, B: Host + Sync, R: Threads + Wait + Sync>(
 /// The ends of two ports and of two workers.
 type AllEnds = (PortEnd, PortEnd, WorkerEnd, WorkerEnd);
 
-/// Runs two ports and two workers, each in a thread, to their ends.
-fn run_parts<A: Host + Sync, B: Host + Sync, R: Threads + Wait + Sync>(
+/// Runs two ports and two workers, each in a thread.
+fn run_threads<A: Host + Sync, B: Host + Sync, R: Threads + Wait + Sync>(
     rt: &R,
+    gate: &Barred,
     host: &A,
     other_host: &B,
-    parts: Parts,
-) -> Result<AllEnds, Fail>
-    ensures first { IfOk result (λ ends. IsEndOfPort parts.0 ends.0) }
-    ensures second { IfOk result (λ ends. IsEndOfPort parts.1 ends.1) }
-    ensures first_work { IfOk result (λ ends. IsEndOf parts.2 ends.2) }
-    ensures second_work { IfOk result (λ ends. IsEndOf parts.3 ends.3) }
+    ports: (Port, Port),
+    workers: (Worker, Worker),
+) -> (Hosted, Worked)
+    ensures first { IfOk result.0.0 (IsEndOfPort ports.0) }
+    ensures second { IfOk result.0.1 (IsEndOfPort ports.1) }
+    ensures first_work { IfOk result.1.0 (IsEndOf workers.0) }
+    ensures second_work { IfOk result.1.1 (IsEndOf workers.1) }
 {
-    let (first, second, first_worker, second_worker) = parts;
-    let gate = Barred::nowhere();
-    let gate = &gate;
-    let ((first, second), (first_work, second_work)) = thread::join(
+    let (first, second) = ports;
+    let (first_worker, second_worker) = workers;
+    thread::join(
         rt,
         move || -> Hosted
             requires { IsSync R.row }
@@ -276,7 +295,26 @@ fn run_parts<A: Host + Sync, B: Host + Sync, R: Threads + Wait + Sync>(
             ensures first { IfOk result.0 (IsEndOf first_worker) }
             ensures second { IfOk result.1 (IsEndOf second_worker) }
         { run_both(rt, gate, first_worker, second_worker) },
-    );
+    )
+}
+
+/// Runs two ports and two workers, each in a thread, to their ends.
+fn run_parts<A: Host + Sync, B: Host + Sync, R: Threads + Wait + Sync>(
+    rt: &R,
+    host: &A,
+    other_host: &B,
+    ports: (Port, Port),
+    workers: (Worker, Worker),
+) -> Result<AllEnds, Fail>
+    ensures first { IfOk result (λ ends. IsEndOfPort ports.0 ends.0) }
+    ensures second { IfOk result (λ ends. IsEndOfPort ports.1 ends.1) }
+    ensures first_work { IfOk result (λ ends. IsEndOf workers.0 ends.2) }
+    ensures second_work { IfOk result (λ ends. IsEndOf workers.1 ends.3) }
+{
+    let gate = Barred::nowhere();
+    let (hosted, worked) = run_threads(rt, &gate, host, other_host, ports, workers);
+    let (first, second) = hosted;
+    let (first_work, second_work) = worked;
     match (first_work, second_work) {
         (Ok(first_work), Ok(second_work)) => Ok((first?, second?, first_work, second_work)),
         _ => Err("workers at their ends".into()),
@@ -294,13 +332,14 @@ fn run_system<A: Host + Sync, B: Host + Sync, R: Threads + Wait + Sync>(
 ) -> Result<AllEnds, Fail>
     ensures one { IfOk result (λ ends. AreOfOneOpen id (ends.0 ∷ ends.1 ∷ []) (ends.2 ∷ ends.3 ∷ [])) }
     ensures id { IfOk result (λ ends. (ends.0.id ≡ id) × (ends.1.id ≡ id)) }
+    ensures work_id { IfOk result (λ ends. (ends.2.id ≡ id) × (ends.3.id ≡ id)) }
 {
     ends_of_one_open();
     let (first, second, first_worker, second_worker) = open_two(alloc, config, id)?;
     let first = host.begin(rt, first)?;
     let second = other_host.begin(rt, second)?;
-    let parts = (first, second, first_worker, second_worker);
-    let ends = run_parts(rt, host, other_host, parts)?;
+    let workers = (first_worker, second_worker);
+    let ends = run_parts(rt, host, other_host, (first, second), workers)?;
     Ok(ends)
 }
 
@@ -317,4 +356,21 @@ fn close_in_order<R: Wait>(
     let ports = vec![in alloc; first, second]?;
     let workers = vec![in alloc; first_work, second_work]?;
     close(rt, alloc, id, ports, workers).map_err(|_| "closed".into())
+}
+
+/// Runs a system of two ports and two channels to its end, and closes it.
+fn run_and_close<A: Host + Sync, B: Host + Sync, R: Threads + Wait + Sync>(
+    rt: &R,
+    alloc: Global,
+    config: &Config,
+    host: &A,
+    other_host: &B,
+) -> Result<SystemClosed, Fail> {
+    let ends = run_system(rt, alloc, config, 7, host, other_host)?;
+    close_in_order(rt, alloc, 7, ends)
+}
+
+/// Whether of each port so many requests were accepted, and as many replies given up.
+fn has_counts(closed: &SystemClosed, counts: &[u64]) -> bool {
+    closed.accepted.as_slice() == counts && closed.taken.as_slice() == counts
 }

@@ -93,6 +93,7 @@ pub struct Stopped {
 pub struct WorkerEnd {
     id: u64,
     number: u32,
+    config: Config,
     requests: RequestTake,
     completions: Vec<DonePut>,
     trace: Trace,
@@ -144,6 +145,7 @@ impl WorkerEnd {
         let WorkerEnd {
             id: _,
             number: _,
+            config: _,
             requests,
             completions,
             trace,
@@ -286,6 +288,7 @@ impl Worker {
         WorkerEnd {
             id,
             number,
+            config: *channel.config(),
             requests,
             completions,
             trace: channel.into_trace(),

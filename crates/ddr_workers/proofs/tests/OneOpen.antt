@@ -67,6 +67,12 @@ module _ (config : Config) (id : ℕ) (first second : PortState) (one two : Work
   pub second_id : b.id ≡ id
   second_id = of_second.id ∙ ap (λ (s : PortState). s.id) (opened.port 1 second refl)
 
+  pub first_work_id : c.id ≡ id
+  first_work_id = of_one.id ∙ (opened.worker 0 one refl).id_is
+
+  pub second_work_id : d.id ≡ id
+  second_work_id = of_two.id ∙ (opened.worker 1 two refl).id_is
+
 -- Ends that are among those of one call, or carry another id
 module _ (id : ℕ) (a b : PortEnded) (c d : WorkerEnded) (one : AreOfOneOpen id (a ∷ b ∷ []) (c ∷ d ∷ [])) where
   both : (e : PortEnded) (w : WorkerEnded) → (e ≡ a) ⊎ (e ≡ b) → (w ≡ c) ⊎ (w ≡ d) → e.id ≡ id → w.id ≡ id → AreOpposite e w
@@ -79,7 +85,7 @@ module _ (id : ℕ) (a b : PortEnded) (c d : WorkerEnded) (one : AreOfOneOpen id
   IsOwnPort e = e.id ≡ id → (e ≡ a) ⊎ (e ≡ b)
 
   abbrev pub IsOwnWorker : WorkerEnded → Type 0
-  IsOwnWorker w = (w ≡ c) ⊎ (w ≡ d)
+  IsOwnWorker w = w.id ≡ id → (w ≡ c) ⊎ (w ≡ d)
 
   at : {X : Type 0} (P : X → Type 0) (xs : List X) (k : ℕ) (x : X) → AllByRecursion P xs → slice_get xs k ≡ Some x → P x
   at P [] k x all is = cc
@@ -90,11 +96,11 @@ module _ (id : ℕ) (a b : PortEnded) (c d : WorkerEnded) (one : AreOfOneOpen id
       → AllByRecursion IsOwnPort es → AllByRecursion IsOwnWorker ws → AreOfOneOpen id ports workers
   among ports workers es ws ports_are workers_are own_ports own_workers = λ k m e w is_port is_worker own other.
       both e w (at IsOwnPort es k e own_ports (subst (λ l. slice_get l k ≡ Some e) ports_are is_port) own)
-      (at IsOwnWorker ws m w own_workers (subst (λ l. slice_get l m ≡ Some w) workers_are is_worker)) own other
+      (at IsOwnWorker ws m w own_workers (subst (λ l. slice_get l m ≡ Some w) workers_are is_worker) other) own other
 
 -- the end of another system is not to be one of this
-pub of_another : (e : PortEnded) → e.id ≡ 8 → e.id ≡ 7 → ⊥
-of_another e other own = omega arith
+pub of_another : (id : ℕ) → id ≡ 8 → id ≡ 7 → ⊥
+of_another id other own = omega arith
 
 pub no_workers : (id : ℕ) (ports : List PortEnded) (workers : List WorkerEnded) → workers ≡ [] → AreOfOneOpen id ports workers
 no_workers id ports workers none = λ k m e w is_port is_worker own other.

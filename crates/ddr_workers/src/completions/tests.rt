@@ -237,38 +237,86 @@ fn offer<R: Wait>(
     Ok(pushed.err().map(|back| back.number))
 }
 
+/// Looks for a completion, pushes two and takes one, pushes another, and tells whether there was one at first, what was
+/// taken, and what came back.
+fn hand_over<R: Wait>(
+    rt: &R,
+    alloc: Global,
+    config: &Config,
+    side: &mut DonePut,
+    take: &mut DoneTake,
+) -> Result<(bool, Option<u64>, [Option<u64>; 3]), Fail>
+    requires source { side.old.who.source ≡ 0 }
+    requires delivery { side.old.who.queue.purpose ≡ record { geometry = config.now.geometry; port = 1 } }
+    ensures who { side.new.who ≡ side.old.who }
+    ensures take { take.new.who ≡ take.old.who }
+{
+    let had_done = take.pop(rt).is_some();
+    let first = offer(rt, alloc, config, side, 7)?;
+    let second = offer(rt, alloc, config, side, 8)?;
+    let taken = take.pop(rt).map(|done| done.number);
+    let third = offer(rt, alloc, config, side, 9)?;
+    Ok((had_done, taken, [first, second, third]))
+}
+
+/// Joins the queue, and tells how many completions are left, and the numbers of those of channel 0.
+fn join_both<R: Wait>(
+    rt: &R,
+    alloc: Global,
+    first: DonePut,
+    second: DonePut,
+    take: DoneTake,
+) -> Result<(usize, Vec<u64>), AllocError>
+    requires { AreSides (first ∷ second ∷ []) take }
+{
+    let puts = vec![in alloc; first, second]?;
+    let left = join(rt, puts, take);
+    let numbers = numbers_of(alloc, left.as_slice(), 0)?;
+    Ok((left.len(), numbers))
+}
+
 #[test]
 fn one_place_is_full_and_empty_again(rt: HostRuntime) -> Result<(), Fail> {
     let config = config_with(rt.alloc(), "window ", "window = 1")?;
     let (mut first, second, mut take) = two_channels(rt.alloc(), &config)?;
-    let mut puts = Vec::with_capacity(rt.alloc(), 2)?;
-    assert!(rt; take.pop(&rt).is_none());
-    assert_eq!(rt; offer(&rt, rt.alloc(), &config, &mut first, 7)?, None);
-    assert_eq!(rt; offer(&rt, rt.alloc(), &config, &mut first, 8)?, Some(8));
-    assert_eq!(rt; take.pop(&rt).map(|done| done.number), Some(7));
-    assert_eq!(rt; offer(&rt, rt.alloc(), &config, &mut first, 9)?, None);
-    puts.push_reserved(first);
-    puts.push_reserved(second);
-    let left = join(&rt, puts, take);
-    assert_eq!(rt; left.len(), 1);
-    assert_eq!(rt; left[0].number, 9);
+    let handed = hand_over(&rt, rt.alloc(), &config, &mut first, &mut take)?;
+    assert_eq!(rt; handed, (false, Some(7), [None, Some(8), None]));
+    let (count, left) = join_both(&rt, rt.alloc(), first, second, take)?;
+    assert_eq!(rt; (count, left.as_slice()), (1, [9].as_slice()));
     Ok(())
+}
+
+/// Whether these are the numbers of all completions of a channel, in order.
+fn are_in_order(numbers: &[u64]) -> bool {
+    for (place, number) in numbers.iter().enumerate() {
+        if *number != place as u64 {
+            return false;
+        }
+    }
+    numbers.len() == 100
+}
+
+/// Whether all of a channel's completions are there in order.
+fn came_in_order(alloc: Global, dones: &[Done], channel: u64) -> Result<bool, AllocError> {
+    let numbers = numbers_of(alloc, dones, channel)?;
+    Ok(are_in_order(numbers.as_slice()))
+}
+
+/// Exchanges the completions of two channels over one place.
+fn exchange_all<R: Threads + Wait + Sync>(rt: &R, alloc: Global) -> Result<Exchange, Fail> {
+    let config = config_with(alloc, "window ", "window = 1")?;
+    let (first, second, take) = two_channels(alloc, &config)?;
+    let exchange = exchanged(rt, alloc, &config, first, second, take)?;
+    Ok(exchange)
 }
 
 #[test]
 fn three_threads_hand_over_in_order(rt: HostRuntime) -> Result<(), Fail> {
-    let config = config_with(rt.alloc(), "window ", "window = 1")?;
-    let (first, second, take) = two_channels(rt.alloc(), &config)?;
-    let exchange = exchanged(&rt, rt.alloc(), &config, first, second, take)?;
-    assert!(rt; exchange.all_pushed);
-    assert_eq!(rt; exchange.taken.len(), 200);
-    assert_eq!(rt; exchange.left.len(), 0);
-    for channel in 0..2 {
-        let numbers = numbers_of(rt.alloc(), exchange.taken.as_slice(), channel)?;
-        assert_eq!(rt; numbers.len(), 100, "channel {channel}");
-        for (place, number) in numbers.iter().enumerate() {
-            assert_eq!(rt; *number, place as u64, "channel {channel}");
-        }
-    }
+    let exchange = exchange_all(&rt, rt.alloc())?;
+    let counts = (exchange.taken.len(), exchange.left.len());
+    assert_eq!(rt; (exchange.all_pushed, counts), (true, (200, 0)));
+    let first = came_in_order(rt.alloc(), exchange.taken.as_slice(), 0)?;
+    let second = came_in_order(rt.alloc(), exchange.taken.as_slice(), 1)?;
+    assert_eq!(rt; (first, second), (true, true));
     Ok(())
 }

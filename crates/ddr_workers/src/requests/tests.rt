@@ -270,40 +270,88 @@ fn number_of(item: Item) -> Option<u64> {
     }
 }
 
+/// Looks for an item, pushes two requests and takes one, and tells whether there was an item, what came back and what
+/// was taken.
+fn hand_over<R: Wait>(
+    rt: &R,
+    alloc: Global,
+    config: &Config,
+    side: &mut RequestPut,
+    take: &mut RequestTake,
+) -> Result<(bool, Option<u64>, Option<u64>, Option<u64>), Fail>
+    requires port { side.old.who.source ≡ 0 }
+    requires route { side.old.who.queue.purpose ≡ record { geometry = config.now.geometry; channel = 0 } }
+    requires before_end { has_end side.old.put ≡ false }
+    ensures who { side.new.who ≡ side.old.who }
+    ensures before_end { has_end side.new.put ≡ false }
+    ensures take { take.new.who ≡ take.old.who }
+{
+    let had_item = take.pop(rt).is_some();
+    let back = offer(rt, alloc, config, side, 7)?;
+    let other_back = offer(rt, alloc, config, side, 8)?;
+    let taken = take.pop(rt).and_then(number_of);
+    Ok((had_item, back, other_back, taken))
+}
+
+/// Ends both ports and joins the queue, and tells which End was pushed and what is left.
+fn end_both<R: Wait>(
+    rt: &R,
+    alloc: Global,
+    mut first: RequestPut,
+    mut second: RequestPut,
+    take: RequestTake,
+) -> Result<((Result<(), Full>, Result<(), Full>), Vec<Item>), AllocError>
+    requires before_end { (has_end first.put ≡ false) × (has_end second.put ≡ false) }
+    requires sides { AreSides (first ∷ second ∷ []) take }
+{
+    let ended = (first.end(rt), second.end(rt));
+    let puts = vec![in alloc; first, second]?;
+    Ok((ended, join(rt, puts, take)))
+}
+
 #[test]
 fn one_place_is_full_and_empty_again(rt: HostRuntime) -> Result<(), Fail> {
     let config = config_with(rt.alloc(), "intake ", "intake = 1")?;
-    let (mut first, mut second, mut take) = two_ports(rt.alloc(), &config)?;
-    let mut puts = Vec::with_capacity(rt.alloc(), 2)?;
-    assert!(rt; take.pop(&rt).is_none());
-    assert_eq!(rt; offer(&rt, rt.alloc(), &config, &mut first, 7)?, None);
-    assert_eq!(rt; offer(&rt, rt.alloc(), &config, &mut first, 8)?, Some(8));
-    assert_eq!(rt; take.pop(&rt).and_then(number_of), Some(7));
-    assert!(rt; first.end(&rt).is_ok());
-    assert_eq!(rt; second.end(&rt), Err(Full));
-    puts.push_reserved(first);
-    puts.push_reserved(second);
-    let left = join(&rt, puts, take);
-    assert_eq!(rt; left.len(), 1);
+    let (mut first, second, mut take) = two_ports(rt.alloc(), &config)?;
+    let handed = hand_over(&rt, rt.alloc(), &config, &mut first, &mut take)?;
+    assert_eq!(rt; handed, (false, None, Some(8), Some(7)));
+    let (ended, left) = end_both(&rt, rt.alloc(), first, second, take)?;
+    assert_eq!(rt; ended, (Ok(()), Err(Full)));
     assert!(rt; matches!(left.as_slice(), [Item::End(0)]));
     Ok(())
 }
 
+/// Whether these are the numbers of all requests, in order.
+fn are_in_order(numbers: &[u64]) -> bool {
+    for (place, number) in numbers.iter().enumerate() {
+        if *number != place as u64 {
+            return false;
+        }
+    }
+    numbers.len() == 100
+}
+
+/// Whether all of a port's requests are there in order, and one End behind them.
+fn came_in_order(alloc: Global, items: &[Item], port: u32) -> Result<bool, AllocError> {
+    let (numbers, ends) = numbers_of(alloc, items, port)?;
+    Ok(are_in_order(numbers.as_slice()) && ends.as_slice() == [100].as_slice())
+}
+
+/// Exchanges the requests of two ports over one place.
+fn exchange_all<R: Threads + Wait + Sync>(rt: &R, alloc: Global) -> Result<Exchange, Fail> {
+    let config = config_with(alloc, "intake ", "intake = 1")?;
+    let (first, second, take) = two_ports(alloc, &config)?;
+    let exchange = exchanged(rt, alloc, &config, first, second, take)?;
+    Ok(exchange)
+}
+
 #[test]
 fn three_threads_hand_over_in_order(rt: HostRuntime) -> Result<(), Fail> {
-    let config = config_with(rt.alloc(), "intake ", "intake = 1")?;
-    let (first, second, take) = two_ports(rt.alloc(), &config)?;
-    let exchange = exchanged(&rt, rt.alloc(), &config, first, second, take)?;
-    assert!(rt; exchange.all_pushed);
-    assert_eq!(rt; exchange.taken.len(), 202);
-    assert_eq!(rt; exchange.left.len(), 0);
-    for port in 0..2 {
-        let (numbers, ends) = numbers_of(rt.alloc(), exchange.taken.as_slice(), port)?;
-        assert_eq!(rt; numbers.len(), 100, "port {port}");
-        for (place, number) in numbers.iter().enumerate() {
-            assert_eq!(rt; *number, place as u64, "port {port}");
-        }
-        assert_eq!(rt; ends.as_slice(), [100].as_slice(), "port {port}");
-    }
+    let exchange = exchange_all(&rt, rt.alloc())?;
+    let counts = (exchange.taken.len(), exchange.left.len());
+    assert_eq!(rt; (exchange.all_pushed, counts), (true, (202, 0)));
+    let first = came_in_order(rt.alloc(), exchange.taken.as_slice(), 0)?;
+    let second = came_in_order(rt.alloc(), exchange.taken.as_slice(), 1)?;
+    assert_eq!(rt; (first, second), (true, true));
     Ok(())
 }

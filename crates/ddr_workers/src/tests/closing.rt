@@ -4,23 +4,11 @@ ghost use Rattle.ddr_workers.specs.Closing.{AreOfOneOpen};
 ghost use Rattle.ddr_workers.specs.Port.{IsSamePort};
 
 use super::*;
-use ddr_ports::request::Request;
+use ddr_address_map::request::Kind;
 use ddr_timing::profile::PROFILE_S;
 use ddr_trace::checker::first_fault;
 use ddr_trace::command::{Command, Entry};
 use ddr_trace::trace::Trace;
-
-/// How often a port polls for one reply: a port has up to four of them, and polls `TRIES` times at most.
-const POLLS: u32 = TRIES / 4;
-
-/// What the reply of a write repeats of it.
-fn write_echo(addr: u64, len: u32) -> Echo {
-    Echo {
-        kind: Kind::Write,
-        addr,
-        len,
-    }
-}
 
 /// Writes a byte and reads it back.
 #[derive(Drop)]
@@ -30,44 +18,32 @@ struct WritesAndReads {
 }
 
 impl WritesAndReads {
-    /// Takes the reply of the write, which is the first to come.
-    fn take_write<R: Wait>(&self, rt: &R, port: &mut Port) -> Result<(), &'static str>
+    /// Takes a reply that is ready alone.
+    fn take_alone<R: Wait>(
+        rt: &R,
+        port: &mut Port,
+        number: u64,
+        echo: Echo,
+        bytes: &[u8],
+    ) -> Result<(), &'static str>
         ensures { IsSamePort port.old port.new }
     {
-        let echo = write_echo(self.addr, 1);
-        expect(
-            poll_in_time(rt, port, POLLS) == Some(0),
-            "the write is filled",
-        )?;
-        expect(port.ready() == 1, "the write is ready alone")?;
-        expect(is_reply(port.front(), 0, echo, &[]), "the write in front")?;
-        expect(
-            is_reply(port.nth(0), 0, echo, &[]),
-            "the write in its place",
-        )?;
-        expect(port.nth(1).is_none(), "no read yet")?;
-        expect(port.release() == Some(0), "the write is given up")
+        fill(rt, port, number)?;
+        let is_alone = port.ready() == 1 && port.nth(1).is_none();
+        expect(is_alone, "no other is ready")?;
+        let is_there = is_reply(port.nth(0), number, echo, bytes);
+        expect(is_there, "the reply in its place")?;
+        take_front(port, number, echo, bytes)
     }
 
-    /// Takes the reply of the read, with the byte that was written.
-    fn take_read<R: Wait>(&self, rt: &R, port: &mut Port) -> Result<(), &'static str>
+    /// Takes the replies, of which that of the write comes first.
+    fn take_both<R: Wait>(&self, rt: &R, port: &mut Port) -> Result<(), &'static str>
         ensures { IsSamePort port.old port.new }
     {
-        let echo = read_echo(self.addr, 1);
-        expect(
-            poll_in_time(rt, port, POLLS) == Some(1),
-            "the read is filled",
-        )?;
-        expect(port.ready() == 1, "the read is ready")?;
-        expect(
-            is_reply(port.front(), 1, echo, &[self.byte]),
-            "the read in front",
-        )?;
-        expect(
-            is_reply(port.nth(0), 1, echo, &[self.byte]),
-            "the read in its place",
-        )?;
-        expect(port.release() == Some(1), "the read is given up")
+        let write = write_echo(self.addr, 1);
+        WritesAndReads::take_alone(rt, port, 0, write, &[])?;
+        let read = read_echo(self.addr, 1);
+        WritesAndReads::take_alone(rt, port, 1, read, &[self.byte])
     }
 }
 
@@ -77,12 +53,10 @@ impl Host for WritesAndReads {
     }
 
     fn go_on<R: Wait>(&self, rt: &R, mut port: Port) -> Result<PortEnd, &'static str> {
-        let write = port.submit(rt, Request::write(self.addr, &[self.byte]));
-        expect(write == Ok(0), "the write is submitted")?;
-        let read = port.submit(rt, Request::read(self.addr, 1));
-        expect(read == Ok(1), "the read is submitted")?;
-        self.take_write(rt, &mut port)?;
-        self.take_read(rt, &mut port)?;
+        let bytes = [self.byte];
+        submit(rt, &mut port, Request::write(self.addr, &bytes), 0)?;
+        submit(rt, &mut port, Request::read(self.addr, 1), 1)?;
+        self.take_both(rt, &mut port)?;
         finish_in_time(rt, port).ok_or("an end")
     }
 }
@@ -102,57 +76,77 @@ fn close_in_reverse<R: Wait>(
     close(rt, alloc, id, ports, workers).map_err(|_| "closed".into())
 }
 
-/// ACT of a row of bank 0 in group 0.
-fn act(cycle: u64, row: u32) -> Entry {
-    let command = Command::Act {
-        rank: 0,
-        group: 0,
-        bank: 0,
-        row,
-    };
-    Entry { cycle, command }
+/// A command for bank 0 in group 0.
+#[derive(Clone, Copy)]
+enum Step {
+    Act { row: u32 },
+    Rd { row: u32, line: u32 },
+    Wr { row: u32, line: u32 },
+    Pre,
 }
 
-/// RD of a line there.
-fn rd(cycle: u64, row: u32, line: u32) -> Entry {
-    let command = Command::Rd {
-        rank: 0,
-        group: 0,
-        bank: 0,
-        row,
-        line,
-    };
-    Entry { cycle, command }
+/// The command, as a trace has it.
+fn command_of(step: Step) -> Command {
+    let (rank, group, bank) = (0, 0, 0);
+    match step {
+        Step::Act { row } => Command::Act {
+            rank,
+            group,
+            bank,
+            row,
+        },
+        Step::Rd { row, line } => Command::Rd {
+            rank,
+            group,
+            bank,
+            row,
+            line,
+        },
+        Step::Wr { row, line } => Command::Wr {
+            rank,
+            group,
+            bank,
+            row,
+            line,
+        },
+        Step::Pre => Command::Pre { rank, group, bank },
+    }
 }
 
-/// WR of a line there.
-fn wr(cycle: u64, row: u32, line: u32) -> Entry {
-    let command = Command::Wr {
-        rank: 0,
-        group: 0,
-        bank: 0,
-        row,
-        line,
-    };
-    Entry { cycle, command }
-}
+/// Commands at their cycles.
+type Steps<'a> = &'a [(u64, Step)];
 
-/// PRE of that bank.
-fn pre(cycle: u64) -> Entry {
-    let command = Command::Pre {
-        rank: 0,
-        group: 0,
-        bank: 0,
-    };
-    Entry { cycle, command }
+/// Whether the entries are these commands, at these cycles.
+fn are_entries(entries: &[Entry], steps: Steps<'_>) -> bool {
+    for (entry, (cycle, step)) in entries.iter().zip(steps) {
+        let command = command_of(*step);
+        let cycle = *cycle;
+        if *entry != (Entry { cycle, command }) {
+            return false;
+        }
+    }
+    entries.len() == steps.len()
 }
 
 /// Whether a trace has these commands, goes from cycle 0 to this end, and keeps every rule.
-fn is_trace(trace: &Trace, config: &Config, entries: &[Entry], end: u64) -> bool {
-    trace.entries.as_slice() == entries
+fn is_trace(trace: &Trace, config: &Config, steps: Steps<'_>, end: u64) -> bool {
+    let entries = trace.entries.as_slice();
+    are_entries(entries, steps)
         && trace.start == 0
         && trace.end == end
         && first_fault(entries, config, 0, end).is_none()
+}
+
+/// Whether both channels have these traces.
+fn has_traces(
+    closed: &SystemClosed,
+    config: &Config,
+    first: (Steps<'_>, u64),
+    second: (Steps<'_>, u64),
+) -> bool {
+    closed.traces.len() == 2
+        && is_trace(&closed.traces[0], config, first.0, first.1)
+        && is_trace(&closed.traces[1], config, second.0, second.1)
 }
 
 /// Writes and reads back as each of two ports, on a channel each.
@@ -174,12 +168,12 @@ fn run_writes_and_reads<R: Threads + Wait + Sync>(
 /// Whether each port took both of its replies, and each channel has the trace of a write and a read behind it: the write RCD
 /// after ACT, and the read WTR_L after the write's data. However late the read comes, the clock waits for it.
 fn has_all_replies(closed: &SystemClosed, config: &Config) -> bool {
-    let entries = [act(0, 0), wr(4, 0, 0), rd(15, 0, 0)];
-    closed.accepted.as_slice() == [2, 2].as_slice()
-        && closed.taken.as_slice() == [2, 2].as_slice()
-        && closed.traces.len() == 2
-        && is_trace(&closed.traces[0], config, &entries, 24)
-        && is_trace(&closed.traces[1], config, &entries, 24)
+    let steps = [
+        (0, Step::Act { row: 0 }),
+        (4, Step::Wr { row: 0, line: 0 }),
+        (15, Step::Rd { row: 0, line: 0 }),
+    ];
+    has_counts(closed, &[2, 2]) && has_traces(closed, config, (&steps, 24), (&steps, 24))
 }
 
 #[test]
@@ -208,49 +202,29 @@ impl ReadsTwoRows {
     fn take_first<R: Wait>(rt: &R, port: &mut Port) -> Result<(), &'static str>
         ensures { IsSamePort port.old port.new }
     {
-        expect(
-            poll_in_time(rt, port, POLLS) == Some(0),
-            "the first is filled",
-        )?;
-        let is_there = is_reply(port.front(), 0, read_echo(0, 1), &[0]);
-        expect(is_there, "the first in front")?;
-        expect(port.release() == Some(0), "the first is given up")?;
-        expect(
-            poll_in_time(rt, port, POLLS) == Some(2),
-            "the row hit is filled",
-        )?;
-        expect(
-            port.ready() == 0 && port.nth(1).is_none(),
-            "the second is waited for",
-        )
+        fill(rt, port, 0)?;
+        take_front(port, 0, read_echo(0, 1), &[0])?;
+        fill(rt, port, 2)?;
+        let is_none = port.ready() == 0 && port.nth(1).is_none();
+        expect(is_none, "the second is waited for")
     }
 
     /// Takes the other two replies in their order.
     fn take_others<R: Wait>(rt: &R, port: &mut Port) -> Result<(), &'static str>
         ensures { IsSamePort port.old port.new }
     {
-        expect(
-            poll_in_time(rt, port, POLLS) == Some(1),
-            "the second is filled",
-        )?;
+        fill(rt, port, 1)?;
         expect(port.ready() == 2, "both are ready")?;
-        let is_there = is_reply(port.front(), 1, read_echo(8192, 1), &[0]);
-        expect(is_there, "the second in front")?;
-        expect(port.release() == Some(1), "the second is given up")?;
-        let is_there = is_reply(port.front(), 2, read_echo(64, 1), &[0]);
-        expect(is_there, "the third in front")?;
-        expect(port.release() == Some(2), "the third is given up")
+        take_front(port, 1, read_echo(8192, 1), &[0])?;
+        take_front(port, 2, read_echo(64, 1), &[0])
     }
 }
 
 impl Host for ReadsTwoRows {
     fn begin<R: Wait>(&self, rt: &R, mut port: Port) -> Result<Port, &'static str> {
-        let first = port.submit(rt, Request::read(0, 1));
-        expect(first == Ok(0), "the first is submitted")?;
-        let second = port.submit(rt, Request::read(8192, 1));
-        expect(second == Ok(1), "the second is submitted")?;
-        let third = port.submit(rt, Request::read(64, 1));
-        expect(third == Ok(2), "the third is submitted")?;
+        submit(rt, &mut port, Request::read(0, 1), 0)?;
+        submit(rt, &mut port, Request::read(8192, 1), 1)?;
+        submit(rt, &mut port, Request::read(64, 1), 2)?;
         Ok(port)
     }
 
@@ -261,25 +235,25 @@ impl Host for ReadsTwoRows {
     }
 }
 
+/// Whether channel 0 has the trace of those reads: RCD, CCD_L, RTP, RP and RCD lie between the commands.
+fn has_two_rows(closed: &SystemClosed, config: &Config) -> bool {
+    let steps = [
+        (0, Step::Act { row: 0 }),
+        (4, Step::Rd { row: 0, line: 0 }),
+        (9, Step::Rd { row: 0, line: 1 }),
+        (12, Step::Pre),
+        (16, Step::Act { row: 1 }),
+        (20, Step::Rd { row: 1, line: 0 }),
+    ];
+    has_traces(closed, config, (&steps, 29), (&[], 0))
+}
+
 #[test]
 fn the_younger_row_hit_comes_first(rt: HostRuntime) -> Result<(), Fail> {
     let config = Config::read(rt.alloc(), PROFILE_S)?;
-    let ends = run_system(&rt, rt.alloc(), &config, 7, &ReadsTwoRows, &Silent)?;
-    let closed = close_in_order(&rt, rt.alloc(), 7, ends)?;
-    // RCD, CCD_L, RTP, RP and RCD
-    let entries = [
-        act(0, 0),
-        rd(4, 0, 0),
-        rd(9, 0, 1),
-        pre(12),
-        act(16, 1),
-        rd(20, 1, 0),
-    ];
-    assert_eq!(rt; closed.accepted.as_slice(), [3, 0].as_slice());
-    assert_eq!(rt; closed.taken.as_slice(), [3, 0].as_slice());
-    assert_eq!(rt; closed.traces.len(), 2);
-    assert!(rt; is_trace(&closed.traces[0], &config, &entries, 29));
-    assert!(rt; is_trace(&closed.traces[1], &config, &[], 0));
+    let closed = run_and_close(&rt, rt.alloc(), &config, &ReadsTwoRows, &Silent)?;
+    assert!(rt; has_counts(&closed, &[3, 0]));
+    assert!(rt; has_two_rows(&closed, &config));
     Ok(())
 }
 
@@ -287,26 +261,47 @@ fn the_younger_row_hit_comes_first(rt: HostRuntime) -> Result<(), Fail> {
 struct LooksAtReplies;
 
 impl LooksAtReplies {
+    /// What the reply of each number repeats, and the bytes that it lends.
+    fn expected(number: u64) -> (Echo, usize, [u8; 2]) {
+        let (kind, addr, len, lent, bytes) = match number {
+            0 => (Kind::Write, 64, 2, 0, [0, 0]),
+            1 => (Kind::Read, 65, 2, 2, [0x5b, 0]),
+            2 => (Kind::Read, 0, 1, 1, [0, 0]),
+            _ => (Kind::Read, 64, 1, 1, [0x5a, 0]),
+        };
+        (Echo { kind, addr, len }, lent, bytes)
+    }
+
+    /// Whether the reply of this number stands at this place.
+    fn is_at(port: &Port, place: usize, number: u64) -> bool {
+        let (echo, lent, bytes) = LooksAtReplies::expected(number);
+        match bytes.get(..lent) {
+            Some(bytes) => is_reply(port.nth(place), number, echo, bytes),
+            None => false,
+        }
+    }
+
+    /// Whether the replies of these numbers are ready, and no other.
+    fn are_ready(port: &Port, numbers: &[u64]) -> bool {
+        for (place, number) in numbers.iter().enumerate() {
+            if !LooksAtReplies::is_at(port, place, *number) {
+                return false;
+            }
+        }
+        port.ready() == numbers.len() && port.nth(numbers.len()).is_none()
+    }
+
     /// Looks at three replies while a fourth is waited for.
     fn look<R: Wait>(rt: &R, port: &mut Port) -> Result<(), &'static str>
         ensures { IsSamePort port.old port.new }
     {
         for _ in 0..3 {
-            expect(
-                poll_in_time(rt, port, POLLS).is_some(),
-                "one of three is filled",
-            )?;
+            let filled = poll_in_time(rt, port, POLLS);
+            expect(filled.is_some(), "one of three is filled")?;
         }
-        let fourth = port.submit(rt, Request::read(64, 1));
-        expect(fourth == Ok(3), "the fourth is submitted")?;
-        expect(port.ready() == 3, "three are ready")?;
-        let is_there = is_reply(port.nth(0), 0, write_echo(64, 2), &[]);
-        expect(is_there, "the write")?;
-        let is_there = is_reply(port.nth(1), 1, read_echo(65, 2), &[0x5b, 0]);
-        expect(is_there, "what was written")?;
-        let is_there = is_reply(port.nth(2), 2, read_echo(0, 1), &[0]);
-        expect(is_there, "what was not")?;
-        expect(port.nth(3).is_none(), "the fourth is waited for")
+        submit(rt, port, Request::read(64, 1), 3)?;
+        let are_there = LooksAtReplies::are_ready(port, &[0, 1, 2]);
+        expect(are_there, "three are ready")
     }
 
     /// Gives up the oldest, and looks at what moves up.
@@ -314,16 +309,17 @@ impl LooksAtReplies {
         ensures { IsSamePort port.old port.new }
     {
         expect(port.release() == Some(0), "the write is given up")?;
-        expect(port.ready() == 2 && port.nth(2).is_none(), "two are left")?;
-        let is_there = is_reply(port.nth(1), 2, read_echo(0, 1), &[0]);
-        expect(is_there, "the third has moved up")?;
-        expect(
-            poll_in_time(rt, port, POLLS) == Some(3),
-            "the fourth is filled",
-        )?;
-        expect(port.ready() == 3, "three are ready again")?;
-        let is_there = is_reply(port.nth(2), 3, read_echo(64, 1), &[0x5a]);
-        expect(is_there, "the fourth is ready")?;
+        let are_there = LooksAtReplies::are_ready(port, &[1, 2]);
+        expect(are_there, "two have moved up")?;
+        fill(rt, port, 3)?;
+        let are_there = LooksAtReplies::are_ready(port, &[1, 2, 3]);
+        expect(are_there, "three are ready again")
+    }
+
+    /// Gives up the other three.
+    fn give_up(port: &mut Port) -> Result<(), &'static str>
+        ensures { IsSamePort port.old port.new }
+    {
         for number in 1..4 {
             expect(port.release() == Some(number), "each is given up")?;
         }
@@ -333,18 +329,17 @@ impl LooksAtReplies {
 
 impl Host for LooksAtReplies {
     fn begin<R: Wait>(&self, rt: &R, mut port: Port) -> Result<Port, &'static str> {
-        let write = port.submit(rt, Request::write(64, &[0x5a, 0x5b]));
-        expect(write == Ok(0), "the write is submitted")?;
-        let read = port.submit(rt, Request::read(65, 2));
-        expect(read == Ok(1), "the first read is submitted")?;
-        let read = port.submit(rt, Request::read(0, 1));
-        expect(read == Ok(2), "the second read is submitted")?;
+        let bytes = [0x5a, 0x5b];
+        submit(rt, &mut port, Request::write(64, &bytes), 0)?;
+        submit(rt, &mut port, Request::read(65, 2), 1)?;
+        submit(rt, &mut port, Request::read(0, 1), 2)?;
         Ok(port)
     }
 
     fn go_on<R: Wait>(&self, rt: &R, mut port: Port) -> Result<PortEnd, &'static str> {
         LooksAtReplies::look(rt, &mut port)?;
         LooksAtReplies::move_up(rt, &mut port)?;
+        LooksAtReplies::give_up(&mut port)?;
         finish_in_time(rt, port).ok_or("an end")
     }
 }
@@ -352,8 +347,7 @@ impl Host for LooksAtReplies {
 #[test]
 fn replies_are_looked_at_in_place(rt: HostRuntime) -> Result<(), Fail> {
     let config = Config::read(rt.alloc(), PROFILE_S)?;
-    let ends = run_system(&rt, rt.alloc(), &config, 7, &LooksAtReplies, &Silent)?;
-    let closed = close_in_order(&rt, rt.alloc(), 7, ends)?;
+    let closed = run_and_close(&rt, rt.alloc(), &config, &LooksAtReplies, &Silent)?;
     assert_eq!(rt; closed.taken.as_slice(), [4, 0].as_slice());
     Ok(())
 }

@@ -2,7 +2,6 @@
 ghost use Rattle.std.specs.Thread.{IsSync};
 
 use super::*;
-use ddr_ports::request::Request;
 
 /// Reads at an address, opens the gate once the reply came or the tries are spent, and finishes the port. Says whether
 /// the reply came, and gives the port's end.
@@ -37,6 +36,25 @@ fn host_both<R: Threads + Wait + Sync>(
     )
 }
 
+/// Runs two ports and two workers, each in a thread.
+fn run_threads<R: Threads + Wait + Sync>(
+    rt: &R,
+    gate: &Barred,
+    addr: u64,
+    parts: Parts,
+) -> (Hosted, Worked) {
+    let (first, second, first_worker, second_worker) = parts;
+    thread::join(
+        rt,
+        move || -> Hosted
+            requires { IsSync R.row }
+        { host_both(rt, gate, first, second, addr) },
+        move || -> Worked
+            requires { IsSync R.row }
+        { run_both(rt, gate, first_worker, second_worker) },
+    )
+}
+
 /// Whether port 0 gets the reply of a read at an address while the gate holds that channel up, and whether all came to
 /// their ends.
 fn passes<R: Threads + Wait + Sync>(
@@ -46,23 +64,12 @@ fn passes<R: Threads + Wait + Sync>(
     addr: u64,
 ) -> Result<(bool, bool), Fail> {
     let config = config_with(alloc, "intake ", "intake = 4")?;
-    let (first, second, first_worker, second_worker) = open_two(alloc, &config, 7)?;
+    let parts = open_two(alloc, &config, 7)?;
     let gate = Barred::new(channel);
-    let gate = &gate;
-    let (((came, first_end), second_end), (first_work, second_work)) = thread::join(
-        rt,
-        move || -> Hosted
-            requires { IsSync R.row }
-        { host_both(rt, gate, first, second, addr) },
-        move || -> Worked
-            requires { IsSync R.row }
-        { run_both(rt, gate, first_worker, second_worker) },
-    );
-    let have_ended = first_end.is_some()
-        && second_end.is_some()
-        && first_work.is_ok()
-        && second_work.is_ok();
-    Ok((came, have_ended))
+    match run_threads(rt, &gate, addr, parts) {
+        (((came, Some(_)), Some(_)), (Ok(_), Ok(_))) => Ok((came, true)),
+        (((came, _), _), _) => Ok((came, false)),
+    }
 }
 
 #[test]

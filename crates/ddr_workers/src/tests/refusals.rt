@@ -1,5 +1,5 @@
 //! Which ends `close` gives back, for which cause, and that it closes what was completed.
-ghost use Rattle.std.specs.Prelude.{◌≡◌, ◌∷◌, ◌++◌, [], IfOk};
+ghost use Rattle.std.specs.Prelude.{◌≡◌, ◌∷◌, ◌++◌, [], IfOk, IfSome};
 ghost use Rattle.ddr_workers.specs.Closing.{AreOfOneOpen};
 
 use super::*;
@@ -42,6 +42,7 @@ fn cause_of<R: Wait>(
 fn run_silent<R: Threads + Wait + Sync>(rt: &R, alloc: Global, id: u64) -> Result<AllEnds, Fail>
     ensures one { IfOk result (λ ends. AreOfOneOpen id (ends.0 ∷ ends.1 ∷ []) (ends.2 ∷ ends.3 ∷ [])) }
     ensures id { IfOk result (λ ends. (ends.0.id ≡ id) × (ends.1.id ≡ id)) }
+    ensures work_id { IfOk result (λ ends. (ends.2.id ≡ id) × (ends.3.id ≡ id)) }
 {
     let config = Config::read(alloc, PROFILE_S)?;
     run_system(rt, alloc, &config, id, &Silent, &Silent)
@@ -165,8 +166,65 @@ fn what_came_back_is_closed(rt: HostRuntime) -> Result<(), Fail> {
     let (first, second, first_work, second_work) = run_silent(&rt, alloc, 7)?;
     let back = close_without_first(&rt, alloc, second, first_work, second_work)?;
     let closed = close_with_first(&rt, alloc, first, back)?;
-    assert_eq!(rt; closed.accepted.as_slice(), [0, 0].as_slice());
-    assert_eq!(rt; closed.taken.as_slice(), [0, 0].as_slice());
+    assert!(rt; has_counts(&closed, &[0, 0]));
     assert_eq!(rt; closed.traces.len(), 2);
+    Ok(())
+}
+
+/// The four items of a list that has four, by two.
+fn four_of<T: Drop>(mut items: Vec<T>) -> Option<((T, T), (T, T))>
+    ensures { IfSome result (λ all. items.items ≡ all.0.0 ∷ all.0.1 ∷ all.1.0 ∷ all.1.1 ∷ []) }
+{
+    let fourth = items.pop()?;
+    let third = items.pop()?;
+    let (first, second) = two_of(items)?;
+    Some(((first, second), (third, fourth)))
+}
+
+/// Gives `close` all ends of system 7 together with those of system 8, all of which come back.
+fn close_both<R: Wait>(rt: &R, alloc: Global, own: AllEnds, other: AllEnds) -> Result<Ends, Fail>
+    requires own { AreOfOneOpen 7 (own.0 ∷ own.1 ∷ []) (own.2 ∷ own.3 ∷ []) }
+    requires id { (other.0.id ≡ 8) × (other.1.id ≡ 8) }
+    requires work_id { (other.2.id ≡ 8) × (other.3.id ≡ 8) }
+    ensures ports { IfOk result (λ back. back.ports.items ≡ own.0 ∷ own.1 ∷ other.0 ∷ other.1 ∷ []) }
+    ensures workers { IfOk result (λ back. back.workers.items ≡ own.2 ∷ own.3 ∷ other.2 ∷ other.3 ∷ []) }
+{
+    let ports = vec![in alloc; own.0, own.1, other.0, other.1]?;
+    let workers = vec![in alloc; own.2, own.3, other.2, other.3]?;
+    match close(rt, alloc, 7, ports, workers) {
+        Err(CloseError::Foreign(back)) => Ok(back),
+        _ => Err("foreign ends".into()),
+    }
+}
+
+/// The ends of two systems, of which those of the first come first.
+fn apart(ends: Ends) -> Result<(AllEnds, AllEnds), Fail>
+    ensures ports { IfOk result (λ both. ends.ports.items ≡ both.0.0 ∷ both.0.1 ∷ both.1.0 ∷ both.1.1 ∷ []) }
+    ensures workers { IfOk result (λ both. ends.workers.items ≡ both.0.2 ∷ both.0.3 ∷ both.1.2 ∷ both.1.3 ∷ []) }
+{
+    let Ends { ports, workers } = ends;
+    let Some(((first, second), (third, fourth))) = four_of(ports) else {
+        return Err("four ports".into());
+    };
+    let Some(((first_work, second_work), (third_work, fourth_work))) = four_of(workers) else {
+        return Err("four workers".into());
+    };
+    Ok((
+        (first, second, first_work, second_work),
+        (third, fourth, third_work, fourth_work),
+    ))
+}
+
+/// Each of two systems is closed by its own id once its ends are told apart.
+#[test]
+fn two_systems_are_foreign_together(rt: HostRuntime) -> Result<(), Fail> {
+    let alloc = rt.alloc();
+    let own = run_silent(&rt, alloc, 7)?;
+    let other = run_silent(&rt, alloc, 8)?;
+    let back = close_both(&rt, alloc, own, other)?;
+    let (first, second) = apart(back)?;
+    let closed = close_in_order(&rt, alloc, 7, first)?;
+    let other_closed = close_in_order(&rt, alloc, 8, second)?;
+    assert_eq!(rt; (closed.traces.len(), other_closed.traces.len()), (2, 2));
     Ok(())
 }

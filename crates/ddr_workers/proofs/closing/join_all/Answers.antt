@@ -68,6 +68,7 @@ returns g c =
     record {
       joined = emptied;
       got = λ p e there. c.headline.ensures.replies ports workers (λ p. []) emptied p e there;
+      work = λ k w there. (worker_ended k w there).work;
       accepted = copies ∙ c.gather_ports-port_sides.ensures.counts ∙ sym (counts_alike ports workers emptied);
       taken = c.gather_ports-port_sides.ensures.counts;
       same = copies;

@@ -1,6 +1,6 @@
 use Rattle.std.proofs.Common.{◌∷◌, []}
 use Rattle.ddr_workers.specs.Port.{IsEndOfPort}
-use Rattle.ddr_workers.proofs.tests.OneOpen.{end_of_same, ends_of_two, first_id, second_id}
+use Rattle.ddr_workers.proofs.tests.OneOpen.{end_of_same, ends_of_two, first_id, second_id, first_work_id, second_work_id}
 use Rattle.ddr_workers.proofs.tests.run_system.Goals as goal
 
 pub returns : goal.returns
@@ -23,5 +23,9 @@ returns g c =
       id = (
         first_id config id first second one two opened ends.0 ends.1 ends.2 ends.3 of_first of_second of_one of_two,
         second_id config id first second one two opened ends.0 ends.1 ends.2 ends.3 of_first of_second of_one of_two,
+      );
+      work_id = (
+        first_work_id config id first second one two opened ends.0 ends.1 ends.2 ends.3 of_first of_second of_one of_two,
+        second_work_id config id first second one two opened ends.0 ends.1 ends.2 ends.3 of_first of_second of_one of_two,
       );
     }

@@ -7,4 +7,4 @@ cause_of-requires g c =
     let all = c.in_ok-second in
     let ports : c.in_ok-ports.ports.items ≡ all.second ∷ [] = search rules in
     let workers : c.in_ok-workers.workers.items ≡ all.first_work ∷ all.second_work ∷ [] = search rules in
-    among 7 _ all.second all.first_work all.second_work all.ensures.one _ _ _ _ ports workers (λ own. inr refl, tt) (inl refl, (inr refl, tt))
+    among 7 _ all.second all.first_work all.second_work all.ensures.one _ _ _ _ ports workers (λ own. inr refl, tt) (λ own. inl refl, (λ own. inr refl, tt))

@@ -7,4 +7,4 @@ cause_of-requires g c =
     let all = c.in_ok-first in
     let ports : c.in_ok-ports.ports.items ≡ all.first ∷ all.second ∷ [] = search rules in
     let workers : c.in_ok-workers.workers.items ≡ all.second_work ∷ [] = search rules in
-    among 7 all.first all.second _ all.second_work all.ensures.one _ _ _ _ ports workers (λ own. inl refl, (λ own. inr refl, tt)) (inr refl, tt)
+    among 7 all.first all.second _ all.second_work all.ensures.one _ _ _ _ ports workers (λ own. inl refl, (λ own. inr refl, tt)) (λ own. inr refl, tt)

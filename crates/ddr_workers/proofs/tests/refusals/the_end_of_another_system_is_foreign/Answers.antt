@@ -9,4 +9,4 @@ cause_of-requires g c =
     let ports : c.in_ok-ports.ports.items ≡ all.first ∷ all.second ∷ other ∷ [] = search rules in
     let workers : c.in_ok-workers.workers.items ≡ all.first_work ∷ all.second_work ∷ [] = search rules in
     among 7 all.first all.second all.first_work all.second_work all.ensures.one _ _ _ _ ports workers
-    (λ own. inl refl, (λ own. inr refl, (λ own. absurd (of_another other c.in_ok-other.ensures.id.1 own), tt))) (inl refl, (inr refl, tt))
+    (λ own. inl refl, (λ own. inr refl, (λ own. absurd (of_another other.id c.in_ok-other.ensures.id.1 own), tt))) (λ own. inl refl, (λ own. inr refl, tt))
