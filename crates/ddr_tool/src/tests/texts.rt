@@ -69,12 +69,33 @@ fn faults_of_requests(rt: HostRuntime) -> Result<(), Fail> {
     Ok(())
 }
 
+/// That a fault of an input's line has this text, with the line's number behind it.
+fn is_told_of_line(
+    rt: &impl Abort,
+    alloc: Global,
+    fault: Fault,
+    text: &str,
+    line: u64,
+) -> Result<(), Fail> {
+    let whole = format!(in alloc; "{text} {line}")?;
+    is_told(rt, alloc, fault, whole.as_str(), 2)
+}
+
+#[test]
+fn faults_of_a_traces_records(rt: HostRuntime) -> Result<(), Fail> {
+    for (fault, text) in [
+        (Fault::TraceRow { line: 12 }, "trace Row"),
+        (Fault::TraceOrder { line: 12 }, "trace Order"),
+    ] {
+        is_told_of_line(&rt, rt.alloc(), fault, text, 12)?;
+    }
+    Ok(())
+}
+
 #[test]
 fn faults_of_a_trace(rt: HostRuntime) -> Result<(), Fail> {
     for (fault, text) in [
         (Fault::TraceHeader, "trace Header"),
-        (Fault::TraceRow { line: 12 }, "trace Row 12"),
-        (Fault::TraceOrder { line: 12 }, "trace Order 12"),
         (Fault::TraceTruncated, "trace Truncated"),
         (Fault::TraceTooLong, "trace TooLong"),
         (Fault::TraceNoSuch, "trace NoSuch"),
