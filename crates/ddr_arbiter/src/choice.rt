@@ -37,8 +37,8 @@ pub enum Choice {
 
 /// The choice of the cycle that comes next on the command bus: a refresh where one has to be made, else the
 /// column command of the oldest candidate whose command is legal, where there is room, else the ACT or PRE of the
-/// oldest that needs one (first ready, first come, first served: Rixner et al., Memory Access Scheduling, ISCA 2000; the drain
-/// of writes and the age cap are this project's choice).
+/// oldest that needs one (first ready, first come, first served: Rixner et al., Memory Access Scheduling, ISCA 2000;
+/// the drain of writes and the age cap are this project's choice).
 ///
 /// `drain` says whether writes are drained, and `room` whether one more request may be in flight or done.
 pub fn choose(
