@@ -1,13 +1,11 @@
 //! What is asked of the ends of ports and of workers before they are closed, and their order.
 //!
-//! Below stand `port` and `worker`, whose ends these are, and above stands `closing`.
+//! Nothing of the crate stands below. `port` and `worker`, whose ends these are, say by `Numbered` what is asked of one,
+//! and `closing` asks.
 ghost use Rattle.std.specs.Prelude.{◌≡◌, ℕ, ◌==◌, not, IsPermutation};
 ghost use Rattle.std.specs.List.{list_any};
 ghost use Rattle.std.specs.List.Sorted.{IsNonDecreasingBy};
 ghost use Rattle.ddr_workers.specs.Closing.{has_each, has_number, has_twice};
-
-use crate::port::PortEnd;
-use crate::worker::WorkerEnd;
 
 /// The end of a port or of a worker.
 pub trait Numbered {

@@ -3,7 +3,7 @@
 //! A queue has several put sides, which push, and one take side, which pops. Each has a pass of the queue, and
 //! a pass has a view: the lists that its side has put or taken so far. A view is plain data, and exists in
 //! proofs alone. The rule in `specs/Law.antt` ties all views to what the queue holds; `S` is what a queue was
-//! opened for, `T` what goes through it. Above stands `requests`.
+//! opened for, `T` what goes through it. Above stands `lane`.
 use std::collections::LinkedList;
 
 /// What a put side knows.

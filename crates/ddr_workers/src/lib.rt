@@ -10,8 +10,9 @@
 //! `gathered` sorts their sides by queue. What every port has got is then told by `headline`, a law over the lists that
 //! the sides carried.
 //!
-//! Below stand one port (`ddr_ports`), one channel (`ddr_channel`), the requests (`ddr_address_map`) and the configuration
-//! (`ddr_timing`). No call starts a thread: ports and workers are moved into threads of the caller.
+//! Below stand one port (`ddr_ports`), one channel (`ddr_channel`), the right replies to a list of requests as the core
+//! defines them (`ddr_world`), the requests (`ddr_address_map`) and the configuration (`ddr_timing`). Above stands the
+//! program's `run`. No call starts a thread: ports and workers are moved into threads of the caller.
 #![tactic(auto)]
 
 pub mod closing;
