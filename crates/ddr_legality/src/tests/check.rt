@@ -1,10 +1,7 @@
 //! The first fault of whole traces.
 ghost use Rattle.std.specs.Prelude.{◌<◌};
 
-use super::traces::{
-    act, five_banks, hits_first, oldest_first, pre, pre_all, rd, read_after_writes, refresh,
-    two_rows, wr, write_after_read,
-};
+use super::traces::{LEGAL, Step, entries_of};
 use crate::checker::first_fault;
 use ddr_timing::config::Config;
 use ddr_timing::profile::PROFILE_S;
@@ -15,86 +12,114 @@ use std::alloc::{AllocError, Global};
 use std::process::Abort;
 use std::test::Fail;
 
-fn legal(rt: &impl Abort, alloc: Global, entries: &[Entry], end: u64) -> Result<(), Fail> {
+fn fault_of(alloc: Global, entries: &[Entry], start: u64, end: u64) -> Result<Option<Fault>, Fail> {
     let config = Config::read(alloc, PROFILE_S)?;
-    let found = first_fault(alloc, entries, &config, 0, end)?;
-    assert_eq!(rt; found, None, "up to {end}");
-    Ok(())
+    Ok(first_fault(alloc, entries, &config, start, end)?)
 }
 
-fn faults(
+/// That this is the first fault of a trace, if it has one.
+fn finds(
     rt: &impl Abort,
     alloc: Global,
-    entries: &[Entry],
+    steps: &[Step],
+    start: u64,
     end: u64,
-    place: usize,
-    rule: Rule,
+    fault: Option<Fault>,
 ) -> Result<(), Fail> {
-    let config = Config::read(alloc, PROFILE_S)?;
-    let found = first_fault(alloc, entries, &config, 0, end)?;
-    assert_eq!(rt; found, Some(Fault { place, rule }), "{rule:?}");
+    let entries = entries_of(alloc, steps)?;
+    let found = fault_of(alloc, &entries, start, end)?;
+    assert_eq!(rt; found, fault, "{entries:?} up to {end}");
     Ok(())
 }
 
 #[test]
 fn legal_traces(rt: HostRuntime) -> Result<(), Fail> {
-    let alloc = rt.alloc();
-    legal(&rt, alloc, &two_rows(), 27)?;
-    legal(&rt, alloc, &five_banks(), 29)?;
-    legal(&rt, alloc, &hits_first(), 29)?;
-    legal(&rt, alloc, &oldest_first(), 41)?;
-    legal(&rt, alloc, &read_after_writes(), 29)?;
-    legal(&rt, alloc, &write_after_read(), 19)
+    for (steps, end, _) in LEGAL {
+        finds(&rt, rt.alloc(), steps, 0, *end, None)?;
+    }
+    Ok(())
+}
+
+/// Traces, each with its first cycle, the first one behind it, and its first fault: the place and the rule.
+const FAULTS: &[(&[Step], u64, u64, Option<(usize, Rule)>)] = &[
+    (
+        &[Step::Act(0, 0, 0, 0), Step::Refresh(0)],
+        0,
+        5,
+        Some((1, Rule::Order)),
+    ),
+    (&[Step::Refresh(5)], 0, 5, Some((0, Rule::Order))),
+    (
+        &[Step::Act(0, 0, 0, 0), Step::Act(2, 4, 0, 0)],
+        0,
+        100,
+        Some((1, Rule::Place)),
+    ),
+    (&[Step::Rd(0, 0, 0, 0)], 0, 1, Some((0, Rule::State))),
+    (
+        &[
+            Step::Act(0, 0, 0, 0),
+            Step::Rd(4, 0, 0, 1),
+            Step::Rd(5, 0, 0, 0),
+        ],
+        0,
+        100,
+        Some((1, Rule::Row)),
+    ),
+    (
+        &[
+            Step::Act(0, 0, 0, 0),
+            Step::Wr(4, 0, 0, 0),
+            Step::Rd(14, 0, 0, 0),
+        ],
+        0,
+        20,
+        Some((2, Rule::WtrL)),
+    ),
+    (
+        &[
+            Step::Act(0, 0, 0, 0),
+            Step::Act(2, 1, 0, 0),
+            Step::Act(4, 2, 0, 0),
+            Step::Act(6, 3, 0, 0),
+            Step::Act(11, 0, 1, 0),
+        ],
+        0,
+        30,
+        Some((4, Rule::Faw)),
+    ),
+    // refreshes alone
+    (&[], 0, 1800, None),
+    (&[], 0, 1801, Some((0, Rule::RefLate))),
+    (&[Step::Refresh(1800)], 0, 2000, None),
+    (&[Step::Refresh(1800)], 0, 2001, Some((1, Rule::RefLate))),
+    (&[Step::Refresh(1801)], 0, 1802, Some((0, Rule::RefLate))),
+    (
+        &[Step::Refresh(20), Step::Refresh(40), Step::Refresh(1840)],
+        0,
+        1842,
+        None,
+    ),
+    (
+        &[Step::Refresh(20), Step::Refresh(40), Step::Refresh(1841)],
+        0,
+        1842,
+        Some((2, Rule::RefGap)),
+    ),
+    (&[Step::Refresh(9)], 10, 20, Some((0, Rule::Order))),
+    (&[Step::Refresh(1810)], 10, 2010, None),
+];
+
+fn fault_at(at: Option<(usize, Rule)>) -> Option<Fault> {
+    let (place, rule) = at?;
+    Some(Fault { place, rule })
 }
 
 #[test]
-fn faults_of_commands(rt: HostRuntime) -> Result<(), Fail> {
-    let alloc = rt.alloc();
-    let twice = [act(0, 0, 0, 0), refresh(0)];
-    faults(&rt, alloc, &twice, 5, 1, Rule::Order)?;
-    faults(&rt, alloc, &[refresh(5)], 5, 0, Rule::Order)?;
-    let outside = [act(0, 0, 0, 0), act(2, 4, 0, 0)];
-    faults(&rt, alloc, &outside, 100, 1, Rule::Place)?;
-    faults(&rt, alloc, &[rd(0, 0, 0, 0)], 1, 0, Rule::State)?;
-    let other_row = [act(0, 0, 0, 0), rd(4, 0, 0, 1), rd(5, 0, 0, 0)];
-    faults(&rt, alloc, &other_row, 100, 1, Rule::Row)?;
-    let early = [act(0, 0, 0, 0), wr(4, 0, 0, 0), rd(14, 0, 0, 0)];
-    faults(&rt, alloc, &early, 20, 2, Rule::WtrL)?;
-    let fifth = [
-        act(0, 0, 0, 0),
-        act(2, 1, 0, 0),
-        act(4, 2, 0, 0),
-        act(6, 3, 0, 0),
-        act(11, 0, 1, 0),
-    ];
-    faults(&rt, alloc, &fifth, 30, 4, Rule::Faw)
-}
-
-#[test]
-fn faults_of_refresh(rt: HostRuntime) -> Result<(), Fail> {
-    let alloc = rt.alloc();
-    legal(&rt, alloc, &[], 1800)?;
-    faults(&rt, alloc, &[], 1801, 0, Rule::RefLate)?;
-    legal(&rt, alloc, &[refresh(1800)], 2000)?;
-    faults(&rt, alloc, &[refresh(1800)], 2001, 1, Rule::RefLate)?;
-    faults(&rt, alloc, &[refresh(1801)], 1802, 0, Rule::RefLate)?;
-    let kept = [refresh(20), refresh(40), refresh(1840)];
-    legal(&rt, alloc, &kept, 1842)?;
-    let gap = [refresh(20), refresh(40), refresh(1841)];
-    faults(&rt, alloc, &gap, 1842, 2, Rule::RefGap)
-}
-
-#[test]
-fn start_of_a_trace(rt: HostRuntime) -> Result<(), Fail> {
-    let config = Config::read(rt.alloc(), PROFILE_S)?;
-    let early = Fault {
-        place: 0,
-        rule: Rule::Order,
-    };
-    let found = first_fault(rt.alloc(), &[refresh(9)], &config, 10, 20)?;
-    assert_eq!(rt; found, Some(early));
-    let found = first_fault(rt.alloc(), &[refresh(1810)], &config, 10, 2010)?;
-    assert_eq!(rt; found, None);
+fn faults(rt: HostRuntime) -> Result<(), Fail> {
+    for (steps, start, end, at) in FAULTS {
+        finds(&rt, rt.alloc(), steps, *start, *end, fault_at(*at))?;
+    }
     Ok(())
 }
 
@@ -127,14 +152,15 @@ impl Chance {
         let group = self.below(2);
         let bank = self.below(2);
         let row = self.below(2);
-        match self.below(8) {
-            0 | 1 => act(cycle, group, bank, row),
-            2 | 3 => rd(cycle, group, bank, row),
-            4 => wr(cycle, group, bank, row),
-            5 => pre(cycle, group, bank),
-            6 => pre_all(cycle),
-            _ => refresh(cycle),
-        }
+        let step = match self.below(8) {
+            0 | 1 => Step::Act(cycle, group, bank, row),
+            2 | 3 => Step::Rd(cycle, group, bank, row),
+            4 => Step::Wr(cycle, group, bank, row),
+            5 => Step::Pre(cycle, group, bank),
+            6 => Step::PreAll(cycle),
+            _ => Step::Refresh(cycle),
+        };
+        step.entry()
     }
 
     /// A trace in which most commands are legal.
@@ -153,27 +179,57 @@ impl Chance {
     }
 }
 
+fn last_cycle(entries: &[Entry]) -> u64 {
+    match entries.last() {
+        Some(entry) => entry.cycle,
+        None => 0,
+    }
+}
+
+/// The rule broken first in a trace that looks like chance, in which the plain checker finds the same fault.
+fn rule_of(
+    rt: &impl Abort,
+    alloc: Global,
+    config: &Config,
+    chance: &mut Chance,
+    turn: u32,
+) -> Result<Option<Rule>, Fail> {
+    let entries = chance.trace(alloc, config)?;
+    let end = last_cycle(&entries).saturating_add(chance.gap());
+    let found = first_fault(alloc, &entries, config, 0, end)?;
+    let plain = checker::first_fault(&entries, config, 0, end);
+    assert_eq!(rt; found, plain, "trace {turn}");
+    Ok(rule_in(found))
+}
+
+fn rule_in(found: Option<Fault>) -> Option<Rule> {
+    let fault = found?;
+    Some(fault.rule)
+}
+
+/// The rules broken first in 400 such traces.
+fn rules_of_400(rt: &impl Abort, alloc: Global) -> Result<Vec<Option<Rule>>, Fail> {
+    let config = Config::read(alloc, PROFILE_S)?;
+    let mut chance = Chance(1);
+    let mut rules = Vec::new(alloc);
+    for turn in 0..400 {
+        rules.push(rule_of(rt, alloc, &config, &mut chance, turn)?)?;
+    }
+    Ok(rules)
+}
+
+const MET: &[Option<Rule>] = &[
+    None,
+    Some(Rule::State),
+    Some(Rule::RefLate),
+    Some(Rule::RefGap),
+];
+
 #[test]
 fn as_the_plain_checker(rt: HostRuntime) -> Result<(), Fail> {
-    let config = Config::read(rt.alloc(), PROFILE_S)?;
-    let mut chance = Chance(1);
-    let mut rules = Vec::new(rt.alloc());
-    for turn in 0..400 {
-        let entries = chance.trace(rt.alloc(), &config)?;
-        let last = entries.last().map_or(0, |e| e.cycle);
-        let end = last.saturating_add(chance.gap());
-        let found = first_fault(rt.alloc(), &entries, &config, 0, end)?;
-        let plain = checker::first_fault(&entries, &config, 0, end);
-        assert_eq!(rt; found, plain, "trace {turn}");
-        rules.push(found.map(|f| f.rule))?;
-    }
-    for rule in [
-        None,
-        Some(Rule::State),
-        Some(Rule::RefLate),
-        Some(Rule::RefGap),
-    ] {
-        assert!(rt; rules.contains(&rule), "{rule:?}");
+    let rules = rules_of_400(&rt, rt.alloc())?;
+    for rule in MET {
+        assert!(rt; rules.contains(rule), "{rule:?}");
     }
     Ok(())
 }

@@ -1,122 +1,147 @@
 //! Entries of rank 0, and whole traces of them: legal ones, of which each command comes in the first cycle that the
 //! rules leave to it.
 use ddr_trace::command::{Command, Entry};
+use std::alloc::{AllocError, Global};
 
-pub fn act(cycle: u64, group: u32, bank: u32, row: u32) -> Entry {
-    let command = Command::Act {
-        rank: 0,
-        group,
-        bank,
-        row,
-    };
-    Entry { cycle, command }
+/// A command of rank 0, with its cycle and then the group, the bank and the row that it names. The line is 0.
+#[derive(Clone, Copy)]
+pub enum Step {
+    Act(u64, u32, u32, u32),
+    Rd(u64, u32, u32, u32),
+    Wr(u64, u32, u32, u32),
+    Pre(u64, u32, u32),
+    PreAll(u64),
+    Refresh(u64),
 }
 
-pub fn rd(cycle: u64, group: u32, bank: u32, row: u32) -> Entry {
-    let command = Command::Rd {
-        rank: 0,
-        group,
-        bank,
-        row,
-        line: 0,
-    };
-    Entry { cycle, command }
+impl Step {
+    pub fn cycle(self) -> u64 {
+        match self {
+            Step::Act(cycle, ..)
+            | Step::Rd(cycle, ..)
+            | Step::Wr(cycle, ..)
+            | Step::Pre(cycle, ..)
+            | Step::PreAll(cycle)
+            | Step::Refresh(cycle) => cycle,
+        }
+    }
+
+    pub fn command(self) -> Command {
+        let (rank, line) = (0, 0);
+        match self {
+            Step::Act(_, group, bank, row) => Command::Act {
+                rank,
+                group,
+                bank,
+                row,
+            },
+            Step::Rd(_, group, bank, row) => Command::Rd {
+                rank,
+                group,
+                bank,
+                row,
+                line,
+            },
+            Step::Wr(_, group, bank, row) => Command::Wr {
+                rank,
+                group,
+                bank,
+                row,
+                line,
+            },
+            Step::Pre(_, group, bank) => Command::Pre { rank, group, bank },
+            Step::PreAll(_) => Command::PreAll { rank },
+            Step::Refresh(_) => Command::Refresh { rank },
+        }
+    }
+
+    pub fn entry(self) -> Entry {
+        Entry {
+            cycle: self.cycle(),
+            command: self.command(),
+        }
+    }
 }
 
-pub fn wr(cycle: u64, group: u32, bank: u32, row: u32) -> Entry {
-    let command = Command::Wr {
-        rank: 0,
-        group,
-        bank,
-        row,
-        line: 0,
-    };
-    Entry { cycle, command }
-}
-
-pub fn pre(cycle: u64, group: u32, bank: u32) -> Entry {
-    let command = Command::Pre {
-        rank: 0,
-        group,
-        bank,
-    };
-    Entry { cycle, command }
-}
-
-pub fn pre_all(cycle: u64) -> Entry {
-    let command = Command::PreAll { rank: 0 };
-    Entry { cycle, command }
-}
-
-pub fn refresh(cycle: u64) -> Entry {
-    let command = Command::Refresh { rank: 0 };
-    Entry { cycle, command }
+/// The entries of these steps, in order.
+pub fn entries_of(alloc: Global, steps: &[Step]) -> Result<Vec<Entry>, AllocError> {
+    let mut entries = Vec::new(alloc);
+    for step in steps {
+        entries.push(step.entry())?;
+    }
+    Ok(entries)
 }
 
 /// Two rows of a bank, one after the other: RCD, RAS, RP with RC, RCD.
-pub fn two_rows() -> [Entry; 5] {
-    [
-        act(0, 0, 0, 0),
-        rd(4, 0, 0, 0),
-        pre(10, 0, 0),
-        act(14, 0, 0, 1),
-        rd(18, 0, 0, 1),
-    ]
-}
+const TWO_ROWS: &[Step] = &[
+    Step::Act(0, 0, 0, 0),
+    Step::Rd(4, 0, 0, 0),
+    Step::Pre(10, 0, 0),
+    Step::Act(14, 0, 0, 1),
+    Step::Rd(18, 0, 0, 1),
+];
 
 /// Five banks read, of which the fifth is in the first one's group. Its ACT leaves the bus to a read at 12.
-pub fn five_banks() -> [Entry; 10] {
-    [
-        act(0, 0, 0, 0),
-        act(2, 1, 0, 0),
-        rd(4, 0, 0, 0),
-        act(5, 2, 0, 0),
-        act(7, 3, 0, 0),
-        rd(8, 1, 0, 0),
-        rd(12, 2, 0, 0),
-        act(13, 0, 1, 0),
-        rd(16, 3, 0, 0),
-        rd(20, 0, 1, 0),
-    ]
-}
+const FIVE_BANKS: &[Step] = &[
+    Step::Act(0, 0, 0, 0),
+    Step::Act(2, 1, 0, 0),
+    Step::Rd(4, 0, 0, 0),
+    Step::Act(5, 2, 0, 0),
+    Step::Act(7, 3, 0, 0),
+    Step::Rd(8, 1, 0, 0),
+    Step::Rd(12, 2, 0, 0),
+    Step::Act(13, 0, 1, 0),
+    Step::Rd(16, 3, 0, 0),
+    Step::Rd(20, 0, 1, 0),
+];
 
 /// Two reads of the open row before a row of the same bank.
-pub fn hits_first() -> [Entry; 6] {
-    [
-        act(0, 0, 0, 0),
-        rd(4, 0, 0, 0),
-        rd(9, 0, 0, 0),
-        pre(12, 0, 0),
-        act(16, 0, 0, 1),
-        rd(20, 0, 0, 1),
-    ]
-}
+const HITS_FIRST: &[Step] = &[
+    Step::Act(0, 0, 0, 0),
+    Step::Rd(4, 0, 0, 0),
+    Step::Rd(9, 0, 0, 0),
+    Step::Pre(12, 0, 0),
+    Step::Act(16, 0, 0, 1),
+    Step::Rd(20, 0, 0, 1),
+];
 
 /// Two rows of a bank, and the first one again.
-pub fn oldest_first() -> [Entry; 8] {
-    [
-        act(0, 0, 0, 0),
-        rd(4, 0, 0, 0),
-        pre(10, 0, 0),
-        act(14, 0, 0, 1),
-        rd(18, 0, 0, 1),
-        pre(24, 0, 0),
-        act(28, 0, 0, 0),
-        rd(32, 0, 0, 0),
-    ]
-}
+const OLDEST_FIRST: &[Step] = &[
+    Step::Act(0, 0, 0, 0),
+    Step::Rd(4, 0, 0, 0),
+    Step::Pre(10, 0, 0),
+    Step::Act(14, 0, 0, 1),
+    Step::Rd(18, 0, 0, 1),
+    Step::Pre(24, 0, 0),
+    Step::Act(28, 0, 0, 0),
+    Step::Rd(32, 0, 0, 0),
+];
 
 /// Two writes and a read of a row: CCD_L, and WTR_L behind the last write's data.
-pub fn read_after_writes() -> [Entry; 4] {
-    [
-        act(0, 0, 0, 0),
-        wr(4, 0, 0, 0),
-        wr(9, 0, 0, 0),
-        rd(20, 0, 0, 0),
-    ]
-}
+const READ_AFTER_WRITES: &[Step] = &[
+    Step::Act(0, 0, 0, 0),
+    Step::Wr(4, 0, 0, 0),
+    Step::Wr(9, 0, 0, 0),
+    Step::Rd(20, 0, 0, 0),
+];
 
 /// A write behind a read of the row: RTW.
-pub fn write_after_read() -> [Entry; 3] {
-    [act(0, 0, 0, 0), rd(4, 0, 0, 0), wr(11, 0, 0, 0)]
-}
+const WRITE_AFTER_READ: &[Step] = &[
+    Step::Act(0, 0, 0, 0),
+    Step::Rd(4, 0, 0, 0),
+    Step::Wr(11, 0, 0, 0),
+];
+
+const ONE: &[(u32, u32)] = &[(0, 0)];
+
+const FIVE: &[(u32, u32)] = &[(0, 0), (1, 0), (2, 0), (3, 0), (0, 1)];
+
+/// Legal traces, each with the first cycle behind it and the banks that it names, group and bank.
+pub const LEGAL: &[(&[Step], u64, &[(u32, u32)])] = &[
+    (TWO_ROWS, 27, ONE),
+    (FIVE_BANKS, 29, FIVE),
+    (HITS_FIRST, 29, ONE),
+    (OLDEST_FIRST, 41, ONE),
+    (READ_AFTER_WRITES, 29, ONE),
+    (WRITE_AFTER_READ, 19, ONE),
+];

@@ -4,284 +4,386 @@ ghost use Rattle.std.specs.Prelude.{◌≡◌, IfOk};
 use crate::rank::Rank;
 use ddr_timing::config::Config;
 use ddr_timing::profile::PROFILE_S;
-use ddr_trace::command::{Command, Entry};
+use ddr_trace::command::Command;
 use ddr_trace::rule::Rule;
+use std::alloc::Global;
 use std::process::Abort;
 use std::test::Fail;
 
-fn act(group: u32, bank: u32, row: u32) -> Command {
-    Command::Act {
-        rank: 0,
-        group,
-        bank,
-        row,
+/// A command of the rank, with its cycle and then the group, the bank and the row that it names. The line is 0.
+#[derive(Clone, Copy)]
+enum Step {
+    Act(u64, u32, u32, u32),
+    Rd(u64, u32, u32, u32),
+    Wr(u64, u32, u32, u32),
+    Pre(u64, u32, u32),
+    PreAll(u64),
+    Refresh(u64),
+}
+
+impl Step {
+    fn cycle(self) -> u64 {
+        match self {
+            Step::Act(cycle, ..)
+            | Step::Rd(cycle, ..)
+            | Step::Wr(cycle, ..)
+            | Step::Pre(cycle, ..)
+            | Step::PreAll(cycle)
+            | Step::Refresh(cycle) => cycle,
+        }
+    }
+
+    fn command(self) -> Command {
+        let (rank, line) = (0, 0);
+        match self {
+            Step::Act(_, group, bank, row) => Command::Act {
+                rank,
+                group,
+                bank,
+                row,
+            },
+            Step::Rd(_, group, bank, row) => Command::Rd {
+                rank,
+                group,
+                bank,
+                row,
+                line,
+            },
+            Step::Wr(_, group, bank, row) => Command::Wr {
+                rank,
+                group,
+                bank,
+                row,
+                line,
+            },
+            Step::Pre(_, group, bank) => Command::Pre { rank, group, bank },
+            Step::PreAll(_) => Command::PreAll { rank },
+            Step::Refresh(_) => Command::Refresh { rank },
+        }
     }
 }
 
-fn rd(group: u32, bank: u32, row: u32) -> Command {
-    Command::Rd {
-        rank: 0,
-        group,
-        bank,
-        row,
-        line: 0,
-    }
+/// Issues a command of the geometry, which the rank allows.
+fn issue(rt: &impl Abort, config: &Config, rank: &mut Rank, step: Step) -> Result<(), Fail>
+    requires { rank.old.config ≡ config.now }
+    ensures { rank.new.config ≡ config.now }
+{
+    let cycle = step.cycle();
+    let command = step.command();
+    assert!(rt; command.is_in(&config.geometry));
+    assert_eq!(rt; rank.fault(cycle, command), None, "at {cycle}");
+    rank.reserve()?;
+    rank.issue(cycle, command);
+    Ok(())
 }
-
-fn wr(group: u32, bank: u32, row: u32) -> Command {
-    Command::Wr {
-        rank: 0,
-        group,
-        bank,
-        row,
-        line: 0,
-    }
-}
-
-fn pre(group: u32, bank: u32) -> Command {
-    Command::Pre {
-        rank: 0,
-        group,
-        bank,
-    }
-}
-
-const PREA: Command = Command::PreAll { rank: 0 };
-
-const REF: Command = Command::Refresh { rank: 0 };
 
 /// A rank to which these commands were issued, each of which it allowed.
-fn issued<R: Abort + AllocGlobal>(
-    rt: &R,
-    config: &Config,
-    commands: &[(u64, Command)],
-) -> Result<Rank, Fail>
+fn issued(rt: &impl Abort, alloc: Global, config: &Config, steps: &[Step]) -> Result<Rank, Fail>
     ensures { IfOk result (λ r. r.config ≡ config.now) }
 {
-    let mut rank = Rank::open(rt.alloc(), config)?;
-    for (cycle, command) in commands {
-        assert!(rt; command.is_in(&config.geometry));
-        assert_eq!(rt; rank.fault(*cycle, *command), None, "at {cycle}");
-        rank.reserve()?;
-        rank.issue(*cycle, *command);
+    let mut rank = Rank::open(alloc, config)?;
+    for step in steps {
+        issue(rt, config, &mut rank, *step)?;
     }
     Ok(rank)
 }
 
-/// What the rank says of a command of the geometry.
-fn told(rt: &impl Abort, config: &Config, rank: &Rank, next: (u64, Command)) -> Option<Rule>
+/// That the rank says so of a command of the geometry.
+fn tells(
+    rt: &impl Abort,
+    config: &Config,
+    rank: &Rank,
+    cycle: u64,
+    command: Command,
+    rule: Option<Rule>,
+)
     requires { rank.now.config ≡ config.now }
 {
-    let (cycle, command) = next;
     assert!(rt; command.is_in(&config.geometry));
     let fault = rank.fault(cycle, command);
+    assert_eq!(rt; fault, rule, "{command:?} at {cycle}");
     assert_eq!(rt; rank.may(cycle, command), fault.is_none(), "at {cycle}");
-    fault
 }
 
-/// After these commands the next one breaks the rule until just before its cycle, and none from then on.
-fn bound<R: Abort + AllocGlobal>(
-    rt: &R,
-    config: &Config,
-    commands: &[(u64, Command)],
-    (cycle, command): (u64, Command),
-    rule: Rule,
-) -> Result<(), Fail> {
-    let rank = issued(rt, config, commands)?;
+/// Commands, the next one with its cycle, and the rule that it breaks until just before that cycle. From then on it
+/// breaks none.
+type Bound = (&'static [Step], Step, Rule);
+
+fn bound(rt: &impl Abort, config: &Config, rank: &Rank, next: Step, rule: Rule)
+    requires { rank.now.config ≡ config.now }
+{
+    let cycle = next.cycle();
+    let command = next.command();
     assert!(rt; 0 < cycle);
-    let before = told(rt, config, &rank, (cycle - 1, command));
-    assert_eq!(rt; before, Some(rule), "before {cycle}");
-    let then = told(rt, config, &rank, (cycle, command));
-    assert_eq!(rt; then, None, "at {cycle}");
+    tells(rt, config, rank, cycle - 1, command, Some(rule));
+    tells(rt, config, rank, cycle, command, None);
+}
+
+fn bounds(rt: &impl Abort, alloc: Global, config: &Config, cases: &[Bound]) -> Result<(), Fail> {
+    for (steps, next, rule) in cases {
+        let rank = issued(rt, alloc, config, steps)?;
+        bound(rt, config, &rank, *next, *rule);
+    }
     Ok(())
 }
+
+const READ: &[Step] = &[Step::Act(0, 0, 0, 0), Step::Rd(4, 0, 0, 0)];
+
+const CLOSED: &[Step] = &[
+    Step::Act(0, 0, 0, 0),
+    Step::Rd(4, 0, 0, 0),
+    Step::Pre(10, 0, 0),
+];
+
+const OPENED_AGAIN: &[Step] = &[
+    Step::Act(0, 0, 0, 0),
+    Step::Rd(4, 0, 0, 0),
+    Step::Pre(10, 0, 0),
+    Step::Act(14, 0, 0, 1),
+];
+
+const READ_AGAIN: &[Step] = &[
+    Step::Act(0, 0, 0, 0),
+    Step::Rd(4, 0, 0, 0),
+    Step::Pre(10, 0, 0),
+    Step::Act(14, 0, 0, 1),
+    Step::Rd(18, 0, 0, 1),
+];
+
+const TWO_ROWS: &[Bound] = &[
+    (OPENED, Step::Rd(4, 0, 0, 0), Rule::Rcd),
+    (READ, Step::Pre(10, 0, 0), Rule::Ras),
+    (CLOSED, Step::Act(14, 0, 0, 1), Rule::Rc),
+    (OPENED_AGAIN, Step::Rd(18, 0, 0, 1), Rule::Rcd),
+];
 
 #[test]
 fn reads_of_two_rows_of_a_bank(rt: HostRuntime) -> Result<(), Fail> {
     let config = Config::read(rt.alloc(), PROFILE_S)?;
-    let trace = [
-        (0, act(0, 0, 0)),
-        (4, rd(0, 0, 0)),
-        (10, pre(0, 0)),
-        (14, act(0, 0, 1)),
-        (18, rd(0, 0, 1)),
-    ];
-    bound(&rt, &config, &trace[..1], trace[1], Rule::Rcd)?;
-    bound(&rt, &config, &trace[..2], trace[2], Rule::Ras)?;
-    bound(&rt, &config, &trace[..3], trace[3], Rule::Rc)?;
-    bound(&rt, &config, &trace[..4], trace[4], Rule::Rcd)?;
-    let rank = issued(&rt, &config, &trace)?;
-    assert_eq!(rt; rank.open_row(0, 0), Some(1));
-    assert_eq!(rt; rank.open_row(0, 1), None);
-    assert_eq!(rt; rank.open_row(4, 0), None);
-    assert_eq!(rt; rank.open_row(0, 4), None);
-    let closed = issued(&rt, &config, &trace[..3])?;
-    assert_eq!(rt; closed.open_row(0, 0), None);
-    Ok(())
+    bounds(&rt, rt.alloc(), &config, TWO_ROWS)
 }
+
+const ACTIVATIONS: &[Bound] = &[
+    (
+        &[
+            Step::Act(0, 0, 0, 0),
+            Step::Act(2, 1, 0, 0),
+            Step::Act(4, 2, 0, 0),
+            Step::Act(6, 3, 0, 0),
+        ],
+        Step::Act(12, 0, 1, 0),
+        Rule::Faw,
+    ),
+    (
+        &[
+            Step::Act(0, 0, 0, 0),
+            Step::Act(2, 1, 0, 0),
+            Step::Act(5, 2, 0, 0),
+            Step::Act(7, 3, 0, 0),
+        ],
+        Step::Act(12, 0, 1, 0),
+        Rule::Faw,
+    ),
+    // The sixth is measured from the second.
+    (
+        &[
+            Step::Act(0, 0, 0, 0),
+            Step::Act(3, 1, 0, 0),
+            Step::Act(5, 2, 0, 0),
+            Step::Act(7, 3, 0, 0),
+            Step::Act(12, 0, 1, 0),
+        ],
+        Step::Act(15, 1, 1, 0),
+        Rule::Faw,
+    ),
+];
 
 #[test]
 fn five_activations(rt: HostRuntime) -> Result<(), Fail> {
     let config = Config::read(rt.alloc(), PROFILE_S)?;
-    let close = [
-        (0, act(0, 0, 0)),
-        (2, act(1, 0, 0)),
-        (4, act(2, 0, 0)),
-        (6, act(3, 0, 0)),
-    ];
-    bound(&rt, &config, &close, (12, act(0, 1, 0)), Rule::Faw)?;
-    let spread = [
-        (0, act(0, 0, 0)),
-        (2, act(1, 0, 0)),
-        (5, act(2, 0, 0)),
-        (7, act(3, 0, 0)),
-    ];
-    bound(&rt, &config, &spread, (12, act(0, 1, 0)), Rule::Faw)?;
-    // The sixth is measured from the second.
-    let later = [
-        (0, act(0, 0, 0)),
-        (3, act(1, 0, 0)),
-        (5, act(2, 0, 0)),
-        (7, act(3, 0, 0)),
-        (12, act(0, 1, 0)),
-    ];
-    bound(&rt, &config, &later, (15, act(1, 1, 0)), Rule::Faw)
+    bounds(&rt, rt.alloc(), &config, ACTIVATIONS)
 }
+
+const ACTIVE: &[Step] = &[Step::Act(0, 1, 2, 3)];
+
+const IDLE_AGAIN: &[Step] = &[Step::Act(0, 1, 2, 3), Step::PreAll(50)];
+
+/// Commands, the next one, and the rule that it breaks.
+const STATES: [(&[Step], Step, Option<Rule>); 8] = [
+    (&[], Step::Rd(0, 0, 0, 0), Some(Rule::State)),
+    (&[], Step::Refresh(0), None),
+    (ACTIVE, Step::Act(50, 1, 2, 4), Some(Rule::State)),
+    (ACTIVE, Step::Wr(50, 0, 2, 3), Some(Rule::State)),
+    (ACTIVE, Step::Rd(50, 1, 2, 4), Some(Rule::Row)),
+    (ACTIVE, Step::Refresh(50), Some(Rule::State)),
+    (IDLE_AGAIN, Step::Wr(60, 1, 2, 3), Some(Rule::State)),
+    (IDLE_AGAIN, Step::Refresh(60), None),
+];
 
 #[test]
 fn state_and_row(rt: HostRuntime) -> Result<(), Fail> {
     let config = Config::read(rt.alloc(), PROFILE_S)?;
-    let state = Some(Rule::State);
-    let fresh = issued(&rt, &config, &[])?;
-    assert_eq!(rt; told(&rt, &config, &fresh, (0, rd(0, 0, 0))), state);
-    assert_eq!(rt; told(&rt, &config, &fresh, (0, REF)), None);
-    let active = issued(&rt, &config, &[(0, act(1, 2, 3))])?;
-    assert_eq!(rt; active.open_row(1, 2), Some(3));
-    assert_eq!(rt; told(&rt, &config, &active, (50, act(1, 2, 4))), state);
-    assert_eq!(rt; told(&rt, &config, &active, (50, wr(0, 2, 3))), state);
-    assert_eq!(rt;
-        told(&rt, &config, &active, (50, rd(1, 2, 4))),
-        Some(Rule::Row)
-    );
-    assert_eq!(rt; told(&rt, &config, &active, (50, REF)), state);
-    let closed = issued(&rt, &config, &[(0, act(1, 2, 3)), (50, PREA)])?;
-    assert_eq!(rt; closed.open_row(1, 2), None);
-    assert_eq!(rt; told(&rt, &config, &closed, (60, wr(1, 2, 3))), state);
-    assert_eq!(rt; told(&rt, &config, &closed, (60, REF)), None);
+    for (steps, next, rule) in STATES {
+        let rank = issued(&rt, rt.alloc(), &config, steps)?;
+        tells(&rt, &config, &rank, next.cycle(), next.command(), rule);
+    }
     Ok(())
 }
 
+/// Commands, the group and the bank that are asked for, and the open row.
+const ROWS: [(&[Step], u32, u32, Option<u32>); 7] = [
+    (READ_AGAIN, 0, 0, Some(1)),
+    (READ_AGAIN, 0, 1, None),
+    (READ_AGAIN, 4, 0, None),
+    (READ_AGAIN, 0, 4, None),
+    (CLOSED, 0, 0, None),
+    (ACTIVE, 1, 2, Some(3)),
+    (IDLE_AGAIN, 1, 2, None),
+];
+
+#[test]
+fn open_rows(rt: HostRuntime) -> Result<(), Fail> {
+    let config = Config::read(rt.alloc(), PROFILE_S)?;
+    for (steps, group, bank, row) in ROWS {
+        let rank = issued(&rt, rt.alloc(), &config, steps)?;
+        assert_eq!(rt; rank.open_row(group, bank), row, "of {group} and {bank}");
+    }
+    Ok(())
+}
+
+const OPENED: &[Step] = &[Step::Act(0, 0, 0, 0)];
+
+const READ_AT_8: &[Step] = &[Step::Act(0, 0, 0, 0), Step::Rd(8, 0, 0, 0)];
+
+const WRITTEN: &[Step] = &[Step::Act(0, 0, 0, 0), Step::Wr(4, 0, 0, 0)];
+
+const CLOSED_AT_10: &[Step] = &[Step::Act(0, 0, 0, 0), Step::Pre(10, 0, 0)];
+
+const CLOSED_AT_11: &[Step] = &[Step::Act(0, 0, 0, 0), Step::Pre(11, 0, 0)];
+
+const ALL_CLOSED: &[Step] = &[Step::PreAll(5)];
+
+const ONE_BANK: &[Bound] = &[
+    (OPENED, Step::Wr(4, 0, 0, 0), Rule::Rcd),
+    (OPENED, Step::PreAll(10), Rule::Ras),
+    (CLOSED_AT_11, Step::Act(15, 0, 0, 1), Rule::Rp),
+    (&[Step::Pre(5, 0, 0)], Step::Act(9, 0, 0, 0), Rule::Rp),
+    (ALL_CLOSED, Step::Act(9, 1, 1, 0), Rule::Rp),
+    (READ_AT_8, Step::Pre(11, 0, 0), Rule::Rtp),
+    (READ_AT_8, Step::PreAll(11), Rule::Rtp),
+    (WRITTEN, Step::Pre(16, 0, 0), Rule::Wr),
+    (WRITTEN, Step::PreAll(16), Rule::Wr),
+];
+
 #[test]
 fn distances_of_one_bank(rt: HostRuntime) -> Result<(), Fail> {
-    let mut config = Config::read(rt.alloc(), PROFILE_S)?;
-    let opened = (0, act(0, 0, 0));
-    bound(&rt, &config, &[opened], (4, wr(0, 0, 0)), Rule::Rcd)?;
-    bound(&rt, &config, &[opened], (10, PREA), Rule::Ras)?;
-    bound(
-        &rt,
-        &config,
-        &[opened, (11, pre(0, 0))],
-        (15, act(0, 0, 1)),
-        Rule::Rp,
-    )?;
-    bound(&rt, &config, &[(5, pre(0, 0))], (9, act(0, 0, 0)), Rule::Rp)?;
-    bound(&rt, &config, &[(5, PREA)], (9, act(1, 1, 0)), Rule::Rp)?;
-    bound(
-        &rt,
-        &config,
-        &[opened, (8, rd(0, 0, 0))],
-        (11, pre(0, 0)),
-        Rule::Rtp,
-    )?;
-    bound(
-        &rt,
-        &config,
-        &[opened, (8, rd(0, 0, 0))],
-        (11, PREA),
-        Rule::Rtp,
-    )?;
-    bound(
-        &rt,
-        &config,
-        &[opened, (4, wr(0, 0, 0))],
-        (16, pre(0, 0)),
-        Rule::Wr,
-    )?;
-    bound(
-        &rt,
-        &config,
-        &[opened, (4, wr(0, 0, 0))],
-        (16, PREA),
-        Rule::Wr,
-    )?;
-    // More, and less, than RAS + RP.
-    config.timing.rc = 20;
-    bound(
-        &rt,
-        &config,
-        &[opened, (10, pre(0, 0))],
-        (20, act(0, 0, 1)),
-        Rule::Rc,
-    )?;
-    config.timing.rc = 12;
-    bound(
-        &rt,
-        &config,
-        &[opened, (10, pre(0, 0))],
-        (14, act(0, 0, 1)),
-        Rule::Rp,
-    )
+    let config = Config::read(rt.alloc(), PROFILE_S)?;
+    bounds(&rt, rt.alloc(), &config, ONE_BANK)
 }
+
+/// RC of more, and of less, than RAS + RP.
+const CYCLES: [(u32, Bound); 2] = [
+    (20, (CLOSED_AT_10, Step::Act(20, 0, 0, 1), Rule::Rc)),
+    (12, (CLOSED_AT_10, Step::Act(14, 0, 0, 1), Rule::Rp)),
+];
+
+#[test]
+fn another_cycle_of_a_row(rt: HostRuntime) -> Result<(), Fail> {
+    let mut config = Config::read(rt.alloc(), PROFILE_S)?;
+    for (rc, case) in CYCLES {
+        config.timing.rc = rc;
+        bounds(&rt, rt.alloc(), &config, &[case])?;
+    }
+    Ok(())
+}
+
+const TWO_OPENED: &[Bound] = &[
+    (OPENED, Step::Act(3, 0, 1, 0), Rule::RrdL),
+    (OPENED, Step::Act(2, 1, 0, 0), Rule::RrdS),
+];
+
+const AGAIN: &[Step] = &[
+    Step::Act(0, 0, 0, 0),
+    Step::Pre(10, 0, 0),
+    Step::Act(14, 0, 0, 1),
+];
+
+/// With RRD_L of 30 and RRD_S of 20. An ACT of the same bank is not counted: ACT 0, PRE 10, ACT 14.
+const FAR_APART: &[Bound] = &[
+    (CLOSED_AT_10, Step::Act(14, 0, 0, 1), Rule::Rc),
+    (AGAIN, Step::Act(34, 1, 0, 0), Rule::RrdS),
+    (AGAIN, Step::Act(44, 0, 1, 0), Rule::RrdL),
+];
 
 #[test]
 fn distances_of_activations(rt: HostRuntime) -> Result<(), Fail> {
     let mut config = Config::read(rt.alloc(), PROFILE_S)?;
-    let opened = (0, act(0, 0, 0));
-    bound(&rt, &config, &[opened], (3, act(0, 1, 0)), Rule::RrdL)?;
-    bound(&rt, &config, &[opened], (2, act(1, 0, 0)), Rule::RrdS)?;
-    // An ACT of the same bank is not counted: ACT 0, PRE 10, ACT 14.
+    bounds(&rt, rt.alloc(), &config, TWO_OPENED)?;
     assert_eq!(rt; config.timing.rrd_s, 2);
     config.timing.rrd_l = 30;
     config.timing.rrd_s = 20;
-    let again = [opened, (10, pre(0, 0)), (14, act(0, 0, 1))];
-    bound(&rt, &config, &again[..2], again[2], Rule::Rc)?;
-    bound(&rt, &config, &again, (34, act(1, 0, 0)), Rule::RrdS)?;
-    bound(&rt, &config, &again, (44, act(0, 1, 0)), Rule::RrdL)
+    bounds(&rt, rt.alloc(), &config, FAR_APART)
 }
+
+/// Three banks open: the first one is read.
+const ONE_READ: &[Step] = &[
+    Step::Act(0, 0, 0, 0),
+    Step::Act(3, 0, 1, 0),
+    Step::Act(5, 1, 0, 0),
+    Step::Rd(9, 0, 0, 0),
+];
+
+/// Three banks open: the first one is written.
+const ONE_WRITTEN: &[Step] = &[
+    Step::Act(0, 0, 0, 0),
+    Step::Act(3, 0, 1, 0),
+    Step::Act(5, 1, 0, 0),
+    Step::Wr(9, 0, 0, 0),
+];
+
+const COLUMNS: &[Bound] = &[
+    (ONE_READ, Step::Rd(14, 0, 1, 0), Rule::CcdL),
+    (ONE_READ, Step::Rd(13, 1, 0, 0), Rule::CcdS),
+    (ONE_READ, Step::Wr(16, 0, 0, 0), Rule::Rtw),
+    (ONE_READ, Step::Wr(16, 1, 0, 0), Rule::Rtw),
+    (ONE_WRITTEN, Step::Wr(14, 0, 1, 0), Rule::CcdL),
+    (ONE_WRITTEN, Step::Wr(13, 1, 0, 0), Rule::CcdS),
+    (ONE_WRITTEN, Step::Rd(20, 0, 1, 0), Rule::WtrL),
+    (ONE_WRITTEN, Step::Rd(18, 1, 0, 0), Rule::WtrS),
+];
+
+/// With WTR_L of 1 and WTR_S of 6: the own group sooner than the others.
+const OWN_GROUP_SOONER: &[Bound] = &[
+    (ONE_WRITTEN, Step::Rd(17, 0, 0, 0), Rule::WtrL),
+    (ONE_WRITTEN, Step::Rd(22, 1, 0, 0), Rule::WtrS),
+];
 
 #[test]
 fn distances_of_columns(rt: HostRuntime) -> Result<(), Fail> {
     let mut config = Config::read(rt.alloc(), PROFILE_S)?;
-    let (first, other_bank, other_group) = (
-        (0, act(0, 0, 0)),
-        (3, act(0, 1, 0)),
-        (5, act(1, 0, 0)),
-    );
-    let read = [first, other_bank, other_group, (9, rd(0, 0, 0))];
-    bound(&rt, &config, &read, (14, rd(0, 1, 0)), Rule::CcdL)?;
-    bound(&rt, &config, &read, (13, rd(1, 0, 0)), Rule::CcdS)?;
-    bound(&rt, &config, &read, (16, wr(0, 0, 0)), Rule::Rtw)?;
-    bound(&rt, &config, &read, (16, wr(1, 0, 0)), Rule::Rtw)?;
-    let write = [first, other_bank, other_group, (9, wr(0, 0, 0))];
-    bound(&rt, &config, &write, (14, wr(0, 1, 0)), Rule::CcdL)?;
-    bound(&rt, &config, &write, (13, wr(1, 0, 0)), Rule::CcdS)?;
-    bound(&rt, &config, &write, (20, rd(0, 1, 0)), Rule::WtrL)?;
-    bound(&rt, &config, &write, (18, rd(1, 0, 0)), Rule::WtrS)?;
-    // The own group sooner than the others.
+    bounds(&rt, rt.alloc(), &config, COLUMNS)?;
     config.timing.wtr_l = 1;
     config.timing.wtr_s = 6;
-    bound(&rt, &config, &write, (17, rd(0, 0, 0)), Rule::WtrL)?;
-    bound(&rt, &config, &write, (22, rd(1, 0, 0)), Rule::WtrS)
+    bounds(&rt, rt.alloc(), &config, OWN_GROUP_SOONER)
 }
+
+const REFRESHED: &[Step] = &[Step::Refresh(5)];
+
+const REFRESHES: &[Bound] = &[
+    (
+        &[Step::Act(0, 1, 3, 0), Step::Pre(11, 1, 3)],
+        Step::Refresh(15),
+        Rule::RpRef,
+    ),
+    (ALL_CLOSED, Step::Refresh(9), Rule::RpRef),
+    (REFRESHED, Step::Act(25, 0, 0, 0), Rule::Rfc),
+    (REFRESHED, Step::Pre(25, 0, 0), Rule::Rfc),
+    (REFRESHED, Step::PreAll(25), Rule::Rfc),
+    (REFRESHED, Step::Refresh(25), Rule::Rfc),
+];
 
 #[test]
 fn distances_of_refresh(rt: HostRuntime) -> Result<(), Fail> {
     let config = Config::read(rt.alloc(), PROFILE_S)?;
-    let closed = [(0, act(1, 3, 0)), (11, pre(1, 3))];
-    bound(&rt, &config, &closed, (15, REF), Rule::RpRef)?;
-    bound(&rt, &config, &[(5, PREA)], (9, REF), Rule::RpRef)?;
-    bound(&rt, &config, &[(5, REF)], (25, act(0, 0, 0)), Rule::Rfc)?;
-    bound(&rt, &config, &[(5, REF)], (25, pre(0, 0)), Rule::Rfc)?;
-    bound(&rt, &config, &[(5, REF)], (25, PREA), Rule::Rfc)?;
-    bound(&rt, &config, &[(5, REF)], (25, REF), Rule::Rfc)
+    bounds(&rt, rt.alloc(), &config, REFRESHES)
 }
