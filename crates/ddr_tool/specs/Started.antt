@@ -3,8 +3,7 @@ use Rattle.std.specs.Prelude.{◌≡◌, ℕ, Bool, false, List, ◌++◌, map, 
 use Rattle.std.specs.Io.KnownBytes.{Appends}
 use Rattle.std.specs.Str.Lines.{lines}
 use Rattle.ddr_timing.specs.declared.config.Config.{Config}
-use Rattle.ddr_workers.specs.declared.closing.SystemClosed.{SystemClosed}
-use Rattle.ddr_workers.specs.Closing.{AreMatched, IsClosed}
+use Rattle.ddr_workers.specs.Closing.{AreMatched, IsClosed, Left}
 use Rattle.ddr_workers.specs.Open.{IsOpened as IsSystem}
 use Rattle.ddr_workers.specs.Port.{PortState}
 use Rattle.ddr_workers.specs.Worker.{WorkerState, WorkerEnded, IsEndOf}
@@ -73,10 +72,10 @@ pub record IsThreaded (config : Config) (instructions : List Instruction) (text 
   pub asked : AreMatched (IsHostedFrom instructions) ports hosted
   pub worked : List WorkerEnded
   pub ended : AreMatched IsEndOf workers worked
-  pub closed : SystemClosed
-  pub is_closed : IsClosed RUN (map (λ h. h.end) hosted) worked closed
+  pub left : Left
+  pub is_closed : IsClosed RUN (map (λ h. h.end) hosted) worked left
   pub verdicts : List ℕ
-  pub are_verdicts : AreVerdicts config 0 closed.traces.items verdicts legal
+  pub are_verdicts : AreVerdicts config 0 left.traces verdicts legal
   pub text_is : text ≡ texts_of hosted ++ verdicts
 
 -- what a run without a fault writes and answers

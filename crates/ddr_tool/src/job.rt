@@ -1,10 +1,10 @@
 //! What the command line asks for.
 //!
 //! `help` and `clap` stand below, and `main` above.
-ghost use Rattle.std.specs.Prelude.{◌≡◌, ◌≤◌, IfOk, IsTrue, None, Ok, false, length, map, true};
-ghost use Rattle.clap.specs.Words.{app_of, found_of, rows_of};
+ghost use Rattle.std.specs.Prelude.{◌≡◌, ◌≤◌, IfOk, IsTrue, None, Ok, codes, false, length, map, true};
+ghost use Rattle.clap.specs.Words.{app_of, found_of, rows_of, rule_of, with_rule, with_subcommand};
 ghost use Rattle.clap.specs.declared.Command.TheViews.{out-Command as settings_of};
-ghost use Rattle.ddr_tool.specs.Job.{Answers, AreTaken, channel_of, ddr_app, is_sample, is_subcommand, job_of, job_with, with_sample};
+ghost use Rattle.ddr_tool.specs.Job.{Answers, AreTaken, channel_of, ddr_app, is_sample, is_subcommand, job_of, job_with, name_alone, trace_rule, with_sample};
 
 use crate::help;
 use clap::{Arg, ArgAction, ArgMatches, Command, Error, value_parser};
@@ -82,36 +82,80 @@ fn channel_of(options: &ArgMatches<'_>) -> Option<u32>
     options.get_one::<u32>("trace")
 }
 
-/// The command line as `clap` reads it. It has no subcommand `help`: help is asked for by `--help`. Its texts say
-/// `ddr`, whatever the first word is.
+/// The command line as `clap` reads it: the program with its subcommands.
 fn command<'a>(alloc: Global) -> Result<Command<'a>, AllocError>
     ensures app { IfOk result (λ command. app_of command ≡ ddr_app) }
     ensures local { IfOk result (λ command. (settings_of command).has_globals ≡ false) }
 {
-    let trace = Arg::new(alloc, "trace")
-        .long("trace")
-        .value_name("CHANNEL")
-        .value_parser(value_parser!(u32))
-        .help("Writes the trace of this channel in place of the replies");
-    let sim = subcommand(alloc, "sim", "Runs a script of reads and writes", help::SIM)?.arg(trace)?;
-    let run = subcommand(
+    let sim = with_sim(alloc, program(alloc)?)?;
+    let run = with_one(
         alloc,
+        sim,
         "run",
         "Runs a script with a thread for each port and each channel",
         help::RUN,
     )?;
-    let check = subcommand(alloc, "check", "Checks a trace of commands", help::CHECK)?;
-    let map = subcommand(alloc, "map", "Says where addresses lie", help::MAP)?;
-    Command::new(alloc, "ddr")
-        .bin_name("ddr")?
-        .about("A model of a DDR4 memory controller")
-        .after_help(help::PROGRAM)
-        .subcommand_required(true)
-        .disable_help_subcommand(true)
-        .subcommand(sim)?
-        .subcommand(run)?
-        .subcommand(check)?
-        .subcommand(map)
+    let check = with_one(
+        alloc,
+        run,
+        "check",
+        "Checks a trace of commands",
+        help::CHECK,
+    )?;
+    with_one(alloc, check, "map", "Says where addresses lie", help::MAP)
+}
+
+/// The program before its subcommands, one of which has to follow. It has no subcommand `help`: help is asked for by
+/// `--help`. Its texts say `ddr`, whatever the first word is.
+fn program<'a>(alloc: Global) -> Result<Command<'a>, AllocError>
+    ensures app { IfOk result (λ command. app_of command ≡ name_alone) }
+    ensures local { IfOk result (λ command. (settings_of command).has_globals ≡ false) }
+{
+    let named = Command::new(alloc, "ddr").bin_name("ddr")?;
+    Ok(
+        named
+            .about("A model of a DDR4 memory controller")
+            .after_help(help::PROGRAM)
+            .subcommand_required(true)
+            .disable_help_subcommand(true),
+    )
+}
+
+/// The command with the subcommand that runs a script, which has the option `--trace` too.
+fn with_sim<'a>(alloc: Global, command: Command<'a>) -> Result<Command<'a>, AllocError>
+    requires local { (settings_of command).has_globals ≡ false }
+    ensures app { IfOk result (λ all. app_of all ≡ with_subcommand (app_of command.entry) (with_rule (with_sample (codes "sim")) trace_rule).top) }
+    ensures local { IfOk result (λ all. (settings_of all).has_globals ≡ false) }
+{
+    let sim = subcommand(alloc, "sim", "Runs a script of reads and writes", help::SIM)?;
+    command.subcommand(sim.arg(trace_option(alloc))?)
+}
+
+/// The command with one more subcommand.
+fn with_one<'a>(
+    alloc: Global,
+    command: Command<'a>,
+    name: &'a str,
+    about: &'a str,
+    after_help: &'a str,
+) -> Result<Command<'a>, AllocError>
+    requires local { (settings_of command).has_globals ≡ false }
+    ensures app { IfOk result (λ all. app_of all ≡ with_subcommand (app_of command.entry) (with_sample name.entry.now).top) }
+    ensures local { IfOk result (λ all. (settings_of all).has_globals ≡ false) }
+{
+    command.subcommand(subcommand(alloc, name, about, after_help)?)
+}
+
+/// The option `--trace C`.
+fn trace_option<'a>(alloc: Global) -> Arg<'a>
+    ensures rule { rule_of result ≡ trace_rule }
+    ensures local { result.global ≡ false }
+{
+    Arg::new(alloc, "trace")
+        .long("trace")
+        .value_name("CHANNEL")
+        .value_parser(value_parser!(u32))
+        .help("Writes the trace of this channel in place of the replies")
 }
 
 /// A subcommand with the flag `--sample`, and with what its help says first and last.

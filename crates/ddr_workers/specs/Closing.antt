@@ -2,10 +2,10 @@
 use Rattle.std.specs.Prelude.{◌≡◌, ℕ, ◌==◌, Bool, true, false, not, ◌||◌, List, [], ◌∷◌, length, map, filter, flat_map, Some, IsPermutation, slice_get}
 use Rattle.std.specs.List.{list_any, list_all, range_with_len}
 use Rattle.ddr_address_map.specs.Requests as records
+use Rattle.ddr_trace.specs.Traces.{Recorded}
 use Rattle.ddr_workers.specs.declared.closing.CloseError.{CloseError}
 use Rattle.ddr_workers.specs.declared.closing.CloseError.TheVariants.{Foreign, Missing, OutOfMemory}
 use Rattle.ddr_workers.specs.declared.closing.Ends.{Ends}
-use Rattle.ddr_workers.specs.declared.closing.SystemClosed.{SystemClosed}
 use Rattle.ddr_workers.specs.Headline.{AreJoined, GotAll, accepted_by}
 use Rattle.ddr_workers.specs.Port.{PortState, PortEnded, IsEndOfPort}
 use Rattle.ddr_workers.specs.Sides.{put_id}
@@ -95,8 +95,14 @@ IsNotClosed id ports workers (OutOfMemory ends) = (is_foreign id ports workers �
 abbrev pub accepted_of : List WorkerEnded → ℕ → List records.Request
 accepted_of workers p = flat_map (λ w. filter (λ r. r.port == p) (requests_of w.requests.took)) workers
 
+-- of each port how many of its requests were accepted and how many replies it gave up, and the trace of each channel
+pub record Left : Type 0 where
+  pub accepted : List ℕ
+  pub taken : List ℕ
+  pub traces : List Recorded
+
 -- What is given where every queue of ports and workers was joined, which stand in the order of their numbers
-pub record IsEmptied (ports : List PortEnded) (workers : List WorkerEnded) (closed : SystemClosed) : Type 0 where
+pub record IsEmptied (ports : List PortEnded) (workers : List WorkerEnded) (left : Left) : Type 0 where
   -- what each side took is what the opposite sides pushed, and nothing is left
   pub joined : AreJoined ports workers (λ p. [])
   -- each port got the right reply to each of its requests, once
@@ -104,13 +110,13 @@ pub record IsEmptied (ports : List PortEnded) (workers : List WorkerEnded) (clos
   -- each worker admitted, answered and traced rightly under the configuration of its channel: its trace is legal
   pub work : (c : ℕ) (w : WorkerEnded) → slice_get workers c ≡ Some w → IsWorkDone w.config w
   -- as many requests of each port were accepted as replies were given up
-  pub accepted : closed.accepted.items ≡ map (λ p. length (accepted_of workers p)) (range_with_len 0 (length ports))
-  pub taken : closed.taken.items ≡ map (λ e. e.taken) ports
-  pub same : closed.accepted.items ≡ closed.taken.items
-  pub traces : closed.traces.items ≡ map (λ w. w.trace) workers
+  pub accepted : left.accepted ≡ map (λ p. length (accepted_of workers p)) (range_with_len 0 (length ports))
+  pub taken : left.taken ≡ map (λ e. e.taken) ports
+  pub same : left.accepted ≡ left.taken
+  pub traces : left.traces ≡ map (λ w. w.trace) workers
 
 -- No end is refused, and every queue was joined
-pub record IsClosed (id : ℕ) (ports : List PortEnded) (workers : List WorkerEnded) (closed : SystemClosed) : Type 0 where
+pub record IsClosed (id : ℕ) (ports : List PortEnded) (workers : List WorkerEnded) (left : Left) : Type 0 where
   pub own : is_foreign id ports workers ≡ false
   pub whole : is_missing ports workers ≡ false
   -- the ends in the order of their numbers
@@ -118,4 +124,4 @@ pub record IsClosed (id : ℕ) (ports : List PortEnded) (workers : List WorkerEn
   pub by_channel : List WorkerEnded
   pub ports_are : IsPermutation ports by_port
   pub workers_are : IsPermutation workers by_channel
-  pub emptied : IsEmptied by_port by_channel closed
+  pub emptied : IsEmptied by_port by_channel left

@@ -23,6 +23,7 @@ use crate::worker::WorkerEnd;
 use crate::{completions, requests};
 use ddr_trace::trace::Trace;
 use std::alloc::{AllocError, Global};
+use std::marker::Model;
 use std::sync::Wait;
 
 /// The ends of a system, as they were handed to `close`.
@@ -43,13 +44,23 @@ pub enum CloseError {
     OutOfMemory(Ends),
 }
 
-/// What is left of a system that was closed: by port how many requests were accepted and how many replies were given up,
-/// and by channel the trace of its commands.
+/// What is left of a system that was closed. Contracts see three lists, as a `Left` of `specs/`.
 #[derive(Drop)]
 pub struct SystemClosed {
+    /// How many requests of each port were accepted.
     pub accepted: Vec<u64>,
+    /// How many replies each port gave up.
     pub taken: Vec<u64>,
+    /// The commands of each channel.
     pub traces: Vec<Trace>,
+}
+
+impl Model for SystemClosed {
+    ghost use Rattle.ddr_workers.specs.Closing.{Left};
+
+    ghost Value = { Left };
+
+    ghost view = { λ c. record { accepted = c.accepted.items; taken = c.taken.items; traces = c.traces.items } };
 }
 
 /// Room for all that closing takes apart.

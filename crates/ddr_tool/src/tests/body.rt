@@ -1,12 +1,14 @@
 //! Inputs taken apart at their mark.
+use super::input_of;
 use crate::body::{open, split};
 use crate::fault::Fault;
 use ddr_timing::key::Key;
-use ddr_timing::profile::PROFILE_S;
+use std::alloc::Global;
+use std::process::Abort;
 use std::test::Fail;
 
 /// Texts with the mark, and their two parts.
-const MARKED: [(&str, &str, &str); 11] = [
+const MARKED: &[(&str, &str, &str)] = &[
     ("a = 1\n---\nb\n", "a = 1\n", "b\n"),
     ("a = 1\r\n---\r\nb\r\n", "a = 1\r\n", "b\r\n"),
     ("a\r\n---\nb", "a\r\n", "b"),
@@ -27,7 +29,7 @@ const MARKED: [(&str, &str, &str); 11] = [
 ];
 
 /// Texts without it.
-const UNMARKED: [&str; 8] = [
+const UNMARKED: &[&str] = &[
     "",
     "\n",
     "a\n",
@@ -40,13 +42,10 @@ const UNMARKED: [&str; 8] = [
 ];
 
 #[test]
-fn first_marks(rt: HostRuntime) -> Result<(), Fail> {
+fn first_marks(rt: HostRuntime) {
     for (text, config, body) in MARKED {
-        let (before, behind) = split(text)?;
-        assert_eq!(rt; before, config, "{text:?}");
-        assert_eq!(rt; behind, body, "{text:?}");
+        assert_eq!(rt; split(text).ok(), Some((*config, *body)), "{text:?}");
     }
-    Ok(())
 }
 
 #[test]
@@ -56,31 +55,47 @@ fn no_marks(rt: HostRuntime) {
     }
 }
 
-#[test]
-fn opened(rt: HostRuntime) -> Result<(), Fail> {
-    let alloc = rt.alloc();
-    let (config, body) = open(alloc, true, "---\nx")?;
+/// That a text has the sample configuration, or one with as many rows, and this body.
+fn is_opened(
+    rt: &impl Abort,
+    alloc: Global,
+    sample: bool,
+    text: &str,
+    wanted: &str,
+) -> Result<(), Fail> {
+    let (config, body) = open(alloc, sample, text)?;
     assert_eq!(rt; config.geometry.rows, 16);
-    assert_eq!(rt; body, "---\nx");
-    let text = format!(in alloc; "{PROFILE_S}---\nx")?;
-    let (config, body) = open(alloc, false, text.as_str())?;
-    assert_eq!(rt; config.geometry.rows, 16);
-    assert_eq!(rt; body, "x");
+    assert_eq!(rt; body, wanted);
     Ok(())
 }
 
 #[test]
-fn refused(rt: HostRuntime) -> Result<(), Fail> {
-    let refusal = |text: &str| open(rt.alloc(), false, text).err();
-    assert_eq!(rt; refusal("version = 1\n"), Some(Fault::InputHasNoMark));
+fn opened(rt: HostRuntime) -> Result<(), Fail> {
+    is_opened(&rt, rt.alloc(), true, "---\nx", "---\nx")?;
+    let text = input_of(rt.alloc(), &[], "---\nx")?;
+    is_opened(&rt, rt.alloc(), false, text.as_str(), "x")
+}
+
+/// Texts, and the fault of each.
+const REFUSED: &[(&str, Fault)] = &[
+    ("version = 1\n", Fault::InputHasNoMark),
     // No mark comes before the configuration's refusals.
-    assert_eq!(rt; refusal("version = \n"), Some(Fault::InputHasNoMark));
-    assert_eq!(rt; refusal("version = \n---\n"), Some(Fault::ConfigSyntax));
-    assert_eq!(rt;
-        refusal("---\n"),
-        Some(Fault::ConfigMissing { key: Key::Version })
-    );
-    let text = format!(in rt.alloc(); "{PROFILE_S}unknown = 1\n---\n")?;
-    assert_eq!(rt; refusal(text.as_str()), Some(Fault::ConfigUnknownKey));
+    ("version = \n", Fault::InputHasNoMark),
+    ("version = \n---\n", Fault::ConfigSyntax),
+    ("---\n", Fault::ConfigMissing { key: Key::Version }),
+];
+
+/// That a text has this fault.
+fn is_refused(rt: &impl Abort, alloc: Global, text: &str, fault: Fault) {
+    assert_eq!(rt; open(alloc, false, text).err(), Some(fault), "{text:?}");
+}
+
+#[test]
+fn refused(rt: HostRuntime) -> Result<(), Fail> {
+    for (text, fault) in REFUSED {
+        is_refused(&rt, rt.alloc(), text, *fault);
+    }
+    let text = input_of(rt.alloc(), &[], "unknown = 1\n---\n")?;
+    is_refused(&rt, rt.alloc(), text.as_str(), Fault::ConfigUnknownKey);
     Ok(())
 }

@@ -6,6 +6,7 @@
 //! another port, and by a later one than those of that port that it read before.
 ghost use Rattle.std.specs.Prelude.{◌+◌, ◌<◌, ◌≤◌};
 
+use super::with_lines;
 use crate::run::run;
 use ddr_address_map::request::Line;
 use ddr_timing::profile::PROFILE_S;
@@ -189,14 +190,26 @@ fn write_text(
     match extent {
         Extent::Span { first, end } => {
             let addr = addr.wrapping_add(first as u64);
-            let bytes = hex::encode(alloc, line.get(first..end).unwrap_or(&[]))?;
-            format!(in alloc; "write {port} {addr} {bytes}\n")
+            span_text(alloc, port, addr, line.get(first..end).unwrap_or(&[]))
         }
-        Extent::Mask(mask) => {
-            let bytes = hex::encode(alloc, line)?;
-            format!(in alloc; "mask {port} {addr} {mask:016x} {bytes}\n")
-        }
+        Extent::Mask(mask) => mask_text(alloc, port, addr, mask, line),
     }
+}
+
+fn span_text(alloc: Global, port: usize, addr: u64, bytes: &[u8]) -> Result<String, AllocError> {
+    let bytes = hex::encode(alloc, bytes)?;
+    format!(in alloc; "write {port} {addr} {bytes}\n")
+}
+
+fn mask_text(
+    alloc: Global,
+    port: usize,
+    addr: u64,
+    mask: u64,
+    line: &Line,
+) -> Result<String, AllocError> {
+    let bytes = hex::encode(alloc, line)?;
+    format!(in alloc; "mask {port} {addr} {mask:016x} {bytes}\n")
 }
 
 /// Which write a byte of a line of all is by.
@@ -237,12 +250,17 @@ struct Script {
 }
 
 impl Script {
-    fn new(alloc: Global, seed: u64) -> Result<Script, Fail> {
-        let mut script = Script {
+    /// A script of no requests yet.
+    fn empty(alloc: Global, seed: u64) -> Result<Script, AllocError> {
+        Ok(Script {
             chance: Chance(seed),
             asks: Vec::new(alloc),
             writes: vec![in alloc; [[None; MOST]; PORTS]; SHARED]?,
-        };
+        })
+    }
+
+    fn new(alloc: Global, seed: u64) -> Result<Script, Fail> {
+        let mut script = Script::empty(alloc, seed)?;
         for port in 0..PORTS {
             script.ask_for(port)?;
         }
@@ -433,18 +451,18 @@ impl Memory {
 
 const VERDICTS: &str = "channel 0 legal\nchannel 1 legal\nchannel 2 legal\nchannel 3 legal\n";
 
-/// The number of the first line of a text that isn't the reply to the request of this place, counted from 0.
-fn first_wrong(alloc: Global, script: &Script, text: &str) -> Result<Option<usize>, Fail> {
+/// Whether each line of a text is the reply to the request of its place.
+fn are_replies(alloc: Global, script: &Script, text: &str) -> Result<bool, Fail> {
     let mut memory = Memory::new(alloc, 0)?;
-    for (place, (ask, line)) in script.asks.iter().zip(text.lines()).enumerate() {
+    for (ask, line) in script.asks.iter().zip(text.lines()) {
         if ask.port != memory.port {
             memory = Memory::new(alloc, ask.port)?;
         }
         if !memory.takes(alloc, script, ask, line)? {
-            return Ok(Some(place));
+            return Ok(false);
         }
     }
-    Ok(None)
+    Ok(true)
 }
 
 /// Whether a text has the right replies to a script, all of them, and then the verdicts.
@@ -453,7 +471,7 @@ fn is_right(alloc: Global, script: &Script, text: &str) -> Result<bool, Fail> {
         return Ok(false);
     };
     let has_all = replies.lines().count() == script.asks.len();
-    Ok(has_all && first_wrong(alloc, script, replies)?.is_none())
+    Ok(has_all && are_replies(alloc, script, replies)?)
 }
 
 /// Runs a script by chance in a configuration, and says whether all replies are right and all traces legal.
@@ -493,15 +511,6 @@ const SMALL_QUEUES: [(&str, &str); 6] = [
     ("\nlow = 2\nhigh = 6", "\nlow = 0\nhigh = 1"),
 ];
 
-/// A configuration with other lines in the place of some.
-fn with_lines(alloc: Global, config: &str, lines: &[(&str, &str)]) -> Result<String, AllocError> {
-    let mut text = String::from_str(alloc, config)?;
-    for (old, new) in lines {
-        text = text.replace(alloc, old, new)?;
-    }
-    Ok(text)
-}
-
 #[test]
 fn eight_ports_over_four_channels(rt: HostRuntime) -> Result<(), Fail> {
     let config = with_lines(rt.alloc(), PROFILE_S, &EIGHT_BY_FOUR)?;
@@ -534,11 +543,7 @@ const LATER: u8 = 33;
 
 /// Port 0's view of the first line of all, where port 0 wrote once and port 1 twice, and their script.
 fn three_writes(alloc: Global) -> Result<(Script, Memory), Fail> {
-    let mut script = Script {
-        chance: Chance(0),
-        asks: Vec::new(alloc),
-        writes: vec![in alloc; [[None; MOST]; PORTS]; SHARED]?,
-    };
+    let mut script = Script::empty(alloc, 0)?;
     let extent = Extent::Span { first: 0, end: 8 };
     for port in [0, 1, 1] {
         script.note(port, 0, extent).ok_or("no room")?;

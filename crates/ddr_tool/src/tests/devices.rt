@@ -1,11 +1,8 @@
 //! Readers and writers over memory: one that never ends, and ones that fail at a call.
-use super::{REPLIES, TRACE, WRITE_THEN_READ};
-use crate::check::check;
+use super::{Command, REPLIES, TRACE, WRITE_THEN_READ, end_of, is_so};
 use crate::fault::Fault;
-use crate::map::map;
 use crate::run::run;
-use crate::sim::sim;
-use std::alloc::Global;
+use std::alloc::{AllocError, Global};
 use std::io;
 use std::io::{ErrorKind, Read, Write};
 use std::process::Abort;
@@ -36,39 +33,95 @@ impl Read for Failing<'_> {
     }
 }
 
-/// A script, given by a reader that fails where no call is left.
-fn script_from<'a>(calls: u32, kind: ErrorKind) -> Failing<'a> {
-    Failing {
-        text: WRITE_THEN_READ.as_bytes(),
-        calls,
-        kind,
+/// How a command ends whose reader fails where no call is left, and what it writes.
+fn read_in(
+    alloc: Global,
+    command: Command,
+    mut reader: Failing<'_>,
+) -> (Vec<u8>, Result<bool, Fault>) {
+    let mut bytes = Vec::new(alloc);
+    let end = end_of(alloc, command, true, &mut reader, &mut bytes);
+    (bytes, end)
+}
+
+/// That a run with so many calls ended so, and wrote this text of the whole one.
+fn is_so_in(
+    rt: &impl Abort,
+    alloc: Global,
+    ran: (Vec<u8>, Result<bool, Fault>),
+    (wanted, text): (Result<bool, Fault>, &str),
+    (calls, whole): (u32, &str),
+) -> Result<(), AllocError> {
+    let case = format!(in alloc; "{calls} calls, {whole}")?;
+    is_so(rt, ran, wanted, text, case.as_str());
+    Ok(())
+}
+
+/// How a run ends that reads in so many calls, of those that are needed, and what it writes.
+fn end_in(calls: u32, needed: u32, text: &str) -> (Result<bool, Fault>, &str) {
+    if calls < needed {
+        (Err(Fault::Read), "")
+    } else {
+        (Ok(true), text)
     }
 }
 
-#[test]
-fn each_read_fails(rt: HostRuntime) {
-    // 30 bytes are read in 4 calls, and their end by one more.
-    for calls in 0..8 {
-        let mut reader = script_from(calls, ErrorKind::Other);
-        let mut written = Vec::new(rt.alloc());
-        let end = sim(rt.alloc(), true, None, &mut reader, &mut written);
-        let (wanted, text) = if calls < 5 {
-            (Err(Fault::Read), "")
-        } else {
-            (Ok(()), REPLIES)
+/// Commands, with what they read and what they write, and in how many calls each.
+const CALLS: &[(Command, &str, &str, u32, u32)] = &[
+    // 30 bytes are read in 4 calls, and their end by one more. The replies are two lines of 12 and 20 bytes, written in
+    // 3 and 4 calls, and flushed by one more.
+    (Command::Sim, WRITE_THEN_READ, REPLIES, 5, 8),
+    // The trace is 92 bytes, written in 19 calls, and flushed by one more.
+    (Command::Trace(0), WRITE_THEN_READ, TRACE, 5, 20),
+    // 12 bytes are read in 2 calls, and 40 written in 8.
+    (
+        Command::Map,
+        "0\n64\n262144\n",
+        "0 0 0 0 0 0 0\n64 0 0 0 0 8 0\n262144 out\n",
+        3,
+        9,
+    ),
+    // 92 bytes are read in 12 calls, and 6 written in 2.
+    (Command::Check, TRACE, "legal\n", 13, 3),
+];
+
+/// That a command fails where one of the calls that it needs to read its input does.
+fn fails_unless_all_is_read(
+    rt: &impl Abort,
+    alloc: Global,
+    (command, input, text): (Command, &str, &str),
+    needed: u32,
+) -> Result<(), AllocError> {
+    for calls in 0..needed.saturating_add(3) {
+        let reader = Failing {
+            text: input.as_bytes(),
+            calls,
+            kind: ErrorKind::Other,
         };
-        assert_eq!(rt; end, wanted, "{calls} calls");
-        assert_eq!(rt; written.as_slice(), text.as_bytes(), "{calls} calls");
+        let ran = read_in(alloc, command, reader);
+        is_so_in(rt, alloc, ran, end_in(calls, needed, text), (calls, text))?;
     }
+    Ok(())
+}
+
+#[test]
+fn each_read_fails(rt: HostRuntime) -> Result<(), Fail> {
+    for (command, input, text, needed, _) in CALLS {
+        fails_unless_all_is_read(&rt, rt.alloc(), (*command, *input, *text), *needed)?;
+    }
+    Ok(())
 }
 
 #[test]
 fn each_read_is_interrupted(rt: HostRuntime) -> Result<(), Fail> {
     for calls in 0..8 {
-        let mut reader = script_from(calls, ErrorKind::Interrupted);
-        let mut written = Vec::new(rt.alloc());
-        sim(rt.alloc(), true, None, &mut reader, &mut written)?;
-        assert_eq!(rt; written.as_slice(), REPLIES.as_bytes(), "{calls} calls");
+        let reader = Failing {
+            text: WRITE_THEN_READ.as_bytes(),
+            calls,
+            kind: ErrorKind::Interrupted,
+        };
+        let ran = read_in(rt.alloc(), Command::Sim, reader);
+        is_so_in(&rt, rt.alloc(), ran, (Ok(true), REPLIES), (calls, REPLIES))?;
     }
     Ok(())
 }
@@ -91,19 +144,26 @@ impl Read for Comments {
     }
 }
 
+/// How many bytes of comments are given, and how a run of them ends.
+const COMMENTS: &[(u64, Result<bool, Fault>)] = &[
+    (16_777_216, Ok(true)),
+    (16_777_217, Err(Fault::InputTooLong)),
+    (u64::MAX, Err(Fault::InputTooLong)),
+];
+
+/// That a run of so many bytes of comments ends so, writes nothing and asks for no more than the longest input.
+fn ends_so_in_comments(rt: &impl Abort, alloc: Global, left: u64, wanted: Result<bool, Fault>) {
+    let mut reader = Comments { left, asked: 0 };
+    let mut bytes = Vec::new(alloc);
+    let end = end_of(alloc, Command::Sim, true, &mut reader, &mut bytes);
+    assert_eq!(rt; (end, bytes.len()), (wanted, 0), "{left} bytes");
+    assert!(rt; reader.asked <= 16_777_218, "{left} bytes");
+}
+
 #[test]
 fn inputs_that_are_too_long(rt: HostRuntime) {
-    let too_long = Err(Fault::InputTooLong);
-    for (left, wanted) in [
-        (16_777_216, Ok(())),
-        (16_777_217, too_long),
-        (u64::MAX, too_long),
-    ] {
-        let mut reader = Comments { left, asked: 0 };
-        let mut written = Vec::new(rt.alloc());
-        let end = sim(rt.alloc(), true, None, &mut reader, &mut written);
-        assert_eq!(rt; (end, written.len()), (wanted, 0), "{left} bytes");
-        assert!(rt; reader.asked <= 16_777_218, "{left} bytes");
+    for (left, wanted) in COMMENTS {
+        ends_so_in_comments(&rt, rt.alloc(), *left, *wanted);
     }
 }
 
@@ -139,129 +199,62 @@ impl Write for Full {
     }
 }
 
-impl Full {
-    /// A writer with so many calls left.
-    fn new(alloc: Global, calls: u32) -> Full {
-        Full {
-            text: Vec::new(alloc),
-            calls,
-        }
-    }
+/// How a command ends whose writer fails where no call is left, and what it writes.
+fn write_in(
+    alloc: Global,
+    command: Command,
+    input: &str,
+    calls: u32,
+) -> (Vec<u8>, Result<bool, Fault>) {
+    let mut reader = input.as_bytes();
+    let mut writer = Full {
+        text: Vec::new(alloc),
+        calls,
+    };
+    let end = end_of(alloc, command, true, &mut reader, &mut writer);
+    (writer.text, end)
 }
 
-/// How a run of the script ends whose writer fails where no call is left, and what it writes.
-fn sim_to(alloc: Global, trace: Option<u32>, calls: u32) -> (Result<(), Fault>, Vec<u8>) {
-    let mut reader = WRITE_THEN_READ.as_bytes();
-    let mut writer = Full::new(alloc, calls);
-    let end = sim(alloc, true, trace, &mut reader, &mut writer);
-    (end, writer.text)
-}
-
-/// That a run whose writer takes so many calls, of those that are needed, writes a beginning of the text, or all of it.
-fn fails_unless_all_is_written(
+/// That a run which writes in so many calls, of those that are needed, writes a beginning of the text, or all of it.
+fn is_cut_off(
     rt: &impl Abort,
-    (end, written): (Result<(), Fault>, Vec<u8>),
+    (bytes, end): (Vec<u8>, Result<bool, Fault>),
     text: &str,
     calls: u32,
     needed: u32,
 ) {
-    let wanted = if calls < needed {
-        Err(Fault::Write)
+    let is_whole = calls >= needed;
+    let wanted = if is_whole {
+        Ok(true)
     } else {
-        Ok(())
+        Err(Fault::Write)
     };
-    assert_eq!(rt; end, wanted, "{calls} calls");
+    assert_eq!(rt; end, wanted, "{calls} calls, {text}");
+    let has_begun = text.as_bytes().starts_with(bytes.as_slice());
+    let has_all = bytes.len() == text.len();
     assert!(rt;
-        text.as_bytes().starts_with(written.as_slice()),
-        "{calls} calls"
+        has_begun && (has_all || !is_whole),
+        "{calls} calls, {text}"
     );
-    assert!(rt;
-        end.is_err() || written.len() == text.len(),
-        "{calls} calls"
-    );
+}
+
+/// That a command fails where one of the calls that it needs to write its text does.
+fn fails_unless_all_is_written(
+    rt: &impl Abort,
+    alloc: Global,
+    (command, input, text): (Command, &str, &str),
+    needed: u32,
+) {
+    for calls in 0..needed.saturating_add(3) {
+        let ran = write_in(alloc, command, input, calls);
+        is_cut_off(rt, ran, text, calls, needed);
+    }
 }
 
 #[test]
 fn each_write_fails(rt: HostRuntime) {
-    // The replies are two lines of 12 and 20 bytes, written in 3 and 4 calls, and flushed by one more.
-    for calls in 0..10 {
-        let ran = sim_to(rt.alloc(), None, calls);
-        fails_unless_all_is_written(&rt, ran, REPLIES, calls, 8);
-    }
-    // The trace is 92 bytes, written in 19 calls, and flushed by one more.
-    for calls in 0..22 {
-        let ran = sim_to(rt.alloc(), Some(0), calls);
-        fails_unless_all_is_written(&rt, ran, TRACE, calls, 20);
-    }
-}
-
-const ADDRESSES: &[u8] = b"0\n64\n262144\n";
-
-const PLACES: &str = "0 0 0 0 0 0 0\n64 0 0 0 0 8 0\n262144 out\n";
-
-#[test]
-fn each_read_of_a_map_fails(rt: HostRuntime) {
-    // 12 bytes are read in 2 calls, and their end by one more.
-    for calls in 0..5 {
-        let mut reader = Failing {
-            text: ADDRESSES,
-            calls,
-            kind: ErrorKind::Other,
-        };
-        let mut written = Vec::new(rt.alloc());
-        let end = map(rt.alloc(), true, &mut reader, &mut written);
-        let (wanted, text) = if calls < 3 {
-            (Err(Fault::Read), "")
-        } else {
-            (Ok(()), PLACES)
-        };
-        assert_eq!(rt; end, wanted, "{calls} calls");
-        assert_eq!(rt; written.as_slice(), text.as_bytes(), "{calls} calls");
-    }
-}
-
-#[test]
-fn each_write_of_a_map_fails(rt: HostRuntime) {
-    // 40 bytes are written in 8 calls, and flushed by one more.
-    for calls in 0..11 {
-        let mut reader = ADDRESSES;
-        let mut writer = Full::new(rt.alloc(), calls);
-        let end = map(rt.alloc(), true, &mut reader, &mut writer);
-        fails_unless_all_is_written(&rt, (end, writer.text), PLACES, calls, 9);
-    }
-}
-
-#[test]
-fn each_read_of_a_check_fails(rt: HostRuntime) {
-    // 92 bytes are read in 12 calls, and their end by one more.
-    for calls in 0..16 {
-        let mut reader = Failing {
-            text: TRACE.as_bytes(),
-            calls,
-            kind: ErrorKind::Other,
-        };
-        let mut written = Vec::new(rt.alloc());
-        let end = check(rt.alloc(), true, &mut reader, &mut written);
-        let wanted = if calls < 13 {
-            Err(Fault::Read)
-        } else {
-            Ok(true)
-        };
-        assert_eq!(rt; end, wanted, "{calls} calls");
-        assert_eq!(rt; written.is_empty(), end.is_err(), "{calls} calls");
-    }
-}
-
-#[test]
-fn each_write_of_a_check_fails(rt: HostRuntime) {
-    // 6 bytes are written in 2 calls, and flushed by one more.
-    for calls in 0..5 {
-        let mut reader = TRACE.as_bytes();
-        let mut writer = Full::new(rt.alloc(), calls);
-        let end = check(rt.alloc(), true, &mut reader, &mut writer);
-        assert!(rt; end != Ok(false), "{calls} calls");
-        let ran = (end.map(|_legal| ()), writer.text);
-        fails_unless_all_is_written(&rt, ran, "legal\n", calls, 3);
+    for (command, input, text, _, needed) in CALLS {
+        fails_unless_all_is_written(&rt, rt.alloc(), (*command, *input, *text), *needed);
     }
 }
 
@@ -273,11 +266,15 @@ fn run_from<R: Threads + Wait + Sync>(
     rt: &R,
     alloc: Global,
     calls: u32,
-) -> (Result<bool, Fault>, Vec<u8>) {
-    let mut reader = script_from(calls, ErrorKind::Other);
-    let mut written = Vec::new(alloc);
-    let end = run(rt, alloc, true, &mut reader, &mut written);
-    (end, written)
+) -> (Vec<u8>, Result<bool, Fault>) {
+    let mut reader = Failing {
+        text: WRITE_THEN_READ.as_bytes(),
+        calls,
+        kind: ErrorKind::Other,
+    };
+    let mut bytes = Vec::new(alloc);
+    let end = run(rt, alloc, true, &mut reader, &mut bytes);
+    (bytes, end)
 }
 
 /// How a run ends whose writer fails where no call is left, and what it writes.
@@ -285,44 +282,43 @@ fn run_to<R: Threads + Wait + Sync>(
     rt: &R,
     alloc: Global,
     calls: u32,
-) -> (Result<bool, Fault>, Vec<u8>) {
+) -> (Vec<u8>, Result<bool, Fault>) {
     let mut reader = WRITE_THEN_READ.as_bytes();
-    let mut writer = Full::new(alloc, calls);
+    let mut writer = Full {
+        text: Vec::new(alloc),
+        calls,
+    };
     let end = run(rt, alloc, true, &mut reader, &mut writer);
-    (end, writer.text)
+    (writer.text, end)
 }
 
 #[test]
-fn each_read_of_a_run_fails(rt: HostRuntime) {
+fn each_read_of_a_run_fails(rt: HostRuntime) -> Result<(), Fail> {
     // 30 bytes are read in 4 calls, and their end by one more.
     for calls in 0..7 {
-        let (wanted, text) = if calls < 5 {
-            (Err(Fault::Read), "")
-        } else {
-            (Ok(true), RAN)
-        };
-        let (end, written) = run_from(&rt, rt.alloc(), calls);
-        assert_eq!(rt; end, wanted, "{calls} calls");
-        assert_eq!(rt; written.as_slice(), text.as_bytes(), "{calls} calls");
+        let ran = run_from(&rt, rt.alloc(), calls);
+        is_so_in(&rt, rt.alloc(), ran, end_in(calls, 5, RAN), (calls, RAN))?;
     }
+    Ok(())
+}
+
+/// How a run ends that writes in so many calls, and what it writes.
+fn end_out(calls: u32) -> (Result<bool, Fault>, &'static str) {
+    // 64 bytes are written in 13 calls, and flushed by one more.
+    let end = if calls < 14 {
+        Err(Fault::Write)
+    } else {
+        Ok(true)
+    };
+    let count = RAN.len().min(5 * calls as usize);
+    (end, RAN.get(..count).unwrap_or(RAN))
 }
 
 #[test]
-fn each_write_of_a_run_fails(rt: HostRuntime) {
-    // 64 bytes are written in 13 calls, and flushed by one more.
+fn each_write_of_a_run_fails(rt: HostRuntime) -> Result<(), Fail> {
     for calls in 0..16u32 {
-        let wanted = if calls < 14 {
-            Err(Fault::Write)
-        } else {
-            Ok(true)
-        };
-        let (end, written) = run_to(&rt, rt.alloc(), calls);
-        assert_eq!(rt; end, wanted, "{calls} calls");
-        let count = RAN.len().min(5 * calls as usize);
-        assert_eq!(rt;
-            written.as_slice(),
-            &RAN.as_bytes()[..count],
-            "{calls} calls"
-        );
+        let ran = run_to(&rt, rt.alloc(), calls);
+        is_so_in(&rt, rt.alloc(), ran, end_out(calls), (calls, RAN))?;
     }
+    Ok(())
 }

@@ -1,11 +1,12 @@
 //! Inputs that are at fault: each with its fault, and with nothing written.
-use super::run;
+use super::{Command, is_refused};
 use crate::fault::Fault;
-use std::alloc::Global;
+use std::alloc::{AllocError, Global};
+use std::process::Abort;
 use std::test::Fail;
 
 /// Lines that are at fault wherever they stand.
-const BAD_LINES: [&str; 42] = [
+const BAD_LINES: &[&str] = &[
     // No form of a script's line.
     " ",
     "   ",
@@ -59,54 +60,60 @@ const BAD_LINES: [&str; 42] = [
     "read 18446744073709551615 0 1",
 ];
 
-/// The fault that a script ends by, and how many bytes were written before.
-fn fault_of(alloc: Global, script: &[u8]) -> (Option<Fault>, usize) {
-    let (bytes, end) = run(alloc, None, script);
-    (end.err(), bytes.len())
+/// That a script is at fault in a line.
+fn is_bad(rt: &impl Abort, alloc: Global, script: &str, line: u64) {
+    let fault = Fault::ScriptLine { line };
+    is_refused(rt, alloc, Command::Sim, true, script.as_bytes(), fault);
+}
+
+/// That a line is at fault as the first one of a script, and as the third.
+fn is_bad_anywhere(rt: &impl Abort, alloc: Global, line: &str) -> Result<(), AllocError> {
+    let first = format!(in alloc; "{line}\n")?;
+    is_bad(rt, alloc, first.as_str(), 1);
+    let third = format!(in alloc; "# a comment\nread 0 0 1\n{line}\nnone\n")?;
+    is_bad(rt, alloc, third.as_str(), 3);
+    Ok(())
 }
 
 #[test]
 fn bad_lines(rt: HostRuntime) -> Result<(), Fail> {
-    let alloc = rt.alloc();
     for line in BAD_LINES {
-        let first = format!(in alloc; "{line}\n")?;
-        let fault = Some(Fault::ScriptLine { line: 1 });
-        assert_eq!(rt; fault_of(alloc, first.as_bytes()), (fault, 0), "{line:?}");
-        let third = format!(in alloc; "# a comment\nread 0 0 1\n{line}\nnone\n")?;
-        let fault = Some(Fault::ScriptLine { line: 3 });
-        assert_eq!(rt; fault_of(alloc, third.as_bytes()), (fault, 0), "{line:?}");
+        is_bad_anywhere(&rt, rt.alloc(), line)?;
     }
     Ok(())
 }
 
 #[test]
 fn lines_too_long(rt: HostRuntime) -> Result<(), Fail> {
-    let alloc = rt.alloc();
-    let fault = Some(Fault::ScriptLine { line: 1 });
-    let mut line = String::from_str(alloc, "write 0 0 ")?;
-    for _byte in 0..129 {
-        line.push_str("00")?;
-    }
-    assert_eq!(rt; fault_of(alloc, line.as_bytes()), (fault, 0));
+    let bytes = "00".repeat(rt.alloc(), 129)?;
+    let line = format!(in rt.alloc(); "write 0 0 {bytes}")?;
+    is_bad(&rt, rt.alloc(), line.as_str(), 1);
     Ok(())
 }
 
+/// Scripts, and the first line of each that is at fault.
+const COUNTED: &[(&str, u64)] = &[
+    ("\r\n\r\nread 0 0\r\n", 3),
+    ("#\n read 0 0 1", 2),
+    // A carriage return ends a line only before a line feed.
+    ("read 0 0 1\r", 1),
+    // The first line at fault is told.
+    ("read 0 0 1\nread 2 0 1\nbad\n", 2),
+];
+
 #[test]
 fn lines_are_counted_from_1(rt: HostRuntime) {
-    let alloc = rt.alloc();
-    let at = |line: u64| (Some(Fault::ScriptLine { line }), 0usize);
-    assert_eq!(rt; fault_of(alloc, b"\r\n\r\nread 0 0\r\n"), at(3));
-    assert_eq!(rt; fault_of(alloc, b"#\n read 0 0 1"), at(2));
-    // A carriage return ends a line only before a line feed.
-    assert_eq!(rt; fault_of(alloc, b"read 0 0 1\r"), at(1));
-    // The first line at fault is told.
-    assert_eq!(rt; fault_of(alloc, b"read 0 0 1\nread 2 0 1\nbad\n"), at(2));
+    for (script, line) in COUNTED {
+        is_bad(&rt, rt.alloc(), script, *line);
+    }
 }
+
+const NO_TEXTS: &[&[u8]] = &[b"\xff", b"bad\n# \xe2\x82\n"];
 
 #[test]
 fn bytes_that_are_no_text(rt: HostRuntime) {
-    let alloc = rt.alloc();
-    let fault = Some(Fault::InputNotUtf8);
-    assert_eq!(rt; fault_of(alloc, b"\xff"), (fault, 0));
-    assert_eq!(rt; fault_of(alloc, b"bad\n# \xe2\x82\n"), (fault, 0));
+    let fault = Fault::InputNotUtf8;
+    for input in NO_TEXTS {
+        is_refused(&rt, rt.alloc(), Command::Sim, true, input, fault);
+    }
 }

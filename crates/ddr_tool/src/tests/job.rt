@@ -29,7 +29,20 @@ fn gives(rt: &impl Abort, alloc: Global, line: &str, kind: ErrorKind) -> Result<
     Ok(())
 }
 
-const SIMS: [(&str, bool, Option<u32>); 6] = [
+/// Command lines, and the jobs that they state.
+const JOBS: &[(&str, Job)] = &[
+    ("ddr run", Job::Run { sample: false }),
+    ("ddr run --sample", Job::Run { sample: true }),
+    ("ddr check", Job::Check { sample: false }),
+    ("ddr check --sample", Job::Check { sample: true }),
+    ("ddr map", Job::Map { sample: false }),
+    ("ddr map --sample", Job::Map { sample: true }),
+    // The program may have another name.
+    ("/bin/model map", Job::Map { sample: false }),
+];
+
+/// Command lines, whether each asks for the sample, and which trace.
+const SIMS: &[(&str, bool, Option<u32>)] = &[
     ("ddr", true, None),
     ("ddr sim", false, None),
     ("ddr sim --sample", true, None),
@@ -44,107 +57,107 @@ const SIMS: [(&str, bool, Option<u32>); 6] = [
 
 #[test]
 fn sims(rt: HostRuntime) -> Result<(), Fail> {
-    let alloc = rt.alloc();
-    let sample = Job::Sim {
-        sample: true,
-        trace: None,
-    };
-    assert_eq!(rt; job_of(alloc, [].as_slice())?, sample);
     for (line, sample, trace) in SIMS {
-        states(&rt, alloc, line, Job::Sim { sample, trace })?;
-    }
-    Ok(())
-}
-
-#[test]
-fn subcommands(rt: HostRuntime) -> Result<(), Fail> {
-    for (line, job) in [
-        ("ddr run", Job::Run { sample: false }),
-        ("ddr run --sample", Job::Run { sample: true }),
-        ("ddr check", Job::Check { sample: false }),
-        ("ddr check --sample", Job::Check { sample: true }),
-        ("ddr map", Job::Map { sample: false }),
-        ("ddr map --sample", Job::Map { sample: true }),
-        // The program may have another name.
-        ("/bin/model map", Job::Map { sample: false }),
-    ] {
+        let job = Job::Sim {
+            sample: *sample,
+            trace: *trace,
+        };
         states(&rt, rt.alloc(), line, job)?;
     }
     Ok(())
 }
 
 #[test]
-fn unknown_words(rt: HostRuntime) -> Result<(), Fail> {
-    for line in [
-        "ddr --sample",
-        "ddr map --other",
-        "ddr map -s",
-        "ddr map more",
-        "ddr check --trace 0",
-        "ddr map --trace=0",
-        "ddr run --trace 1",
-    ] {
-        gives(&rt, rt.alloc(), line, ErrorKind::UnknownArgument)?;
-    }
-    for line in ["ddr trace", "ddr SIM", "ddr "] {
-        gives(&rt, rt.alloc(), line, ErrorKind::InvalidSubcommand)?;
-    }
+fn no_words(rt: HostRuntime) -> Result<(), Fail> {
+    let sample = Job::Sim {
+        sample: true,
+        trace: None,
+    };
+    assert_eq!(rt; job_of(rt.alloc(), [].as_slice())?, sample);
     Ok(())
 }
 
 #[test]
+fn subcommands(rt: HostRuntime) -> Result<(), Fail> {
+    for (line, job) in JOBS {
+        states(&rt, rt.alloc(), line, *job)?;
+    }
+    Ok(())
+}
+
+/// Command lines, and the kinds of their errors.
+const ERRORS: &[(&str, ErrorKind)] = &[
+    ("ddr --sample", ErrorKind::UnknownArgument),
+    ("ddr map --other", ErrorKind::UnknownArgument),
+    ("ddr map -s", ErrorKind::UnknownArgument),
+    ("ddr map more", ErrorKind::UnknownArgument),
+    ("ddr check --trace 0", ErrorKind::UnknownArgument),
+    ("ddr map --trace=0", ErrorKind::UnknownArgument),
+    ("ddr run --trace 1", ErrorKind::UnknownArgument),
+    ("ddr trace", ErrorKind::InvalidSubcommand),
+    ("ddr SIM", ErrorKind::InvalidSubcommand),
+    ("ddr ", ErrorKind::InvalidSubcommand),
+    // Values.
+    ("ddr sim --trace x", ErrorKind::ValueValidation),
+    ("ddr sim --trace=-1", ErrorKind::ValueValidation),
+    ("ddr sim --trace=4294967296", ErrorKind::ValueValidation),
+    ("ddr sim --trace", ErrorKind::InvalidValue),
+    ("ddr sim --sample=true", ErrorKind::TooManyValues),
+    ("ddr map --sample --sample", ErrorKind::ArgumentConflict),
+    // Requests for help.
+    ("ddr --help", ErrorKind::DisplayHelp),
+    ("ddr -h", ErrorKind::DisplayHelp),
+    ("ddr sim --help", ErrorKind::DisplayHelp),
+];
+
+#[test]
+fn errors(rt: HostRuntime) -> Result<(), Fail> {
+    for (line, kind) in ERRORS {
+        gives(&rt, rt.alloc(), line, *kind)?;
+    }
+    Ok(())
+}
+
+const BAD_CHANNELS: &[&str] = &["x", "", "-1", "1.0", "0x1", " 1", "4294967296"];
+
+#[test]
 fn bad_channels(rt: HostRuntime) {
-    for channel in ["x", "", "-1", "1.0", "0x1", " 1", "4294967296"] {
-        let words = ["ddr", "sim", "--sample", "--trace", channel];
+    for channel in BAD_CHANNELS {
+        let words = ["ddr", "sim", "--sample", "--trace", *channel];
         let job = job_of(rt.alloc(), words.as_slice());
         assert!(rt; job.is_err(), "{channel:?}");
     }
 }
 
-#[test]
-fn bad_values(rt: HostRuntime) -> Result<(), Fail> {
-    for (line, kind) in [
-        ("ddr sim --trace x", ErrorKind::ValueValidation),
-        ("ddr sim --trace=-1", ErrorKind::ValueValidation),
-        ("ddr sim --trace=4294967296", ErrorKind::ValueValidation),
-        ("ddr sim --trace", ErrorKind::InvalidValue),
-        ("ddr sim --sample=true", ErrorKind::TooManyValues),
-        ("ddr map --sample --sample", ErrorKind::ArgumentConflict),
-    ] {
-        gives(&rt, rt.alloc(), line, kind)?;
-    }
-    Ok(())
-}
+/// Command lines, and the first lines of the texts of their errors.
+const TEXTS: &[(&str, &str)] = &[
+    (
+        "ddr sim --trace=x",
+        "error: invalid value 'x' for '--trace <CHANNEL>': invalid digit found in string",
+    ),
+    (
+        "ddr map --trace=0",
+        "error: unexpected argument '--trace' found",
+    ),
+    (
+        "ddr erase --sample",
+        "error: unrecognized subcommand 'erase'",
+    ),
+];
 
-#[test]
-fn requests_for_help(rt: HostRuntime) -> Result<(), Fail> {
-    for line in ["ddr --help", "ddr -h", "ddr sim --help"] {
-        gives(&rt, rt.alloc(), line, ErrorKind::DisplayHelp)?;
-    }
+/// That a command line gives an error whose text begins with this line.
+fn says(rt: &impl Abort, alloc: Global, line: &str, text: &str) -> Result<(), Fail> {
+    let words = words_of(alloc, line)?;
+    let error = job_of(alloc, words.as_slice()).err().ok_or("an error")?;
+    let whole = error.to_string(alloc)?;
+    assert_eq!(rt; whole.as_str().lines().next(), Some(text), "{line:?}");
     Ok(())
 }
 
 #[test]
 fn texts(rt: HostRuntime) -> Result<(), Fail> {
-    let alloc = rt.alloc();
-    let cases = [
-        (
-            ["ddr", "sim", "--trace=x"],
-            "error: invalid value 'x' for '--trace <CHANNEL>': invalid digit found in string",
-        ),
-        (
-            ["ddr", "map", "--trace=0"],
-            "error: unexpected argument '--trace' found",
-        ),
-        (
-            ["ddr", "erase", "--sample"],
-            "error: unrecognized subcommand 'erase'",
-        ),
-    ];
-    for (words, text) in cases {
-        let error = job_of(alloc, words.as_slice()).err().ok_or("an error")?;
-        let whole = error.to_string(alloc)?;
-        assert_eq!(rt; whole.as_str().lines().next(), Some(text));
+    for (line, text) in TEXTS {
+        says(&rt, rt.alloc(), line, text)?;
     }
     Ok(())
 }

@@ -23,51 +23,52 @@ fn is_told(
 
 const KEY: Key = Key::Rows;
 
+/// The faults but those of requests and of a trace's records, with their texts and statuses.
+const TOLD: &[(Fault, &str, u8)] = &[
+    // Of the configuration.
+    (Fault::ConfigSyntax, "config Syntax", 2),
+    (Fault::ConfigMissing { key: KEY }, "config Missing rows", 2),
+    (Fault::ConfigUnknownKey, "config UnknownKey", 2),
+    (Fault::ConfigRange { key: KEY }, "config Range rows", 2),
+    (
+        Fault::ConfigNotPowerOfTwo { key: KEY },
+        "config NotPowerOfTwo rows",
+        2,
+    ),
+    (Fault::ConfigRelation { n: 7 }, "config Relation 7", 2),
+    // Of the input.
+    (Fault::InputTooLong, "input too long", 2),
+    (Fault::InputNotUtf8, "input not UTF-8", 2),
+    (Fault::InputHasNoMark, "input has no ---", 2),
+    (Fault::ScriptLine { line: 12 }, "script line 12", 2),
+    (Fault::ScriptLimit, "script limit", 2),
+    (Fault::MapLine { line: 12 }, "map line 12", 2),
+    // Of a trace.
+    (Fault::TraceHeader, "trace Header", 2),
+    (Fault::TraceTruncated, "trace Truncated", 2),
+    (Fault::TraceTooLong, "trace TooLong", 2),
+    (Fault::TraceNoSuch, "trace NoSuch", 2),
+    // Of the device.
+    (Fault::Read, "read failed", 3),
+    (Fault::Write, "write failed", 3),
+    (Fault::OutOfMemory, "out of memory", 3),
+    (Fault::ClockSpent, "clock spent", 3),
+    (Fault::PortBroken, "port broken", 3),
+];
+
 #[test]
-fn faults_of_the_configuration(rt: HostRuntime) -> Result<(), Fail> {
-    for (fault, text) in [
-        (Fault::ConfigSyntax, "config Syntax"),
-        (Fault::ConfigMissing { key: KEY }, "config Missing rows"),
-        (Fault::ConfigUnknownKey, "config UnknownKey"),
-        (Fault::ConfigRange { key: KEY }, "config Range rows"),
-        (
-            Fault::ConfigNotPowerOfTwo { key: KEY },
-            "config NotPowerOfTwo rows",
-        ),
-        (Fault::ConfigRelation { n: 7 }, "config Relation 7"),
-    ] {
-        is_told(&rt, rt.alloc(), fault, text, 2)?;
+fn faults(rt: HostRuntime) -> Result<(), Fail> {
+    for (fault, text, status) in TOLD {
+        is_told(&rt, rt.alloc(), *fault, text, *status)?;
     }
     Ok(())
 }
 
-#[test]
-fn faults_of_the_input(rt: HostRuntime) -> Result<(), Fail> {
-    for (fault, text) in [
-        (Fault::InputTooLong, "input too long"),
-        (Fault::InputNotUtf8, "input not UTF-8"),
-        (Fault::InputHasNoMark, "input has no ---"),
-        (Fault::ScriptLine { line: 12 }, "script line 12"),
-        (Fault::ScriptLimit, "script limit"),
-        (Fault::MapLine { line: 12 }, "map line 12"),
-    ] {
-        is_told(&rt, rt.alloc(), fault, text, 2)?;
-    }
-    Ok(())
-}
-
-#[test]
-fn faults_of_requests(rt: HostRuntime) -> Result<(), Fail> {
-    for (cause, text) in [
-        (RequestError::OutOfRange, "request line 12 OutOfRange"),
-        (RequestError::EmptyLength, "request line 12 EmptyLength"),
-        (RequestError::CrossesLine, "request line 12 CrossesLine"),
-    ] {
-        let fault = Fault::RequestLine { line: 12, cause };
-        is_told(&rt, rt.alloc(), fault, text, 2)?;
-    }
-    Ok(())
-}
+/// The faults of a trace's records, with their texts before the record's number.
+const RECORDS: &[(Fault, &str)] = &[
+    (Fault::TraceRow { line: 12 }, "trace Row"),
+    (Fault::TraceOrder { line: 12 }, "trace Order"),
+];
 
 /// That a fault of an input's line has this text, with the line's number behind it.
 fn is_told_of_line(
@@ -83,38 +84,24 @@ fn is_told_of_line(
 
 #[test]
 fn faults_of_a_traces_records(rt: HostRuntime) -> Result<(), Fail> {
-    for (fault, text) in [
-        (Fault::TraceRow { line: 12 }, "trace Row"),
-        (Fault::TraceOrder { line: 12 }, "trace Order"),
-    ] {
-        is_told_of_line(&rt, rt.alloc(), fault, text, 12)?;
+    for (fault, text) in RECORDS {
+        is_told_of_line(&rt, rt.alloc(), *fault, text, 12)?;
     }
     Ok(())
 }
 
+const CAUSES: &[(RequestError, &str)] = &[
+    (RequestError::OutOfRange, "request line 12 OutOfRange"),
+    (RequestError::EmptyLength, "request line 12 EmptyLength"),
+    (RequestError::CrossesLine, "request line 12 CrossesLine"),
+];
+
 #[test]
-fn faults_of_a_trace(rt: HostRuntime) -> Result<(), Fail> {
-    for (fault, text) in [
-        (Fault::TraceHeader, "trace Header"),
-        (Fault::TraceTruncated, "trace Truncated"),
-        (Fault::TraceTooLong, "trace TooLong"),
-        (Fault::TraceNoSuch, "trace NoSuch"),
-    ] {
+fn faults_of_requests(rt: HostRuntime) -> Result<(), Fail> {
+    for (cause, text) in CAUSES {
+        let cause = *cause;
+        let fault = Fault::RequestLine { line: 12, cause };
         is_told(&rt, rt.alloc(), fault, text, 2)?;
-    }
-    Ok(())
-}
-
-#[test]
-fn faults_of_the_device(rt: HostRuntime) -> Result<(), Fail> {
-    for (fault, text) in [
-        (Fault::Read, "read failed"),
-        (Fault::Write, "write failed"),
-        (Fault::OutOfMemory, "out of memory"),
-        (Fault::ClockSpent, "clock spent"),
-        (Fault::PortBroken, "port broken"),
-    ] {
-        is_told(&rt, rt.alloc(), fault, text, 3)?;
     }
     Ok(())
 }

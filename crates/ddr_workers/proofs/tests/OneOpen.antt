@@ -1,5 +1,7 @@
 -- The ends of two ports and two workers that one call of `open` made.
-use Rattle.std.proofs.Common.{arith, ◌≡◌, ◌⊎◌, inl, inr, ℕ, zero, suc, List, [], ◌∷◌, slice_get, Some, sym, refl, ap, ◌∙◌, subst}
+use Rattle.std.proofs.Common.{arith, true, false, ◌≡◌, ◌⊎◌, inl, inr, ℕ, zero, suc, List, [], ◌∷◌, slice_get, Some, sym, refl, ap, ◌∙◌, subst}
+use Rattle.std.proofs.lemmas.Bool.{false≢true}
+use Rattle.std.proofs.lemmas.Option.{cond_some}
 use Rattle.std.specs.List.{AllByRecursion}
 use Rattle.ddr_timing.specs.declared.config.Config.{Config}
 use Rattle.ddr_workers.specs.Closing.{AreEndsOf, AreOfOneOpen, AreOpposite}
@@ -38,25 +40,25 @@ module _ (config : Config) (id : ℕ) (first second : PortState) (one two : Work
 
   port_is : (k : ℕ) (e : PortEnded) → slice_get (a ∷ b ∷ []) k ≡ Some e → (s : PortState) × (slice_get (first ∷ second ∷ []) e.port ≡ Some s) × IsEndOfPort s e
   port_is zero e is =
-      let same : a ≡ e = cc in
+      let same = (cond_some true a e is).1 in
       let at : slice_get (first ∷ second ∷ []) a.port ≡ Some first = ap (slice_get (first ∷ second ∷ [])) port_number in
       subst (λ (x : PortEnded). (s : PortState) × (slice_get (first ∷ second ∷ []) x.port ≡ Some s) × IsEndOfPort s x) same (first, at, of_first)
   port_is (suc zero) e is =
-      let same : b ≡ e = cc in
+      let same = (cond_some true b e is).1 in
       let at : slice_get (first ∷ second ∷ []) b.port ≡ Some second = ap (slice_get (first ∷ second ∷ [])) other_port_number in
       subst (λ (x : PortEnded). (s : PortState) × (slice_get (first ∷ second ∷ []) x.port ≡ Some s) × IsEndOfPort s x) same (second, at, of_second)
-  port_is (suc (suc k)) e is = cc
+  port_is (suc (suc k)) e is = absurd (false≢true (cond_some false e e is).0)
 
   worker_is : (k : ℕ) (w : WorkerEnded) → slice_get (c ∷ d ∷ []) k ≡ Some w → (s : WorkerState) × (slice_get (one ∷ two ∷ []) w.number ≡ Some s) × IsEndOf s w
   worker_is zero w is =
-      let same : c ≡ w = cc in
+      let same = (cond_some true c w is).1 in
       let at : slice_get (one ∷ two ∷ []) c.number ≡ Some one = ap (slice_get (one ∷ two ∷ [])) channel_number in
       subst (λ (x : WorkerEnded). (s : WorkerState) × (slice_get (one ∷ two ∷ []) x.number ≡ Some s) × IsEndOf s x) same (one, at, of_one)
   worker_is (suc zero) w is =
-      let same : d ≡ w = cc in
+      let same = (cond_some true d w is).1 in
       let at : slice_get (one ∷ two ∷ []) d.number ≡ Some two = ap (slice_get (one ∷ two ∷ [])) other_channel_number in
       subst (λ (x : WorkerEnded). (s : WorkerState) × (slice_get (one ∷ two ∷ []) x.number ≡ Some s) × IsEndOf s x) same (two, at, of_two)
-  worker_is (suc (suc k)) w is = cc
+  worker_is (suc (suc k)) w is = absurd (false≢true (cond_some false w w is).0)
 
   pub ends_of_two : AreEndsOf (first ∷ second ∷ []) (one ∷ two ∷ []) (a ∷ b ∷ []) (c ∷ d ∷ [])
   ends_of_two = record { port = port_is; worker = worker_is }
@@ -88,8 +90,8 @@ module _ (id : ℕ) (a b : PortEnded) (c d : WorkerEnded) (one : AreOfOneOpen id
   IsOwnWorker w = w.id ≡ id → (w ≡ c) ⊎ (w ≡ d)
 
   at : {X : Type 0} (P : X → Type 0) (xs : List X) (k : ℕ) (x : X) → AllByRecursion P xs → slice_get xs k ≡ Some x → P x
-  at P [] k x all is = cc
-  at P (y ∷ ys) zero x all is = let same : y ≡ x = cc in subst P same all.0
+  at P [] k x all is = absurd (false≢true (cond_some false x x is).0)
+  at P (y ∷ ys) zero x all is = subst P (cond_some true y x is).1 all.0
   at P (y ∷ ys) (suc k) x all is = at P ys k x all.1 is
 
   pub among : (ports : List PortEnded) (workers : List WorkerEnded) (es : List PortEnded) (ws : List WorkerEnded) → ports ≡ es → workers ≡ ws
@@ -104,4 +106,4 @@ of_another id other own = omega arith
 
 pub no_workers : (id : ℕ) (ports : List PortEnded) (workers : List WorkerEnded) → workers ≡ [] → AreOfOneOpen id ports workers
 no_workers id ports workers none = λ k m e w is_port is_worker own other.
-    let nowhere : slice_get {X = WorkerEnded} [] m ≡ Some w = subst (λ l. slice_get l m ≡ Some w) none is_worker in cc
+    let nowhere : slice_get {X = WorkerEnded} [] m ≡ Some w = subst (λ l. slice_get l m ≡ Some w) none is_worker in absurd (false≢true (cond_some false w w nowhere).0)

@@ -4,55 +4,61 @@ ghost use Rattle.std.specs.Thread.{IsSync};
 use super::*;
 
 /// Reads at an address, opens the gate once the reply came or the tries are spent, and finishes the port. Says whether
-/// the reply came, and gives the port's end.
-fn read_and_open<R: Wait>(
-    rt: &R,
-    gate: &Barred,
-    mut port: Port,
-    addr: u64,
-) -> (bool, Option<PortEnd>) {
+/// the reply came, and whether the port came to its end.
+fn read_and_open<R: Wait>(rt: &R, gate: &Barred, mut port: Port, addr: u64) -> (bool, bool) {
     let came = port.submit(rt, Request::read(addr, 1)).is_ok()
         && poll_in_time(rt, &mut port, TRIES).is_some()
         && port.release().is_some();
     gate.open();
-    (came, finish_in_time(rt, port))
+    (came, finish_in_time(rt, port).is_some())
 }
 
-/// What two ports give back.
-type Hosted = ((bool, Option<PortEnd>), Option<PortEnd>);
-
-/// Runs two ports, each in a thread.
+/// Runs two ports, each in a thread. Says whether the first one's reply came, and whether both came to their ends.
 fn host_both<R: Threads + Wait + Sync>(
     rt: &R,
     gate: &Barred,
     first: Port,
     second: Port,
     addr: u64,
-) -> Hosted {
-    thread::join(
+) -> (bool, bool) {
+    let ((came, is_first_ended), is_second_ended) = thread::join(
         rt,
         move || read_and_open(rt, gate, first, addr),
-        move || finish_in_time(rt, second),
-    )
+        move || finish_in_time(rt, second).is_some(),
+    );
+    (came, is_first_ended && is_second_ended)
 }
 
-/// Runs two ports and two workers, each in a thread.
+/// Runs two workers, each in a thread. Says whether both came to their ends.
+fn have_ended<R: Threads + Wait + Sync>(
+    rt: &R,
+    gate: &Barred,
+    first: Worker,
+    second: Worker,
+) -> bool {
+    let (first, second) = run_both(rt, gate, first, second);
+    first.is_ok() && second.is_ok()
+}
+
+/// Runs two ports and two workers, each in a thread. Says whether the first port's reply came, and whether all came to
+/// their ends.
 fn run_threads<R: Threads + Wait + Sync>(
     rt: &R,
     gate: &Barred,
     addr: u64,
     parts: Parts,
-) -> (Hosted, Worked) {
+) -> (bool, bool) {
     let (first, second, first_worker, second_worker) = parts;
-    thread::join(
+    let ((came, are_hosts_ended), are_workers_ended) = thread::join(
         rt,
-        move || -> Hosted
+        move || -> (bool, bool)
             requires { IsSync R.row }
         { host_both(rt, gate, first, second, addr) },
-        move || -> Worked
+        move || -> bool
             requires { IsSync R.row }
-        { run_both(rt, gate, first_worker, second_worker) },
-    )
+        { have_ended(rt, gate, first_worker, second_worker) },
+    );
+    (came, are_hosts_ended && are_workers_ended)
 }
 
 /// Whether port 0 gets the reply of a read at an address while the gate holds that channel up, and whether all came to
@@ -65,11 +71,7 @@ fn passes<R: Threads + Wait + Sync>(
 ) -> Result<(bool, bool), Fail> {
     let config = config_with(alloc, "intake ", "intake = 4")?;
     let parts = open_two(alloc, &config, 7)?;
-    let gate = Barred::new(channel);
-    match run_threads(rt, &gate, addr, parts) {
-        (((came, Some(_)), Some(_)), (Ok(_), Ok(_))) => Ok((came, true)),
-        (((came, _), _), _) => Ok((came, false)),
-    }
+    Ok(run_threads(rt, &Barred::new(channel), addr, parts))
 }
 
 #[test]

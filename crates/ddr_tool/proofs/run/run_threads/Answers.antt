@@ -1,7 +1,7 @@
 use Rattle.std.proofs.Common.{rules, ◌++◌, List, map, string_bytes, sym, subst, ap₂, ◌∙◌}
 use Rattle.std.proofs.lemmas.Bool.{false≢true}
 use Rattle.ddr_trace.specs.Traces.{Recorded}
-use Rattle.ddr_workers.specs.Closing.{IsClosed}
+use Rattle.ddr_workers.specs.Closing.{IsClosed, Left}
 use Rattle.ddr_workers.specs.Port.{PortEnded}
 use Rattle.ddr_tool.specs.declared.run.TheConstants.{RUN}
 use Rattle.ddr_tool.specs.Outcome.{AreVerdicts}
@@ -28,7 +28,7 @@ unreachable-requires-in-Err-Missing g c =
 pub returns : goal.returns
 returns g c =
     let worked = c.in_ok-ended.ended.workers.items in
-    let closed = c.in-Ok.closed in
+    let left = c.in-Ok.closed in
     let verdicts = string_bytes c.in_ok-verdicts.verdicts in
     record {
       ports = c.in_ok-ports.ports.items;
@@ -38,9 +38,10 @@ returns g c =
       asked = c.in_ok-ended.ensures.hosted;
       worked = worked;
       ended = c.in_ok-ended.ensures.worked;
-      closed = closed;
-      is_closed = subst (λ (es : List PortEnded). IsClosed RUN es worked closed) c.in_ok-replies.ensures.ends c.in-Ok.ensures.ok;
+      left = left;
+      is_closed = subst (λ (es : List PortEnded). IsClosed RUN es worked left) c.in_ok-replies.ensures.ends c.in-Ok.ensures.ok;
       verdicts = verdicts;
-      are_verdicts = subst (λ (ts : List Recorded). AreVerdicts c.args.config.now 0 ts verdicts c.in_ok-verdicts.legal) c.as_slice.ensures.value c.in_ok-verdicts.ensures;
+      are_verdicts = subst (λ (given : Left). AreVerdicts c.args.config.now 0 given.traces verdicts c.in_ok-verdicts.legal) c.closed.view_is
+          (subst (λ (ts : List Recorded). AreVerdicts c.args.config.now 0 ts verdicts c.in_ok-verdicts.legal) c.as_slice.ensures.value c.in_ok-verdicts.ensures);
       text_is = c.in_ok-push_str.ensures.bytes ∙ ap₂ ◌++◌ c.in_ok-replies.ensures.text c.as_str.ensures.value;
     }
