@@ -21,13 +21,13 @@ use Rattle.ddr_channel.specs.Kept as channel_kept
 use Rattle.ddr_trace.specs.Text.{trace_text}
 use Rattle.std.proofs.lemmas.Option.{slice_get-map}
 use Rattle.ddr_world.specs.Step.{IsRefusedFor, Made, Step, after_release, made, release_by, step, with_port}
-use Rattle.ddr_tool.specs.declared.fault.Fault.{Fault}
-use Rattle.ddr_tool.specs.declared.fault.Fault.TheVariants as faults
+use Rattle.ddr_text.specs.declared.fault.Fault.{Fault}
+use Rattle.ddr_text.specs.declared.fault.Fault.TheVariants as faults
 use Rattle.ddr_tool.specs.Replies.{refused_text, reply_text}
 use Rattle.ddr_tool.specs.Rounds.{Run, Course, ◌then◌, after, channel_served, channels_served, items_of, outstanding, port_served, ports_served, replied, round, rounds, round_closed, stopped, until_refused}
 use Rattle.ddr_tool.specs.Runs.{after_submit, all_followed, channel_text, channels_ended, drained, followed, ports_ended, submitted}
-use Rattle.ddr_tool.specs.Script.{view}
-use Rattle.ddr_tool.specs.declared.script.Instruction as kept
+use Rattle.ddr_text.specs.Script.{view}
+use Rattle.ddr_text.specs.declared.script.Instruction as kept
 use Rattle.std.proofs.lemmas.List.{at_drop_more, at_drop_all}
 use Rattle.ddr_tool.specs.Simulated.{BeginsWith, printed_in, ComesTo, IsCycleFault, IsFrontPrinted, IsSameRun, Leads, Prints, Simulated, is_popping, run_at}
 use Rattle.ddr_tool.proofs.Growth.{Grows, begins_on, begins_then, ports_more, round_grows}

@@ -9,11 +9,11 @@ use Rattle.ddr_world.specs.Events.{Submit, Collect, Release}
 use Rattle.ddr_world.specs.History.{front_of}
 use Rattle.ddr_world.specs.State.{State}
 use Rattle.ddr_world.specs.Step.{Step, step}
-use Rattle.ddr_tool.specs.declared.fault.Fault.TheVariants as faults
+use Rattle.ddr_text.specs.declared.fault.Fault.TheVariants as faults
 use Rattle.ddr_tool.specs.Replies.{refused_text, reply_text}
 use Rattle.ddr_tool.specs.Rounds.{Run, Course, ◌then◌, after, channels_served, items_of, outstanding, port_served, ports_served, replied, round, round_closed, rounds, stopped, until_refused}
 use Rattle.ddr_tool.specs.Runs.{after_submit, all_followed, drained, ended, followed, submitted}
-use Rattle.ddr_tool.specs.Script.{Instruction, Ask, Rounds}
+use Rattle.ddr_text.specs.Script.{Instruction, Ask, Rounds}
 use Rattle.ddr_tool.specs.Simulated.{BeginsWith, printed_in}
 
 -- whatever was printed before, this part prints more behind it

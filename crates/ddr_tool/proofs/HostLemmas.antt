@@ -29,8 +29,8 @@ use Rattle.ddr_workers.proofs.CountedLemmas.{requests_of-append}
 use Rattle.ddr_tool.specs.declared.hosting.Host.TheInside.{Inside}
 use Rattle.ddr_tool.specs.Hosting.{ArePushed, AreAsked, HasAsked, HasFinished, IsHosting, IsNewPort, asked_at, asks_of, line_of, replies_text, requests_from, to_channel}
 use Rattle.ddr_tool.specs.Replies.{reply_text}
-use Rattle.ddr_tool.specs.Script.{view}
-use Rattle.ddr_tool.specs.declared.script.Instruction as kept
+use Rattle.ddr_text.specs.Script.{view}
+use Rattle.ddr_text.specs.declared.script.Instruction as kept
 
 abbrev Side : Type 0
 Side = PutSide Route Item

@@ -1,15 +1,7 @@
-pub mod BodyLemmas
-pub mod CheckLemmas
 pub mod Courses
 pub mod Growth
 pub mod HostLemmas
-pub mod Inputs
-pub mod JobLemmas
-pub mod Lines
-pub mod MapLemmas
 pub mod OutcomeLemmas
-pub mod PassLemmas
-pub mod RequestLemmas
 pub mod RunLemmas
 pub mod StartLemmas
 pub mod StepCounts

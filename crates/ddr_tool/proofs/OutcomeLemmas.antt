@@ -15,9 +15,9 @@ use Rattle.ddr_workers.proofs.ChangedLemmas.{some_there}
 use Rattle.ddr_tool.specs.declared.hosting.Hosted.{Hosted}
 use Rattle.ddr_tool.specs.declared.run.TheConstants.{RUN}
 use Rattle.ddr_tool.specs.declared.threads.Ended.{Ended}
-use Rattle.ddr_tool.specs.Check.{IsVerdict}
+use Rattle.ddr_text.specs.Check.{IsVerdict}
 use Rattle.ddr_tool.specs.Outcome.{AreVerdicts, channel_line}
-use Rattle.ddr_tool.specs.Script.{Instruction}
+use Rattle.ddr_text.specs.Script.{Instruction}
 use Rattle.ddr_tool.specs.Threads.{AreEnded, AreNewPorts, IsHostedFrom}
 
 both_assoc : (a b c : Bool) → (a && (b && c)) ≡ ((a && b) && c)

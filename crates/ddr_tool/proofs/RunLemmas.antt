@@ -5,15 +5,15 @@ use Rattle.std.proofs.lemmas.Bool.{both_ways}
 use Rattle.std.specs.Io.KnownBytes.{Appends, Keeps}
 use Rattle.ddr_timing.specs.declared.config.Config.{Config}
 use Rattle.ddr_world.specs.Kept.{state_of}
-use Rattle.ddr_tool.specs.declared.fault.Fault.{Fault}
-use Rattle.ddr_tool.specs.declared.fault.Fault.TheVariants as faults
-use Rattle.ddr_tool.specs.Body.{IsOpened, parts_of}
-use Rattle.ddr_tool.specs.Fault.{is_before_output}
-use Rattle.ddr_tool.specs.Input.{IsText}
-use Rattle.ddr_tool.specs.Instructions.{AreRead, form_of, instructions_of}
+use Rattle.ddr_text.specs.declared.fault.Fault.{Fault}
+use Rattle.ddr_text.specs.declared.fault.Fault.TheVariants as faults
+use Rattle.ddr_text.specs.Body.{IsOpened, parts_of}
+use Rattle.ddr_text.specs.Fault.{is_before_output}
+use Rattle.ddr_text.specs.Input.{IsText}
+use Rattle.ddr_text.specs.Instructions.{AreRead, form_of, instructions_of}
 use Rattle.ddr_tool.specs.Rounds.{Course, Run}
 use Rattle.ddr_tool.specs.Runs.{begun, channel_text, run_of, whole, written_by}
-use Rattle.ddr_tool.specs.Script.{Instruction}
+use Rattle.ddr_text.specs.Script.{Instruction}
 use Rattle.ddr_tool.specs.Simulated.{BeginsWith, printed_in, ComesTo, Leads, Prints, Simulated, run_at}
 use Rattle.ddr_tool.specs.Sims.{AsksFor, HasSimFault, IsBeginning, IsRun, NamesNoChannel, Says, has_channel}
 

@@ -2,15 +2,15 @@
 use Rattle.std.proofs.Common.{◌≡◌, ℕ, List, Bool, false, Option, None, Some, Result, Ok, Err, IfSome, subst, ◌∙◌}
 use Rattle.std.specs.Str.Lines.{lines}
 use Rattle.ddr_timing.specs.declared.config.Config.{Config}
-use Rattle.ddr_tool.specs.declared.fault.Fault.{Fault}
-use Rattle.ddr_tool.specs.declared.fault.Fault.TheVariants as faults
+use Rattle.ddr_text.specs.declared.fault.Fault.{Fault}
+use Rattle.ddr_text.specs.declared.fault.Fault.TheVariants as faults
 use Rattle.ddr_tool.specs.declared.flag.Stop.{Stop}
 use Rattle.ddr_tool.specs.declared.flag.Stop.TheVariants as stops
-use Rattle.ddr_tool.specs.Body.{IsOpened, parts_of}
-use Rattle.ddr_tool.specs.Input.{IsText}
-use Rattle.ddr_tool.specs.Instructions.{AreRead, form_of, instructions_of}
-use Rattle.ddr_tool.specs.Requests.{IsTaken, first_fault}
-use Rattle.ddr_tool.specs.Script.{Instruction}
+use Rattle.ddr_text.specs.Body.{IsOpened, parts_of}
+use Rattle.ddr_text.specs.Input.{IsText}
+use Rattle.ddr_text.specs.Instructions.{AreRead, form_of, instructions_of}
+use Rattle.ddr_text.specs.Requests.{IsTaken, first_fault}
+use Rattle.ddr_text.specs.Script.{Instruction}
 use Rattle.ddr_tool.specs.Started.{AreChecked, HasChecked, HasRunFault, SaysRequests, stop_fault}
 
 -- what holds of the text that was read holds of the input, where that is known

@@ -15,7 +15,7 @@ use Rattle.ddr_tool.specs.declared.hosting.Hosted.{Hosted}
 use Rattle.ddr_tool.specs.declared.threads.Seat.{Seat}
 use Rattle.ddr_tool.specs.declared.threads.Seat.TheVariants as seats
 use Rattle.ddr_tool.specs.Hosting.{AreAsked, IsNewPort, asks_of, replies_text}
-use Rattle.ddr_tool.specs.Script.{Instruction}
+use Rattle.ddr_text.specs.Script.{Instruction}
 use Rattle.ddr_tool.specs.Threads.{AreNewPorts, IsHostedFrom, IsNewSeat, Serves, cause_after, ended_in, first_cause, hosted_in, port_seats, seats_of, stop_in}
 
 pub hosted_from : (instructions : List Instruction) (number : ℕ) (port : PortState) (h : Hosted) → port.core.port ≡ number → IsEndOfPort port h.end → AreAsked port.core.geometry number (asks_of number instructions) h.end

@@ -14,7 +14,7 @@ use Rattle.ddr_workers.specs.Port.{PortState, PortEnded, IsEndOfPort, IsSamePort
 use Rattle.ddr_workers.specs.Sides.{PutSide}
 use Rattle.ddr_workers.specs.Worker.{requests_of}
 use Rattle.ddr_tool.specs.Replies.{reply_text}
-use Rattle.ddr_tool.specs.Script.{Instruction, Ask, Rounds}
+use Rattle.ddr_text.specs.Script.{Instruction, Ask, Rounds}
 use Rattle.ddr_tool.specs.declared.hosting.Host.TheInside.{Inside}
 
 -- what an instruction asks this port for

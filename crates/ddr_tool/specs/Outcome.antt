@@ -5,7 +5,7 @@ use Rattle.ddr_timing.specs.declared.config.Config.{Config}
 use Rattle.ddr_trace.specs.declared.checker.Fault as checker
 use Rattle.ddr_trace.specs.Traces.{Recorded}
 use Rattle.ddr_tool.specs.declared.hosting.Hosted.{Hosted}
-use Rattle.ddr_tool.specs.Check.{IsVerdict, verdict_text}
+use Rattle.ddr_text.specs.Check.{IsVerdict, verdict_text}
 
 -- the replies of the ports, one port behind the other
 abbrev pub texts_of : List Hosted → List ℕ

@@ -6,8 +6,8 @@ use Rattle.ddr_world.specs.Events.{Event, Take, Cycle, Deliver, Collect, Release
 use Rattle.ddr_world.specs.History.{front_of}
 use Rattle.ddr_world.specs.State.{State}
 use Rattle.ddr_world.specs.Step.{Step, step}
-use Rattle.ddr_tool.specs.declared.fault.Fault.{Fault}
-use Rattle.ddr_tool.specs.declared.fault.Fault.TheVariants.{ClockSpent, ScriptLimit}
+use Rattle.ddr_text.specs.declared.fault.Fault.{Fault}
+use Rattle.ddr_text.specs.declared.fault.Fault.TheVariants.{ClockSpent, ScriptLimit}
 use Rattle.ddr_tool.specs.Replies.{reply_text}
 
 -- what a run has come to: the core's state, what was printed, and how many rounds may still be made

@@ -7,10 +7,10 @@ use Rattle.ddr_trace.specs.Text.{trace_text}
 use Rattle.ddr_world.specs.Events.{Submit, Take, End}
 use Rattle.ddr_world.specs.State.{State, opened}
 use Rattle.ddr_world.specs.Step.{Step, step}
-use Rattle.ddr_tool.specs.declared.fault.Fault.TheVariants.{ScriptLimit}
+use Rattle.ddr_text.specs.declared.fault.Fault.TheVariants.{ScriptLimit}
 use Rattle.ddr_tool.specs.Replies.{refused_text}
 use Rattle.ddr_tool.specs.Rounds.{Run, Course, stopped, ◌then◌, after, outstanding, round, rounds}
-use Rattle.ddr_tool.specs.Script.{Instruction, Ask, Rounds}
+use Rattle.ddr_text.specs.Script.{Instruction, Ask, Rounds}
 
 -- the most rounds of a run
 abbrev pub MOST_ROUNDS : ℕ

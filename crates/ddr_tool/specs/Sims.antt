@@ -2,14 +2,14 @@
 use Rattle.std.specs.Prelude.{◌≡◌, ℕ, Bool, true, false, nat_lt, List, ◌⊎◌, Option, Some, None, Result, Ok, Err}
 use Rattle.std.specs.Io.KnownBytes.{Appends}
 use Rattle.ddr_timing.specs.declared.config.Config.{Config}
-use Rattle.ddr_tool.specs.declared.fault.Fault.{Fault}
-use Rattle.ddr_tool.specs.declared.fault.Fault.TheVariants as faults
-use Rattle.ddr_tool.specs.Body.{HasInputFault, IsOpened, parts_of}
-use Rattle.ddr_tool.specs.Input.{IsText}
-use Rattle.ddr_tool.specs.Instructions.{form_of, instructions_of}
+use Rattle.ddr_text.specs.declared.fault.Fault.{Fault}
+use Rattle.ddr_text.specs.declared.fault.Fault.TheVariants as faults
+use Rattle.ddr_text.specs.Body.{HasInputFault, IsOpened, parts_of}
+use Rattle.ddr_text.specs.Input.{IsText}
+use Rattle.ddr_text.specs.Instructions.{form_of, instructions_of}
 use Rattle.ddr_tool.specs.Rounds.{Run, Course, Stopped}
 use Rattle.ddr_tool.specs.Runs.{run_of, written_by}
-use Rattle.ddr_tool.specs.Script.{Instruction}
+use Rattle.ddr_text.specs.Script.{Instruction}
 use Rattle.ddr_tool.specs.Simulated.{BeginsWith, printed_in}
 
 -- the channel that is named, if one is, is there

@@ -7,8 +7,8 @@ use Rattle.ddr_world.specs.Kept.{Kept, state_of}
 use Rattle.ddr_world.specs.State.{State}
 use Rattle.ddr_reorder.specs.Replies.{Answer}
 use Rattle.ddr_tool.specs.Replies.{reply_text}
-use Rattle.ddr_tool.specs.declared.fault.Fault.{Fault}
-use Rattle.ddr_tool.specs.declared.fault.Fault.TheVariants as faults
+use Rattle.ddr_text.specs.declared.fault.Fault.{Fault}
+use Rattle.ddr_text.specs.declared.fault.Fault.TheVariants as faults
 use Rattle.ddr_tool.specs.declared.simulation.Simulation.TheInside.{Inside}
 use Rattle.ddr_tool.specs.Rounds.{Run, Course, outstanding}
 

@@ -7,18 +7,18 @@ use Rattle.ddr_workers.specs.Closing.{AreMatched, IsClosed, Left}
 use Rattle.ddr_workers.specs.Open.{IsOpened as IsSystem}
 use Rattle.ddr_workers.specs.Port.{PortState}
 use Rattle.ddr_workers.specs.Worker.{WorkerState, WorkerEnded, IsEndOf}
-use Rattle.ddr_tool.specs.declared.fault.Fault.{Fault}
-use Rattle.ddr_tool.specs.declared.fault.Fault.TheVariants as faults
+use Rattle.ddr_text.specs.declared.fault.Fault.{Fault}
+use Rattle.ddr_text.specs.declared.fault.Fault.TheVariants as faults
 use Rattle.ddr_tool.specs.declared.flag.Stop.{Stop}
 use Rattle.ddr_tool.specs.declared.flag.Stop.TheVariants as stops
 use Rattle.ddr_tool.specs.declared.hosting.Hosted.{Hosted}
 use Rattle.ddr_tool.specs.declared.run.TheConstants.{RUN}
-use Rattle.ddr_tool.specs.Body.{HasInputFault, IsOpened, parts_of}
-use Rattle.ddr_tool.specs.Input.{IsText}
-use Rattle.ddr_tool.specs.Instructions.{form_of, instructions_of}
+use Rattle.ddr_text.specs.Body.{HasInputFault, IsOpened, parts_of}
+use Rattle.ddr_text.specs.Input.{IsText}
+use Rattle.ddr_text.specs.Instructions.{form_of, instructions_of}
 use Rattle.ddr_tool.specs.Outcome.{AreVerdicts, texts_of}
-use Rattle.ddr_tool.specs.Requests.{first_fault}
-use Rattle.ddr_tool.specs.Script.{Instruction}
+use Rattle.ddr_text.specs.Requests.{first_fault}
+use Rattle.ddr_text.specs.Script.{Instruction}
 use Rattle.ddr_tool.specs.Threads.{IsHostedFrom}
 
 -- why a run ends where a thread stopped

@@ -11,7 +11,7 @@ use Rattle.ddr_tool.specs.declared.threads.Seat.{Seat}
 use Rattle.ddr_tool.specs.declared.threads.Seat.TheVariants as seats
 use Rattle.ddr_tool.specs.declared.threads.Ended.{Ended}
 use Rattle.ddr_tool.specs.Hosting.{AreAsked, IsNewPort, asks_of, replies_text}
-use Rattle.ddr_tool.specs.Script.{Instruction}
+use Rattle.ddr_text.specs.Script.{Instruction}
 
 -- each port is a new one, with the number of its place
 abbrev pub AreNewPorts : List PortState → Type 0

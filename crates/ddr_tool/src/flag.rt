@@ -5,7 +5,7 @@
 ghost use Rattle.std.specs.Prelude.{◌≡◌};
 ghost use Rattle.ddr_tool.specs.declared.flag.Stop.TheVariants.{OutOfMemory};
 
-use crate::fault::Fault;
+use ddr_text::fault::Fault;
 use ddr_workers::OpenError;
 use ddr_workers::gate::{Gate, Turn};
 use std::alloc::{AllocError, AllocFailed};

@@ -1,19 +1,19 @@
 //! One port of a run, in a thread of its own: it asks for what the lines of its port say, keeps the text of the replies,
 //! and finishes.
 //!
-//! `script`, `reply`, `flag` and `ddr_workers` stand below; `threads` gives each port a thread.
+//! `reply`, `flag`, `ddr_text` and `ddr_workers` stand below; `threads` gives each port a thread.
 ghost use Rattle.std.specs.Prelude.{◌≡◌, [], ◌∷◌, if◌then◌else◌, IfOk, OnOk, map, string_bytes};
 ghost use Rattle.std.specs.Option.{option_map, option_to_list};
 ghost use Rattle.ddr_ports.specs.Asked.{asked_of};
 ghost use Rattle.ddr_workers.specs.Port.{IsEndOfPort};
 ghost use Rattle.ddr_tool.specs.Hosting.{AreAsked, HasAsked, HasFinished, IsNewPort, asked_at, asks_of, replies_text};
-ghost use Rattle.ddr_tool.specs.Script.{view};
+ghost use Rattle.ddr_text.specs.Script.{view};
 
 use crate::flag::{Flag, Stop};
 use crate::reply::reply_text;
-use crate::script::Instruction;
 use ddr_ports::refusal::PortError;
 use ddr_ports::request::Request;
+use ddr_text::script::Instruction;
 use ddr_workers::port::{PollAnswer, Port, PortEnd};
 use ddr_workers::refusal::{FinishError, SubmitError};
 use std::alloc::{AllocError, Global};

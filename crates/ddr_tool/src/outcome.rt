@@ -1,11 +1,11 @@
 //! What a run in threads prints once all threads ended: the replies of each port, and the verdict on each channel's trace.
 //!
-//! `check` and `hosting` stand below, and `run` above.
+//! `hosting` and `ddr_text` stand below, and `run` above.
 ghost use Rattle.std.specs.Prelude.{◌≡◌, ◌&&◌, IfOk, map, string_bytes};
 ghost use Rattle.ddr_tool.specs.Outcome.{AreVerdicts, channel_line, texts_of};
 
-use crate::check::{verdict, verdict_text};
 use crate::hosting::Hosted;
+use ddr_text::check::{verdict, verdict_text};
 use ddr_timing::config::Config;
 use ddr_trace::checker;
 use ddr_trace::trace::Trace;

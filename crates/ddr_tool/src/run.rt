@@ -1,21 +1,21 @@
 //! A run of a script in threads: bytes in, the replies of each port and a verdict on each channel's trace out.
 //!
-//! `input`, `body`, `instructions`, `requests`, `threads`, `outcome` and `writing` stand below, and `main` above.
+//! `threads`, `outcome` and `ddr_text` stand below, and `main` above.
 ghost use Rattle.std.specs.Prelude.{◌≡◌, IfErr, IfOk, IfSome, None, map, string_bytes};
-ghost use Rattle.ddr_tool.specs.Input.{IsText};
-ghost use Rattle.ddr_tool.specs.Script.{view};
+ghost use Rattle.ddr_text.specs.Input.{IsText};
+ghost use Rattle.ddr_text.specs.Script.{view};
 ghost use Rattle.ddr_tool.specs.Started.{AreChecked, HasRunFault, IsRan, IsThreaded};
 
-use crate::body::open;
-use crate::fault::Fault;
 use crate::flag::Stop;
-use crate::input::{read_input, text_of};
-use crate::instructions::{Form, instructions_of};
 use crate::outcome::{replies_of, verdicts_of};
-use crate::requests::check_requests;
-use crate::script::Instruction;
 use crate::threads::run_all;
-use crate::writing::write_whole;
+use ddr_text::body::open;
+use ddr_text::fault::Fault;
+use ddr_text::input::{read_input, text_of};
+use ddr_text::instructions::{Form, instructions_of};
+use ddr_text::requests::check_requests;
+use ddr_text::script::Instruction;
+use ddr_text::writing::write_whole;
 use ddr_timing::config::Config;
 use ddr_timing::profile::PROFILE_S;
 use ddr_workers::closing::{CloseError, all_ends_of_one_open};

@@ -1,16 +1,16 @@
 //! A run of a script: bytes in, replies or a trace out.
 //!
-//! `input`, `body`, `instructions`, `simulation` and `writing` stand below, and `main` above.
+//! `simulation` and `ddr_text` stand below, and `main` above.
 ghost use Rattle.std.specs.Prelude.{◌≡◌, IsTrue, IfErr, IfSome, OnOk};
-ghost use Rattle.ddr_tool.specs.Fault.{is_before_output};
+ghost use Rattle.ddr_text.specs.Fault.{is_before_output};
 ghost use Rattle.ddr_tool.specs.Sims.{HasSimFault, IsRun, has_channel};
 
-use crate::body::open;
-use crate::fault::Fault;
-use crate::input::{read_input, text_of};
-use crate::instructions::{Form, instructions_of};
 use crate::simulation::Simulation;
-use crate::writing::flush;
+use ddr_text::body::open;
+use ddr_text::fault::Fault;
+use ddr_text::input::{read_input, text_of};
+use ddr_text::instructions::{Form, instructions_of};
+use ddr_text::writing::flush;
 use ddr_timing::config::Config;
 use ddr_timing::profile::PROFILE_S;
 use std::alloc::Global;

@@ -1,6 +1,6 @@
 //! A run of a script over the core: its instructions, its rounds and its Ends.
 //!
-//! `script`, `reply`, `writing` and `ddr_world` stand below, and `sim` above.
+//! `reply`, `ddr_text` and `ddr_world` stand below, and `sim` above.
 ghost use Rattle.std.specs.Prelude.{◌≡◌, ◌==◌, ◌+◌, ◌-◌, ◌<◌, ◌≤◌, ◌^◌, ◌⊎◌, [], true, IfErr, IfOk, IsTrue, OnOk, Ok, Some, map};
 ghost use Rattle.std.specs.Io.KnownBytes.{Appends};
 ghost use Rattle.ddr_ports.specs.Asked.{asked_of};
@@ -10,14 +10,14 @@ ghost use Rattle.ddr_world.specs.History.{front_of};
 ghost use Rattle.ddr_world.specs.Kept.{state_of};
 ghost use Rattle.ddr_tool.specs.Rounds.{channel_served, channels_served, outstanding, port_served, ports_served, round, rounds, until_refused};
 ghost use Rattle.ddr_tool.specs.Runs.{all_followed, begun, channel_text, channels_ended, drained, followed, ports_ended, submitted, whole};
-ghost use Rattle.ddr_tool.specs.Script.{view};
+ghost use Rattle.ddr_text.specs.Script.{view};
 ghost use Rattle.ddr_tool.specs.Simulated.{IsCycleFault, IsFrontPrinted, IsSameRun, Leads, added, is_popping, run_at};
 
-use crate::fault::Fault;
 use crate::reply::{refused_text, reply_text};
-use crate::script::Instruction;
-use crate::writing::write_text;
 use ddr_ports::request::Request;
+use ddr_text::fault::Fault;
+use ddr_text::script::Instruction;
+use ddr_text::writing::write_text;
 use ddr_timing::config::Config;
 use ddr_trace::text::write_trace;
 use ddr_world::event::{Event, Outcome, Refusal};

@@ -1,22 +1,19 @@
 //! Whole runs of commands, their faults, and readers and writers that fail. Most are tables of inputs, with what a
 //! command writes of each and how it ends.
-mod body;
 mod chance;
 mod check;
 mod configurations;
 mod devices;
 mod faults;
-mod job;
 mod map;
 mod ports;
 mod rows;
-mod texts;
 mod threaded;
 
-use crate::check::check;
-use crate::fault::Fault;
-use crate::map::map;
 use crate::sim::sim;
+use ddr_text::check::check;
+use ddr_text::fault::Fault;
+use ddr_text::map::map;
 use ddr_timing::profile::PROFILE_S;
 use std::alloc::{AllocError, Global};
 use std::io::{Read, Write};

@@ -4,12 +4,12 @@
 ghost use Rattle.std.specs.Prelude.{◌≡◌, ◌++◌, ◌<◌, ◌^◌, ℕ, IfOk, OnOk, Some, length, map, slice_get, slice_index_or};
 ghost use Rattle.std.specs.List.{filter_map, fold};
 ghost use Rattle.std.specs.Option.{option_to_list};
-ghost use Rattle.ddr_tool.specs.Script.{view};
+ghost use Rattle.ddr_text.specs.Script.{view};
 ghost use Rattle.ddr_tool.specs.Threads.{AreEnded, AreNewPorts, IsNewSeat, Serves, cause_after, ended_in, first_cause, hosted_in, port_seats, seats_of, stop_in};
 
 use crate::flag::{Flag, Stop, Watch};
 use crate::hosting::{Hosted, run_port};
-use crate::script::Instruction;
+use ddr_text::script::Instruction;
 use ddr_workers::port::Port;
 use ddr_workers::worker::{Cause, Worker, WorkerEnd};
 use std::alloc::{AllocError, Global};

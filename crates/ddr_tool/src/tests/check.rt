@@ -1,6 +1,6 @@
 //! Verdicts on traces, with the faults that hand calculation gives for the sample configuration.
 use super::{Command, ends_so, is_refused, is_so, perform};
-use crate::fault::Fault;
+use ddr_text::fault::Fault;
 use std::test::Fail;
 
 const HEADER: &str = "cycle,cmd,rank,group,bank,row,col\n";

@@ -1,6 +1,6 @@
 //! Runs on other configurations than the sample, and traces of channels.
 use super::{Command, Configured, all_write, all_write_in, ends_so, is_refused};
-use crate::fault::Fault;
+use ddr_text::fault::Fault;
 use std::test::Fail;
 
 /// The write waits 7 for RCD, the read 3 + 4 + 4 for the write's data and the turn, and is complete 6 + 4 later.

@@ -1,7 +1,7 @@
 //! Readers and writers over memory: one that never ends, and ones that fail at a call.
 use super::{Command, REPLIES, TRACE, WRITE_THEN_READ, end_of, is_so};
-use crate::fault::Fault;
 use crate::run::run;
+use ddr_text::fault::Fault;
 use std::alloc::{AllocError, Global};
 use std::io;
 use std::io::{ErrorKind, Read, Write};

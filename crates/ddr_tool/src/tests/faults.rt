@@ -1,6 +1,6 @@
 //! Inputs that are at fault: each with its fault, and with nothing written.
 use super::{Command, is_refused};
-use crate::fault::Fault;
+use ddr_text::fault::Fault;
 use std::alloc::{AllocError, Global};
 use std::process::Abort;
 use std::test::Fail;

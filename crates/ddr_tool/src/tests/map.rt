@@ -1,6 +1,6 @@
 //! Maps of addresses, with the places that hand calculation gives.
 use super::{Command, Configured, all_write, all_write_in, ends_so, is_refused};
-use crate::fault::Fault;
+use ddr_text::fault::Fault;
 use std::alloc::{AllocError, Global};
 use std::process::Abort;
 use std::test::Fail;

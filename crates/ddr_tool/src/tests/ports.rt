@@ -1,6 +1,6 @@
 //! Scripts of several ports and channels, refusals, masks and rounds, with what hand calculation gives.
 use super::{Command, Configured, all_write, all_write_in, ends_so, is_so, perform};
-use crate::fault::Fault;
+use ddr_text::fault::Fault;
 use std::alloc::Global;
 use std::test::Fail;
 

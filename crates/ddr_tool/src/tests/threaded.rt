@@ -1,7 +1,7 @@
 //! Runs in threads: what they write, and their faults.
 use super::is_so;
-use crate::fault::{Fault, RequestError};
 use crate::run::run;
+use ddr_text::fault::{Fault, RequestError};
 use std::alloc::Global;
 use std::sync::Wait;
 use std::test::Fail;

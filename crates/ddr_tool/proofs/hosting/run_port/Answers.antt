@@ -2,7 +2,7 @@ use Rattle.std.proofs.Common.{map, subst}
 use Rattle.std.proofs.lemmas.Result.{IfOk-weaker}
 use Rattle.ddr_workers.specs.Port.{PortState}
 use Rattle.ddr_tool.specs.Hosting.{HasAsked, asks_of}
-use Rattle.ddr_tool.specs.Script.{view}
+use Rattle.ddr_text.specs.Script.{view}
 use Rattle.ddr_tool.proofs.HostLemmas.{asked_whole}
 use Rattle.ddr_tool.proofs.hosting.run_port.Goals as goal
 

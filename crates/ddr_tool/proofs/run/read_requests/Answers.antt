@@ -1,8 +1,8 @@
 use Rattle.std.proofs.Common.{None, Vec, Global, map}
 use Rattle.std.proofs.lemmas.Result.{err_from_is_err_and}
 use Rattle.ddr_timing.specs.declared.profile.TheConstants.{PROFILE_S}
-use Rattle.ddr_tool.specs.declared.script.Instruction as kept
-use Rattle.ddr_tool.specs.Script.{view}
+use Rattle.ddr_text.specs.declared.script.Instruction as kept
+use Rattle.ddr_text.specs.Script.{view}
 use Rattle.ddr_tool.proofs.StartLemmas.{checked, no_requests, not_taken}
 use Rattle.ddr_tool.proofs.run.read_requests.Goals as goal
 

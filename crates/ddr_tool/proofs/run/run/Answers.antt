@@ -3,9 +3,9 @@ use Rattle.std.proofs.Common.{List, None, map, subst, string_bytes, ◌∙◌}
 use Rattle.std.proofs.lemmas.Result.{err_from_is_err_and}
 use Rattle.std.specs.Io.KnownBytes.{Appends}
 use Rattle.ddr_timing.specs.declared.profile.TheConstants.{PROFILE_S}
-use Rattle.ddr_tool.specs.declared.fault.Fault.TheVariants as faults
-use Rattle.ddr_tool.specs.declared.script.Instruction as kept
-use Rattle.ddr_tool.specs.Script.{view}
+use Rattle.ddr_text.specs.declared.fault.Fault.TheVariants as faults
+use Rattle.ddr_text.specs.declared.script.Instruction as kept
+use Rattle.ddr_text.specs.Script.{view}
 use Rattle.ddr_tool.specs.Started.{HasChecked, HasRunFault, IsRan, IsThreaded, stop_fault}
 use Rattle.ddr_tool.proofs.StartLemmas.{of_input, stopped}
 use Rattle.ddr_tool.proofs.run.run.Goals as goal

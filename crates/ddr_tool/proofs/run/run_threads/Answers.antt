@@ -5,7 +5,7 @@ use Rattle.ddr_workers.specs.Closing.{IsClosed, Left}
 use Rattle.ddr_workers.specs.Port.{PortEnded}
 use Rattle.ddr_tool.specs.declared.run.TheConstants.{RUN}
 use Rattle.ddr_tool.specs.Outcome.{AreVerdicts}
-use Rattle.ddr_tool.specs.Script.{view}
+use Rattle.ddr_text.specs.Script.{view}
 use Rattle.ddr_tool.proofs.OutcomeLemmas.{complete, new_ports}
 use Rattle.ddr_tool.proofs.run.run_threads.Goals as goal
 

@@ -2,10 +2,10 @@
 use Rattle.std.proofs.Common.{Ok, Err, List, Vec, Global, true, map, ap, sym, subst, ◌∙◌}
 use Rattle.std.proofs.lemmas.Result.{err_from_is_err_and}
 use Rattle.ddr_timing.specs.declared.profile.TheConstants.{PROFILE_S}
-use Rattle.ddr_tool.specs.Input.{IsText}
-use Rattle.ddr_tool.specs.Instructions.{form_of, instructions_of}
-use Rattle.ddr_tool.specs.declared.script.Instruction as kept
-use Rattle.ddr_tool.specs.Script.{view}
+use Rattle.ddr_text.specs.Input.{IsText}
+use Rattle.ddr_text.specs.Instructions.{form_of, instructions_of}
+use Rattle.ddr_text.specs.declared.script.Instruction as kept
+use Rattle.ddr_text.specs.Script.{view}
 use Rattle.ddr_tool.proofs.RunLemmas.{came_to, end_fault, flush_fault, late_untouched, names_no_channel, no_script, replies_written, run_fault, said_by, trace_written}
 use Rattle.ddr_tool.proofs.sim.sim.Goals.{in-None+in_ok-flush-in-None, in-Some+in_ok-write_trace-in-Some}
 use Rattle.ddr_tool.proofs.sim.sim.Goals as goal

@@ -4,7 +4,7 @@ use Rattle.ddr_workers.specs.Closing.{AreMatched}
 use Rattle.ddr_workers.specs.Worker.{WorkerEnded, IsEndOf}
 use Rattle.ddr_tool.specs.declared.hosting.Hosted.{Hosted}
 use Rattle.ddr_tool.specs.declared.threads.Seat.{Seat}
-use Rattle.ddr_tool.specs.Script.{view}
+use Rattle.ddr_text.specs.Script.{view}
 use Rattle.ddr_tool.specs.Threads.{IsHostedFrom, IsNewSeat, Serves, first_cause, seats_of, stop_in}
 use Rattle.ddr_tool.proofs.ThreadLemmas.{all_ended, new_seats, none_stopped, served_back}
 use Rattle.ddr_tool.proofs.threads.run_all.Goals as goal

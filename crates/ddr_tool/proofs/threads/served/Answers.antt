@@ -1,6 +1,6 @@
 use Rattle.std.proofs.Common.{map, sym, subst}
 use Rattle.ddr_tool.specs.declared.threads.Seat.TheVariants as seats
-use Rattle.ddr_tool.specs.Script.{view}
+use Rattle.ddr_text.specs.Script.{view}
 use Rattle.ddr_tool.specs.Threads.{IsNewSeat, Serves}
 use Rattle.ddr_tool.proofs.ThreadLemmas.{hosted_from}
 use Rattle.ddr_tool.proofs.threads.served.Goals as goal

@@ -1,7 +1,7 @@
 use Rattle.std.proofs.Common.{map, take, subst, sym}
 use Rattle.std.specs.Option.{option_to_list}
 use Rattle.ddr_tool.specs.Hosting.{HasAsked, asked_at, asks_of}
-use Rattle.ddr_tool.specs.Script.{view}
+use Rattle.ddr_text.specs.Script.{view}
 use Rattle.ddr_tool.proofs.HostLemmas.{asked_next, asked_none, taken_at}
 use Rattle.ddr_tool.proofs.hosting.Host.ask_all.Goals as goal
 

@@ -1,6 +1,6 @@
 use Rattle.std.proofs.Common.{map, take}
 use Rattle.ddr_tool.specs.Hosting.{HasAsked, asks_of}
-use Rattle.ddr_tool.specs.Script.{view}
+use Rattle.ddr_text.specs.Script.{view}
 use Rattle.ddr_tool.proofs.hosting.Host.ask_all.Given as goal
 
 abbrev pub invariant-loop-instruction : goal.invariant-loop-instruction

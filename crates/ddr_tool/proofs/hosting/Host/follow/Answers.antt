@@ -2,7 +2,7 @@ use Rattle.std.proofs.Common.{subst, ap, ◌∙◌}
 use Rattle.std.specs.Option.{option_to_list}
 use Rattle.ddr_workers.specs.Port.{PortState}
 use Rattle.ddr_tool.specs.Hosting.{HasAsked, asked_at}
-use Rattle.ddr_tool.specs.Script.{view}
+use Rattle.ddr_text.specs.Script.{view}
 use Rattle.ddr_tool.proofs.HostLemmas.{asked_none}
 use Rattle.ddr_tool.proofs.hosting.Host.follow.Goals as goal
 

@@ -3,7 +3,7 @@ use Rattle.std.proofs.Common.{Ok, Err, ◌+◌, map, drop, arith, subst, ◌∙�
 use Rattle.std.proofs.lemmas.Result.{err_from_is_err_and}
 use Rattle.ddr_timing.specs.declared.config.Config.{Config}
 use Rattle.ddr_tool.specs.Runs.{all_followed, followed}
-use Rattle.ddr_tool.specs.Script.{view}
+use Rattle.ddr_text.specs.Script.{view}
 use Rattle.ddr_tool.specs.Simulated.{Leads, run_at}
 use Rattle.ddr_tool.proofs.Courses.{followed_end, followed_turn, onward_end, onward_stop, onward_turn}
 use Rattle.ddr_tool.proofs.Growth.{all_followed_grow}

@@ -1,6 +1,6 @@
 use Rattle.std.proofs.Common.{◌≡◌, ◌≤◌, drop, map}
 use Rattle.ddr_tool.specs.Runs.{all_followed}
-use Rattle.ddr_tool.specs.Script.{view}
+use Rattle.ddr_text.specs.Script.{view}
 use Rattle.ddr_tool.proofs.Courses.{Onward}
 use Rattle.ddr_tool.proofs.simulation.Simulation.follow_all.Given as goal
 

@@ -3,7 +3,7 @@ use Rattle.std.proofs.Common.{Ok, map}
 use Rattle.std.proofs.lemmas.Result.{err_from_is_err_and}
 use Rattle.ddr_tool.specs.Rounds.{◌then◌}
 use Rattle.ddr_tool.specs.Runs.{all_followed, drained, ended}
-use Rattle.ddr_tool.specs.Script.{view}
+use Rattle.ddr_text.specs.Script.{view}
 use Rattle.ddr_tool.proofs.Courses.{leads_stop}
 use Rattle.ddr_tool.proofs.Growth.{drained_grows, ended_grows}
 use Rattle.ddr_tool.proofs.simulation.Simulation.run.Goals as goal

@@ -1,5 +1,5 @@
 use Rattle.std.proofs.Common.{map, subst}
-use Rattle.ddr_tool.specs.Script.{view}
+use Rattle.ddr_text.specs.Script.{view}
 use Rattle.ddr_tool.specs.Threads.{Serves}
 use Rattle.ddr_tool.proofs.threads.fn.run_seats.for_each_mut.Goals as goal
 

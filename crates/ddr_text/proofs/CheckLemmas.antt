@@ -1,0 +1,65 @@
+-- What was read and opened says which trace stands in it.
+use Rattle.std.proofs.Common.{◌≡◌, Bool, true, false, List, ℕ, Option, Some, None, Result, Ok, Err, IfSome, refl, sym, subst}
+use Rattle.std.specs.Prelude.{is_some, not}
+use Rattle.std.specs.Io.KnownBytes.{Appends}
+use Rattle.ddr_text.specs.Input.{IsText}
+use Rattle.ddr_timing.specs.declared.config.Config.{Config}
+use Rattle.ddr_trace.specs.declared.checker.Fault as checker
+use Rattle.ddr_trace.specs.declared.text.TraceError.{TraceError}
+use Rattle.ddr_trace.specs.declared.text.TraceError.TheVariants as error
+use Rattle.ddr_trace.specs.Reader.{IsAnswer, records_in, trace_of}
+use Rattle.ddr_trace.proofs.RefusalLemmas.{NotWrite}
+use Rattle.ddr_trace.specs.Traces.{Recorded}
+use Rattle.ddr_text.specs.declared.fault.Fault.{Fault}
+use Rattle.ddr_text.specs.declared.fault.Fault.TheVariants as faults
+use Rattle.ddr_text.specs.Body.{IsOpened, parts_of}
+use Rattle.ddr_text.specs.Check.{HasCheckFault, IsChecked, IsVerdict, SaysTrace, verdict_text}
+use Rattle.ddr_text.specs.Fault.{trace_fault_of}
+
+-- what was read and opened says what the body's records say
+pub trace_said : (remaining : Option (List ℕ)) (items text profile : List ℕ) (sample : Bool) (config : Config) (body : List ℕ) (said : Result Recorded TraceError) → IfSome remaining (λ bytes. items ≡ bytes) → text ≡ items → IsText items → IsOpened (parts_of sample profile text) config body → trace_of (records_in body) ≡ said
+    → IfSome remaining (λ input. SaysTrace sample profile input config said)
+trace_said None items text profile sample config body said known same is_text opened read = tt
+trace_said (Some input) items text profile sample config body said known same is_text opened read =
+    subst (λ i. SaysTrace sample profile i config said) known (record {
+      text = is_text;
+      body = body;
+      opened = subst (λ t. IsOpened (parts_of sample profile t) config body) same opened;
+      read = read;
+    })
+
+-- the fault of a body that is refused
+pub trace_fault : (remaining : Option (List ℕ)) (profile : List ℕ) (sample : Bool) (config : Config) (refusal : TraceError) (said : Result Recorded TraceError) → NotWrite said → IsAnswer said (Err refusal) → ((other : Result Recorded TraceError) → said ≡ other → IfSome remaining (λ input. SaysTrace sample profile input config other)) → IfSome remaining (λ input. HasCheckFault sample profile input (trace_fault_of refusal))
+unfolding NotWrite
+trace_fault None profile sample config refusal said other_than answer says = tt
+trace_fault (Some input) profile sample config error.Read said other_than answer says = tt
+trace_fault (Some input) profile sample config error.Write said other_than answer says = absurd (subst NotWrite (sym answer) other_than)
+trace_fault (Some input) profile sample config error.OutOfMemory said other_than answer says = tt
+trace_fault (Some input) profile sample config error.Header said other_than answer says = (config, says (Err error.Header) (sym answer))
+trace_fault (Some input) profile sample config (error.Row line) said other_than answer says = (config, says (Err (error.Row line)) (sym answer))
+trace_fault (Some input) profile sample config (error.Order line) said other_than answer says = (config, says (Err (error.Order line)) (sym answer))
+trace_fault (Some input) profile sample config error.Truncated said other_than answer says = (config, says (Err error.Truncated) (sym answer))
+trace_fault (Some input) profile sample config error.TooLong said other_than answer says = (config, says (Err error.TooLong) (sym answer))
+
+turned : (some legal : Bool) → some ≡ not legal → legal ≡ not some
+turned some true e = rw e refl
+turned some false e = rw e refl
+
+-- what was written is the verdict
+pub trace_checked : (remaining : Option (List ℕ)) (profile : List ℕ) (sample : Bool) (config : Config) (trace : Recorded) (verdict : Option checker.Fault) (legal : Bool) (text : List ℕ) (old new : Option (List ℕ)) → IfSome remaining (λ input. SaysTrace sample profile input config (Ok trace)) → IsVerdict config trace verdict → text ≡ verdict_text verdict → Appends old new text → is_some verdict ≡ not legal
+    → IfSome remaining (λ input. IsChecked sample profile input legal old new)
+trace_checked None profile sample config trace verdict legal text old new says first same written answered = tt
+trace_checked (Some input) profile sample config trace verdict legal text old new says first same written answered = record {
+  config = config;
+  trace = trace;
+  says = says;
+  verdict = verdict;
+  first = first;
+  written = subst (λ t. Appends old new t) same written;
+  answered = turned (is_some verdict) legal answered;
+}
+
+-- a verdict that was not written
+pub verdict_unwritten : (remaining : Option (List ℕ)) (profile : List ℕ) (sample : Bool) (config : Config) (trace : Recorded) (fault : Fault) → fault ≡ faults.Write → IfSome remaining (λ input. SaysTrace sample profile input config (Ok trace)) → IfSome remaining (λ input. HasCheckFault sample profile input fault)
+verdict_unwritten None profile sample config trace fault e says = tt
+verdict_unwritten (Some input) profile sample config trace fault e says = rw e (config, trace, says)

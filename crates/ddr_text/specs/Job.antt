@@ -1,0 +1,92 @@
+-- The command line of the program, and the job that its words state.
+use Rattle.std.specs.Prelude.{◌≡◌, ℕ, Bool, true, false, ◌||◌, nat_lt, if◌then◌else◌, List, [], ◌∷◌, length, codes, pos, IfSome, Option, Some, None, option_map, Result, Ok, Err}
+use Rattle.std.specs.Option.{option_map_or}
+use Rattle.std.specs.Str.{bytes_eq}
+use Rattle.std.specs.Str.Parse.{digits_value, without_leading_plus}
+use Rattle.clap.specs.Facts.{parser_of_value}
+use Rattle.clap.specs.Simple.{filled}
+use Rattle.clap.specs.ValueTests.{accepts}
+use Rattle.clap.specs.Walk.{reading_by}
+use Rattle.clap.specs.Words.{App, HasKind, Kinds, Row, Rule, Text, fault_of, kind_of, new_app, new_rule, one_of, read_as, subcommand_of, with_rule, with_subcommand}
+use Rattle.clap.specs.declared.builder.ArgAction.TheVariants.{SetTrue}
+use Rattle.clap.specs.declared.builder.value_parser.ValueParser.TheVariants as parser
+use Rattle.clap.specs.declared.error.Error.{Error}
+use Rattle.clap.specs.declared.error.kind.ErrorKind.TheVariants.{OutOfMemory}
+use Rattle.ddr_text.specs.declared.job.Job.{Job}
+use Rattle.ddr_text.specs.declared.job.Job.TheVariants.{Sim, Run, Check, Map}
+
+-- the flag `--sample`
+abbrev pub sample_rule : Rule
+sample_rule = record (new_rule (codes "sample")) { long = Some (codes "sample"); action = Some SetTrue }
+
+-- the option `--trace`, whose value is below 2^32
+abbrev pub trace_rule : Rule
+trace_rule = record (new_rule (codes "trace")) {
+  long = Some (codes "trace");
+  value_names = 1;
+  parser = Some (parser.Signed (pos 0) (pos 4294967295));
+}
+
+-- a subcommand with the flag
+abbrev pub with_sample : Text → App
+with_sample name = with_rule (new_app name) sample_rule
+
+-- the program's name, which a subcommand has to follow
+abbrev pub name_alone : App
+name_alone = let app = new_app (codes "ddr") in
+    record app { top = record app.top { subcommand_required = true; disable_help_subcommand = true } }
+
+-- the command line: one of four subcommands
+unfoldable pub ddr_app : App
+ddr_app =
+    let sim = with_subcommand name_alone (with_rule (with_sample (codes "sim")) trace_rule).top in
+    let run = with_subcommand sim (with_sample (codes "run")).top in
+    let check = with_subcommand run (with_sample (codes "check")).top in
+    with_subcommand check (with_sample (codes "map")).top
+
+-- whether the flag was used
+abbrev pub is_sample : List Row → Bool
+is_sample options = option_map_or (λ text. bytes_eq text (codes "true")) (one_of (codes "sample") options) false
+
+-- the channel of the option, if that was used
+abbrev pub channel_of : List Row → Option ℕ
+channel_of options = option_map (λ text. digits_value 10 (without_leading_plus text)) (one_of (codes "trace") options)
+
+-- the text is that of a value that the rule's parser takes
+abbrev pub IsTaken : Rule → Text → Type 0
+IsTaken rule text = (value : Text) × (text ≡ read_as (reading_by rule) value)
+    × (accepts rule.ignore_case (parser_of_value rule.parser) value ≡ true)
+
+-- the options have only texts that their parsers take, as `clap` reads no others
+pub record AreTaken (options : List Row) : Type 0 where
+  pub sample : IfSome (one_of (codes "sample") options) (IsTaken (filled sample_rule))
+  pub trace : IfSome (one_of (codes "trace") options) (IsTaken (filled trace_rule))
+
+abbrev pub is_subcommand : Text → Bool
+is_subcommand name = bytes_eq name (codes "sim") || bytes_eq name (codes "run") || bytes_eq name (codes "check") || bytes_eq name (codes "map")
+
+-- the job of a subcommand with these options
+abbrev pub job_with : Text → List Row → Job
+job_with name options =
+    if bytes_eq name (codes "sim") then Sim (is_sample options) (channel_of options)
+    else if bytes_eq name (codes "run") then Run (is_sample options)
+    else if bytes_eq name (codes "check") then Check (is_sample options)
+    else Map (is_sample options)
+
+-- the kinds of error that the command line gives at the words, and where it gives none the job; a subcommand is required
+abbrev pub job_or : Kinds → Option (Text × List Row) → Result Job Kinds
+job_or [] None = Err []
+job_or [] (Some subcommand) = Ok (job_with subcommand.0 subcommand.1)
+job_or (kind ∷ kinds) subcommand = Err (kind ∷ kinds)
+
+-- the job that the words state, or the kinds of error that they may give; the first word is the program's name
+unfoldable pub job_of : List Text → Result Job Kinds
+job_of words =
+    if nat_lt (length words) 2 then Ok (Sim true None)
+    else job_or (fault_of ddr_app words) (subcommand_of ddr_app words)
+
+-- what is answered is what was said; an error has one of the kinds, unless memory ran out
+abbrev pub Answers : {X : Type 0} → Result X Error → Result X Kinds → Type 0
+Answers (Ok x) said = said ≡ Ok x
+Answers (Err error) (Ok x) = kind_of error ≡ OutOfMemory
+Answers (Err error) (Err kinds) = HasKind kinds error

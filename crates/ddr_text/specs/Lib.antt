@@ -1,0 +1,11 @@
+pub mod Body
+pub mod Check
+pub mod Ending
+pub mod Fault
+pub mod Input
+pub mod Instructions
+pub mod Job
+pub mod Lines
+pub mod MapText
+pub mod Requests
+pub mod Script

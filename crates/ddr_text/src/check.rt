@@ -1,0 +1,82 @@
+//! Whether a trace is legal: a configuration and a trace's text in, a verdict out.
+//!
+//! `input`, `body`, `writing`, `ddr_legality` and `ddr_trace` stand below, and the program above.
+ghost use Rattle.std.specs.Prelude.{◌≡◌, IfErr, IfOk, IfSome, IsErrOf, IsTrue, string_bytes};
+ghost use Rattle.ddr_trace.specs.declared.checker.Fault as checker;
+ghost use Rattle.ddr_text.specs.Check.{HasCheckFault, IsChecked, IsVerdict, verdict_text};
+ghost use Rattle.ddr_text.specs.Fault.{is_before_output};
+
+use crate::body::open;
+use crate::fault::Fault;
+use crate::input::{read_input, text_of};
+use crate::writing::write_whole;
+use ddr_legality::checker::first_fault;
+use ddr_timing::config::Config;
+use ddr_timing::profile::PROFILE_S;
+use ddr_trace::checker;
+use ddr_trace::reader::read_trace;
+use ddr_trace::trace::Trace;
+use std::alloc::{AllocError, Global};
+use std::io::{Read, Write};
+
+/// Reads a trace, and writes `legal`, or `fault PLACE RULE` for its first fault; answers whether it is legal. It
+/// is legal where it breaks no rule, the two on refresh among them.
+///
+/// With `sample` the whole input is the trace's text, on the sample configuration; else the input is a
+/// configuration, a line `---` and the text. A place counts the commands from 0, and is their number where the
+/// trace's end is at fault.
+///
+/// Fails as `open` does, and by the fault that comes first in the trace's text. Nothing is written before the
+/// verdict is there, so only `Write` may leave a part of it.
+pub fn check<R: Read, W: Write>(
+    alloc: Global,
+    sample: bool,
+    reader: &mut R,
+    writer: &mut W,
+) -> Result<bool, Fault>
+    ensures untouched { IfErr result (λ fault. IsTrue (is_before_output fault) → writer.new ≡ writer.old) }
+    ensures spared { IsErrOf result Fault.OutOfMemory → writer.new ≡ writer.old }
+    ensures fault { IfErr result (λ fault. IfSome (R.remaining reader.old) (λ input.
+        HasCheckFault sample PROFILE_S.now input fault)) }
+    ensures written { IfOk result (λ legal. IfSome (R.remaining reader.old) (λ input.
+        IsChecked sample PROFILE_S.now input legal (W.contents writer.old) (W.contents writer.new))) }
+{
+    let input = read_input(alloc, reader)?;
+    let text = text_of(input.as_slice())?;
+    let (config, body) = open(alloc, sample, text)?;
+    let trace = read_trace(alloc, body.as_bytes())?;
+    let fault = verdict(alloc, &config, &trace)?;
+    let line = verdict_text(alloc, fault)?;
+    write_whole(writer, line.as_str())?;
+    Ok(fault.is_none())
+}
+
+/// The first fault of the trace.
+pub fn verdict(
+    alloc: Global,
+    config: &Config,
+    trace: &Trace,
+) -> Result<Option<checker::Fault>, AllocError>
+    ensures { IfOk result (λ fault. IsVerdict config.now trace.entry.now fault) }
+{
+    first_fault(
+        alloc,
+        trace.entries.as_slice(),
+        config,
+        trace.start,
+        trace.end,
+    )
+}
+
+/// The line of a verdict, with its line feed.
+#[tactic(auto, unfolding(crate::specs::Check::verdict_text))]
+pub fn verdict_text(alloc: Global, fault: Option<checker::Fault>) -> Result<String, AllocError>
+    ensures { IfOk result (λ text. string_bytes text ≡ verdict_text fault) }
+{
+    let Some(fault) = fault else {
+        return String::from_str(alloc, "legal\n");
+    };
+    let place = fault.place;
+    let rule = fault.rule.name();
+    format!(in alloc; "fault {place} {rule}\n")
+}

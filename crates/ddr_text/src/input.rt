@@ -1,0 +1,65 @@
+//! The whole input as a text.
+//!
+//! `fault` stands below; every command reads its input by this.
+ghost use Rattle.std.specs.Prelude.{◌≡◌, ◌+◌, ◌<◌, ◌≤◌, ◌⊎◌, ◌++◌, IfOk, IfErr, IfSome, IsErrOf, OnOk, length, vec_len};
+ghost use Rattle.ddr_text.specs.Input.{IsNoText, IsText, IsTooLong};
+
+use crate::fault::Fault;
+use std::alloc::Global;
+use std::io::{ErrorKind, Read};
+use std::str;
+
+/// The most bytes that an input has, this project's choice.
+pub const LONGEST_INPUT: usize = 16_777_216;
+
+/// How many bytes are asked for at a time.
+const CHUNK_BYTES: usize = 8192;
+
+/// All that the reader gives, to its end.
+///
+/// Fails as `InputTooLong` once it has given more than `LONGEST_INPUT` bytes, and asks for no more then, so
+/// a reader that never ends is one of these; as `Read` where the reader fails, but for an interruption,
+/// which is tried again; and as `OutOfMemory`.
+#[tactic(auto, using(crate::proofs::Inputs::all_taken, crate::proofs::Inputs::more_taken))]
+pub fn read_input<R: Read>(alloc: Global, reader: &mut R) -> Result<Vec<u8>, Fault>
+    ensures all { IfOk result (λ v. IfSome (R.remaining reader.old) (λ bytes. v.items ≡ bytes)) }
+    ensures short { IfOk result (λ v. length v.items ≤ LONGEST_INPUT) }
+    ensures long { IsErrOf result Fault.InputTooLong → IfSome (R.remaining reader.old) IsTooLong }
+    ensures refused { IfErr result (λ fault. (fault ≡ Fault.InputTooLong) ⊎ (fault ≡ Fault.Read) ⊎ (fault ≡ Fault.OutOfMemory)) }
+{
+    let mut input = Vec::new(alloc);
+    let mut chunk = [0; CHUNK_BYTES];
+    for _turn in 0..u64::MAX {
+        match reader.read(&mut chunk) {
+            Ok(0) => return Ok(input),
+            Ok(count) => push_chunk(&mut input, &chunk[..count])?,
+            Err(error) if error.kind() == ErrorKind::Interrupted => {}
+            Err(_) => return Err(Fault::Read),
+        }
+    }
+    Err(Fault::Read)
+}
+
+/// Adds the bytes to the input, where it does not grow too long.
+fn push_chunk(input: &mut Vec<u8>, bytes: &[u8]) -> Result<(), Fault>
+    requires { vec_len input.old ≤ LONGEST_INPUT }
+    ensures items { OnOk result (input.new.items ≡ input.old.items ++ bytes.now) }
+    ensures short { OnOk result (vec_len input.new ≤ LONGEST_INPUT) }
+    ensures long { IsErrOf result Fault.InputTooLong → LONGEST_INPUT < vec_len input.old + length bytes.now }
+    ensures refused { IfErr result (λ fault. (fault ≡ Fault.InputTooLong) ⊎ (fault ≡ Fault.OutOfMemory)) }
+{
+    if bytes.len() > LONGEST_INPUT - input.len() {
+        return Err(Fault::InputTooLong);
+    }
+    input.extend_from_slice(bytes)?;
+    Ok(())
+}
+
+/// The text that the bytes of a whole input encode. Fails as `InputNotUtf8` where they encode none.
+pub fn text_of(bytes: &[u8]) -> Result<&str, Fault>
+    requires { length bytes.now ≤ LONGEST_INPUT }
+    ensures text { IfOk result (λ text. (text.now ≡ bytes.now) × IsText bytes.now) }
+    ensures refused { IfErr result (λ fault. (fault ≡ Fault.InputNotUtf8) × IsNoText bytes.now) }
+{
+    str::from_utf8(bytes).map_err(|_| Fault::InputNotUtf8)
+}

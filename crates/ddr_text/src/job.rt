@@ -1,0 +1,179 @@
+//! What the command line asks for.
+//!
+//! `help` and `clap` stand below, and the program above.
+ghost use Rattle.std.specs.Prelude.{◌≡◌, ◌≤◌, IfOk, IsTrue, None, Ok, codes, false, length, map, true};
+ghost use Rattle.clap.specs.Words.{app_of, found_of, rows_of, rule_of, with_rule, with_subcommand};
+ghost use Rattle.clap.specs.declared.Command.TheViews.{out-Command as settings_of};
+ghost use Rattle.ddr_text.specs.Job.{Answers, AreTaken, channel_of, ddr_app, is_sample, is_subcommand, job_of, job_with, name_alone, trace_rule, with_sample};
+
+use crate::help;
+use clap::{Arg, ArgAction, ArgMatches, Command, Error, value_parser};
+use std::alloc::{AllocError, Global};
+
+/// What the program is to do. Where `sample` is true, its configuration is the sample, and else the input has it.
+#[derive(Clone, Copy, Debug, PartialEq, Eq)]
+pub enum Job {
+    /// Runs a script. Where `trace` names a channel, the trace of that channel is written in place of the replies.
+    Sim { sample: bool, trace: Option<u32> },
+    /// Runs a script with a thread for each port and each channel.
+    Run { sample: bool },
+    /// Checks a trace.
+    Check { sample: bool },
+    /// Says where addresses lie.
+    Map { sample: bool },
+}
+
+/// The job that the words of a command line state, of which the first is the program's name.
+///
+/// The subcommands are `sim`, `run`, `check` and `map`. Each has the flag `--sample`, and `sim` the option `--trace C` with
+/// the number of a channel, a `u32`. No words, or the name alone, are read as `sim --sample`.
+///
+/// Fails with an error of `clap`, whose `Display` is the text for the user, where the words are of another form,
+/// where they ask for help, and where memory runs out.
+pub fn job_of(alloc: Global, words: &[&str]) -> Result<Job, Error>
+    ensures said { Answers result (job_of (map (λ word. word.now) words.now)) }
+    ensures alone { length words.now ≤ 1 → result ≡ Ok (Job.Sim true None) }
+{
+    if words.len() <= 1 {
+        return Ok(Job::Sim {
+            sample: true,
+            trace: None,
+        });
+    }
+    let matches = command(alloc)?.try_get_matches_from(words)?;
+    let Some((name, options)) = matches.subcommand() else {
+        unreachable!()
+    };
+    Ok(job_with(name, options))
+}
+
+/// The job of a subcommand with these options.
+fn job_with(name: &str, options: &ArgMatches<'_>) -> Job
+    requires named { IsTrue (is_subcommand name.now) }
+    requires taken { AreTaken (rows_of (found_of options.now)) }
+    ensures { result ≡ job_with name.now (rows_of (found_of options.now)) }
+{
+    let sample = is_sample(options);
+    match name {
+        "sim" => Job::Sim {
+            sample,
+            trace: channel_of(options),
+        },
+        "run" => Job::Run { sample },
+        "check" => Job::Check { sample },
+        "map" => Job::Map { sample },
+        _ => unreachable!(),
+    }
+}
+
+/// Whether the flag `--sample` was used.
+fn is_sample(options: &ArgMatches<'_>) -> bool
+    requires { AreTaken (rows_of (found_of options.now)) }
+    ensures { result ≡ is_sample (rows_of (found_of options.now)) }
+{
+    options.get_flag("sample")
+}
+
+/// The channel of the option `--trace`, if that was used.
+fn channel_of(options: &ArgMatches<'_>) -> Option<u32>
+    requires { AreTaken (rows_of (found_of options.now)) }
+    ensures { result ≡ channel_of (rows_of (found_of options.now)) }
+{
+    options.get_one::<u32>("trace")
+}
+
+/// The command line as `clap` reads it: the program with its subcommands.
+fn command<'a>(alloc: Global) -> Result<Command<'a>, AllocError>
+    ensures app { IfOk result (λ command. app_of command ≡ ddr_app) }
+    ensures local { IfOk result (λ command. (settings_of command).has_globals ≡ false) }
+{
+    let sim = with_sim(alloc, program(alloc)?)?;
+    let run = with_one(
+        alloc,
+        sim,
+        "run",
+        "Runs a script with a thread for each port and each channel",
+        help::RUN,
+    )?;
+    let check = with_one(
+        alloc,
+        run,
+        "check",
+        "Checks a trace of commands",
+        help::CHECK,
+    )?;
+    with_one(alloc, check, "map", "Says where addresses lie", help::MAP)
+}
+
+/// The program before its subcommands, one of which has to follow. It has no subcommand `help`: help is asked for by
+/// `--help`. Its texts say `ddr`, whatever the first word is.
+fn program<'a>(alloc: Global) -> Result<Command<'a>, AllocError>
+    ensures app { IfOk result (λ command. app_of command ≡ name_alone) }
+    ensures local { IfOk result (λ command. (settings_of command).has_globals ≡ false) }
+{
+    let named = Command::new(alloc, "ddr").bin_name("ddr")?;
+    Ok(
+        named
+            .about("A model of a DDR4 memory controller")
+            .after_help(help::PROGRAM)
+            .subcommand_required(true)
+            .disable_help_subcommand(true),
+    )
+}
+
+/// The command with the subcommand that runs a script, which has the option `--trace` too.
+fn with_sim<'a>(alloc: Global, command: Command<'a>) -> Result<Command<'a>, AllocError>
+    requires local { (settings_of command).has_globals ≡ false }
+    ensures app { IfOk result (λ all. app_of all ≡ with_subcommand (app_of command.entry) (with_rule (with_sample (codes "sim")) trace_rule).top) }
+    ensures local { IfOk result (λ all. (settings_of all).has_globals ≡ false) }
+{
+    let sim = subcommand(alloc, "sim", "Runs a script of reads and writes", help::SIM)?;
+    command.subcommand(sim.arg(trace_option(alloc))?)
+}
+
+/// The command with one more subcommand.
+fn with_one<'a>(
+    alloc: Global,
+    command: Command<'a>,
+    name: &'a str,
+    about: &'a str,
+    after_help: &'a str,
+) -> Result<Command<'a>, AllocError>
+    requires local { (settings_of command).has_globals ≡ false }
+    ensures app { IfOk result (λ all. app_of all ≡ with_subcommand (app_of command.entry) (with_sample name.entry.now).top) }
+    ensures local { IfOk result (λ all. (settings_of all).has_globals ≡ false) }
+{
+    command.subcommand(subcommand(alloc, name, about, after_help)?)
+}
+
+/// The option `--trace C`.
+fn trace_option<'a>(alloc: Global) -> Arg<'a>
+    ensures rule { rule_of result ≡ trace_rule }
+    ensures local { result.global ≡ false }
+{
+    Arg::new(alloc, "trace")
+        .long("trace")
+        .value_name("CHANNEL")
+        .value_parser(value_parser!(u32))
+        .help("Writes the trace of this channel in place of the replies")
+}
+
+/// A subcommand with the flag `--sample`, and with what its help says first and last.
+fn subcommand<'a>(
+    alloc: Global,
+    name: &'a str,
+    about: &'a str,
+    after_help: &'a str,
+) -> Result<Command<'a>, AllocError>
+    ensures app { IfOk result (λ command. app_of command ≡ with_sample name.entry.now) }
+    ensures local { IfOk result (λ command. (settings_of command).has_globals ≡ false) }
+{
+    let sample = Arg::new(alloc, "sample")
+        .long("sample")
+        .action(ArgAction::SetTrue)
+        .help("Takes the sample configuration, and the whole input as the body");
+    Command::new(alloc, name)
+        .about(about)
+        .after_help(after_help)
+        .arg(sample)
+}
