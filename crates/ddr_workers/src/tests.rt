@@ -4,14 +4,14 @@
 //! `closing` has what `close` gives of such a system, `refusals` which ends it gives back, `finishing` how ports finish
 //! and workers stop, `gates` that workers run at the same time, and `waiting` that a port that doesn't poll holds no other
 //! up.
-ghost use Rattle.std.specs.Prelude.{◌≡◌, ◌∷◌, [], IfOk, IfSome};
+ghost use Rattle.std.specs.Prelude.{◌≡◌, ◌∷◌, [], IfOk, IfSome, Ok};
 ghost use Rattle.std.specs.Thread.{IsSync};
 ghost use Rattle.ddr_workers.specs.Closing.{AreOfOneOpen};
 ghost use Rattle.ddr_workers.specs.Open.{IsOpened};
 ghost use Rattle.ddr_workers.specs.Port.{IsEndOfPort, IsSamePort};
 ghost use Rattle.ddr_workers.specs.Worker.{IsEndOf};
 
-use crate::closing::{SystemClosed, ends_of_one_open};
+use crate::closing::{CloseError, SystemClosed, ends_of_one_open};
 use crate::gate::{Gate, Turn};
 use crate::port::{PollAnswer, Port, PortEnd};
 use crate::testing::{TRIES, config_with, is_reply, read_echo, write_echo};
@@ -243,6 +243,30 @@ fn take_front(port: &mut Port, number: u64, echo: Echo, bytes: &[u8]) -> Result<
     expect(port.release() == Some(number), "the reply is given up")
 }
 
+/// A port, if what was done with it came as it has to.
+fn begun(port: Port, came: Result<(), &'static str>) -> Result<Port, &'static str>
+    ensures { IfOk result (IsSamePort port) }
+{
+    match came {
+        Ok(()) => Ok(port),
+        Err(what) => Err(what),
+    }
+}
+
+/// Finishes a port, if what was done with it came as it has to.
+fn finish_after<R: Wait>(
+    rt: &R,
+    port: Port,
+    came: Result<(), &'static str>,
+) -> Result<PortEnd, &'static str>
+    ensures { IfOk result (IsEndOfPort port) }
+{
+    match came {
+        Ok(()) => finish_in_time(rt, port).ok_or("an end"),
+        Err(what) => Err(what),
+    }
+}
+
 /// What two ports give back.
 type Hosted = (Result<PortEnd, &'static str>, Result<PortEnd, &'static str>);
 
@@ -298,6 +322,59 @@ fn run_threads<A: Host + Sync, B: Host + Sync, R: Threads + Wait + Sync>(
     )
 }
 
+/// What two results hold, or what is said in place of the first that doesn't.
+pub(crate) fn both<T: Drop, U: Drop, E: Drop>(
+    first: Result<T, E>,
+    second: Result<U, E>,
+) -> Result<(T, U), E>
+    ensures first { IfOk result (λ values. first ≡ Ok values.0) }
+    ensures second { IfOk result (λ values. second ≡ Ok values.1) }
+{
+    match first {
+        Ok(value) => match second {
+            Ok(other) => Ok((value, other)),
+            Err(error) => Err(error),
+        },
+        Err(error) => Err(error),
+    }
+}
+
+/// The ends of two ports, where both are there.
+fn ends_of_ports(hosted: Hosted) -> Result<(PortEnd, PortEnd), &'static str>
+    ensures first { IfOk result (λ ends. hosted.entry.0 ≡ Ok ends.0) }
+    ensures second { IfOk result (λ ends. hosted.entry.1 ≡ Ok ends.1) }
+{
+    let (first, second) = hosted;
+    both(first, second)
+}
+
+/// The ends of two workers, where both are there.
+fn ends_of_workers(worked: Worked) -> Result<(WorkerEnd, WorkerEnd), &'static str>
+    ensures first { IfOk result (λ ends. worked.0 ≡ Ok ends.0) }
+    ensures second { IfOk result (λ ends. worked.1 ≡ Ok ends.1) }
+{
+    let (first, second) = worked;
+    match both(first, second) {
+        Ok(ends) => Ok(ends),
+        Err(_) => Err("workers at their ends"),
+    }
+}
+
+/// The four ends, where all of them are there.
+fn all_ends(hosted: Hosted, worked: Worked) -> Result<AllEnds, Fail>
+    ensures first { IfOk result (λ ends. hosted.entry.0 ≡ Ok ends.0) }
+    ensures second { IfOk result (λ ends. hosted.entry.1 ≡ Ok ends.1) }
+    ensures first_work { IfOk result (λ ends. worked.0 ≡ Ok ends.2) }
+    ensures second_work { IfOk result (λ ends. worked.1 ≡ Ok ends.3) }
+{
+    match both(ends_of_workers(worked), ends_of_ports(hosted)) {
+        Ok(((first_work, second_work), (first, second))) => {
+            Ok((first, second, first_work, second_work))
+        }
+        Err(what) => Err(what.into()),
+    }
+}
+
 /// Runs two ports and two workers, each in a thread, to their ends.
 fn run_parts<A: Host + Sync, B: Host + Sync, R: Threads + Wait + Sync>(
     rt: &R,
@@ -313,12 +390,7 @@ fn run_parts<A: Host + Sync, B: Host + Sync, R: Threads + Wait + Sync>(
 {
     let gate = Barred::nowhere();
     let (hosted, worked) = run_threads(rt, &gate, host, other_host, ports, workers);
-    let (first, second) = hosted;
-    let (first_work, second_work) = worked;
-    match (first_work, second_work) {
-        (Ok(first_work), Ok(second_work)) => Ok((first?, second?, first_work, second_work)),
-        _ => Err("workers at their ends".into()),
-    }
+    all_ends(hosted, worked)
 }
 
 /// Opens a system of two ports and two channels, and runs it to its end.
@@ -336,11 +408,18 @@ fn run_system<A: Host + Sync, B: Host + Sync, R: Threads + Wait + Sync>(
 {
     ends_of_one_open();
     let (first, second, first_worker, second_worker) = open_two(alloc, config, id)?;
-    let first = host.begin(rt, first)?;
-    let second = other_host.begin(rt, second)?;
-    let workers = (first_worker, second_worker);
-    let ends = run_parts(rt, host, other_host, (first, second), workers)?;
-    Ok(ends)
+    match both(host.begin(rt, first), other_host.begin(rt, second)) {
+        Ok(ports) => run_parts(rt, host, other_host, ports, (first_worker, second_worker)),
+        Err(what) => Err(what.into()),
+    }
+}
+
+/// What is left of a system, unless it was not closed.
+fn expect_closed(closed: Result<SystemClosed, CloseError>) -> Result<SystemClosed, Fail> {
+    match closed {
+        Ok(closed) => Ok(closed),
+        Err(_) => Err("closed".into()),
+    }
 }
 
 /// Closes a system, whose ends stand in order.
@@ -355,7 +434,7 @@ fn close_in_order<R: Wait>(
     let (first, second, first_work, second_work) = ends;
     let ports = vec![in alloc; first, second]?;
     let workers = vec![in alloc; first_work, second_work]?;
-    close(rt, alloc, id, ports, workers).map_err(|_| "closed".into())
+    expect_closed(close(rt, alloc, id, ports, workers))
 }
 
 /// Runs a system of two ports and two channels to its end, and closes it.

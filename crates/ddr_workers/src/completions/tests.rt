@@ -1,11 +1,12 @@
 //! A queue in one thread and in three: what each channel pushed comes out whole and in order.
-ghost use Rattle.std.specs.Prelude.{◌≡◌, ◌<◌, ◌^◌, [], ◌∷◌, ◌++◌, IfOk, IfSome};
+ghost use Rattle.std.specs.Prelude.{◌≡◌, ◌<◌, ◌^◌, [], ◌∷◌, ◌++◌, IfOk, IfSome, vec_capacity};
 ghost use Rattle.std.specs.Thread.{IsSync};
 ghost use Rattle.ddr_workers.specs.Completions.{IsFrom};
 ghost use Rattle.ddr_workers.specs.Sides.{AreSides};
 
 use super::*;
 use crate::testing::{TRIES, config_with};
+use crate::tests::both;
 use ddr_address_map::map::Map;
 use ddr_address_map::request::{Echo, Kind};
 use ddr_timing::units::LINE_BYTES;
@@ -146,7 +147,10 @@ struct Exchange {
     left: Vec<Done>,
 }
 
-/// Pushes in two threads, takes in a third, and joins.
+/// Room for what is taken, and for the sides that are joined.
+type Room = (Vec<Done>, Vec<DonePut>);
+
+/// Pushes in two threads, takes in a third, and joins. The room is that for what is taken, and for two sides.
 fn exchanged<R: Threads + Wait + Sync>(
     rt: &R,
     alloc: Global,
@@ -154,14 +158,16 @@ fn exchanged<R: Threads + Wait + Sync>(
     first: DonePut,
     second: DonePut,
     take: DoneTake,
-) -> Result<Exchange, AllocError>
+    room: Room,
+) -> Exchange
     requires channels { (first.who.source ≡ 0) × (second.who.source ≡ 1) }
     requires first { first.who.queue.purpose ≡ record { geometry = config.now.geometry; port = 1 } }
     requires second { second.who.queue.purpose ≡ record { geometry = config.now.geometry; port = 1 } }
     requires sides { AreSides (first ∷ second ∷ []) take }
+    requires empty { (room.0.items ≡ []) × (room.1.items ≡ []) }
+    requires room { vec_capacity room.1 ≡ 2 }
 {
-    let taken = Vec::with_capacity(alloc, 2 * COMPLETIONS as usize)?;
-    let mut puts = Vec::with_capacity(alloc, 2)?;
+    let (taken, mut puts) = room;
     let (pushed, (take, taken)) = thread::join(
         rt,
         move || -> Pushed
@@ -179,11 +185,11 @@ fn exchanged<R: Threads + Wait + Sync>(
     let ((first, first_pushed), (second, second_pushed)) = pushed;
     puts.push_reserved(first);
     puts.push_reserved(second);
-    Ok(Exchange {
+    Exchange {
         all_pushed: first_pushed && second_pushed,
         taken,
         left: join(rt, puts, take),
-    })
+    }
 }
 
 /// The sides of a queue of two channels.
@@ -302,21 +308,46 @@ fn came_in_order(alloc: Global, dones: &[Done], channel: u64) -> Result<bool, Al
     Ok(are_in_order(numbers.as_slice()))
 }
 
+/// Makes room for all completions of two channels.
+fn open_room(alloc: Global) -> Result<Room, AllocError>
+    ensures empty { IfOk result (λ room. (room.0.items ≡ []) × (room.1.items ≡ [])) }
+    ensures room { IfOk result (λ room. vec_capacity room.1 ≡ 2) }
+{
+    both(
+        Vec::with_capacity(alloc, 2 * COMPLETIONS as usize),
+        Vec::with_capacity(alloc, 2),
+    )
+}
+
 /// Exchanges the completions of two channels over one place.
 fn exchange_all<R: Threads + Wait + Sync>(rt: &R, alloc: Global) -> Result<Exchange, Fail> {
     let config = config_with(alloc, "window ", "window = 1")?;
-    let (first, second, take) = two_channels(alloc, &config)?;
-    let exchange = exchanged(rt, alloc, &config, first, second, take)?;
-    Ok(exchange)
+    let room = open_room(alloc)?;
+    match two_channels(alloc, &config) {
+        Ok((first, second, take)) => Ok(exchanged(rt, alloc, &config, first, second, take, room)),
+        Err(what) => Err(what),
+    }
+}
+
+/// Whether all were pushed, how many were taken and left, and whether those of each came in order.
+type Outcome = (bool, (usize, usize), (bool, bool));
+
+/// What came out: whether all were pushed, how many were taken and how many were left, and whether those of both channels
+/// came in order.
+fn outcome_of(alloc: Global, exchange: &Exchange) -> Result<Outcome, AllocError> {
+    let taken = exchange.taken.as_slice();
+    let are_in_order = both(
+        came_in_order(alloc, taken, 0),
+        came_in_order(alloc, taken, 1),
+    )?;
+    let counts = (taken.len(), exchange.left.len());
+    Ok((exchange.all_pushed, counts, are_in_order))
 }
 
 #[test]
 fn three_threads_hand_over_in_order(rt: HostRuntime) -> Result<(), Fail> {
     let exchange = exchange_all(&rt, rt.alloc())?;
-    let counts = (exchange.taken.len(), exchange.left.len());
-    assert_eq!(rt; (exchange.all_pushed, counts), (true, (200, 0)));
-    let first = came_in_order(rt.alloc(), exchange.taken.as_slice(), 0)?;
-    let second = came_in_order(rt.alloc(), exchange.taken.as_slice(), 1)?;
-    assert_eq!(rt; (first, second), (true, true));
+    let outcome = outcome_of(rt.alloc(), &exchange)?;
+    assert_eq!(rt; outcome, (true, (200, 0), (true, true)));
     Ok(())
 }

@@ -1,11 +1,12 @@
 //! A queue in one thread and in three: what each port pushed comes out whole and in order.
-ghost use Rattle.std.specs.Prelude.{◌≡◌, ◌<◌, ◌^◌, false, [], ◌∷◌, ◌++◌, IfOk, IfSome};
+ghost use Rattle.std.specs.Prelude.{◌≡◌, ◌<◌, ◌^◌, false, [], ◌∷◌, ◌++◌, IfErr, IfOk, IfSome, vec_capacity};
 ghost use Rattle.std.specs.Thread.{IsSync};
 ghost use Rattle.ddr_workers.specs.Requests.{has_end, IsPlaced};
 ghost use Rattle.ddr_workers.specs.Sides.{AreSides};
 
 use super::*;
 use crate::testing::{TRIES, config_with};
+use crate::tests::both;
 use ddr_address_map::map::Map;
 use ddr_address_map::request::{Echo, Kind};
 use ddr_timing::units::LINE_BYTES;
@@ -43,6 +44,21 @@ fn request(alloc: Global, config: &Config, port: u32, number: u64) -> Option<Req
     })
 }
 
+/// Pushes a request, or gives it back.
+fn push<R: Wait>(rt: &R, side: &mut RequestPut, request: Req) -> Result<(), Req>
+    requires own { request.port ≡ side.old.who.source }
+    requires placed { IsPlaced side.old.who.queue.purpose request }
+    requires before_end { has_end side.old.put ≡ false }
+    ensures who { side.new.who ≡ side.old.who }
+    ensures before_end { has_end side.new.put ≡ false }
+    ensures back { IfErr result (λ back. back ≡ request) }
+{
+    match side.push(rt, request) {
+        Ok(()) => Ok(()),
+        Err(back) => Err(back),
+    }
+}
+
 /// Pushes a request, in as many tries as there may be.
 fn push_in_time<R: Wait>(rt: &R, side: &mut RequestPut, mut request: Req) -> bool
     requires own { request.port ≡ side.old.who.source }
@@ -52,7 +68,7 @@ fn push_in_time<R: Wait>(rt: &R, side: &mut RequestPut, mut request: Req) -> boo
     ensures before_end { has_end side.new.put ≡ false }
 {
     for _ in 0..TRIES {
-        match side.push(rt, request) {
+        match push(rt, side, request) {
             Ok(()) => return true,
             Err(back) => {
                 request = back;
@@ -162,7 +178,10 @@ struct Exchange {
     left: Vec<Item>,
 }
 
-/// Pushes in two threads, takes in a third, and joins.
+/// Room for what is taken, and for the sides that are joined.
+type Room = (Vec<Item>, Vec<RequestPut>);
+
+/// Pushes in two threads, takes in a third, and joins. The room is that for what is taken, and for two sides.
 fn exchanged<R: Threads + Wait + Sync>(
     rt: &R,
     alloc: Global,
@@ -170,15 +189,17 @@ fn exchanged<R: Threads + Wait + Sync>(
     first: RequestPut,
     second: RequestPut,
     take: RequestTake,
-) -> Result<Exchange, AllocError>
+    room: Room,
+) -> Exchange
     requires ports { (first.who.source ≡ 0) × (second.who.source ≡ 1) }
     requires first { first.who.queue.purpose ≡ record { geometry = config.now.geometry; channel = 0 } }
     requires second { second.who.queue.purpose ≡ record { geometry = config.now.geometry; channel = 0 } }
     requires before_end { (has_end first.put ≡ false) × (has_end second.put ≡ false) }
     requires sides { AreSides (first ∷ second ∷ []) take }
+    requires empty { (room.0.items ≡ []) × (room.1.items ≡ []) }
+    requires room { vec_capacity room.1 ≡ 2 }
 {
-    let taken = Vec::with_capacity(alloc, 2 * (REQUESTS as usize + 1))?;
-    let mut puts = Vec::with_capacity(alloc, 2)?;
+    let (taken, mut puts) = room;
     let (pushed, (take, taken)) = thread::join(
         rt,
         move || -> Pushed
@@ -197,11 +218,11 @@ fn exchanged<R: Threads + Wait + Sync>(
     let ((first, first_pushed), (second, second_pushed)) = pushed;
     puts.push_reserved(first);
     puts.push_reserved(second);
-    Ok(Exchange {
+    Exchange {
         all_pushed: first_pushed && second_pushed,
         taken,
         left: join(rt, puts, take),
-    })
+    }
 }
 
 /// The sides of a queue of two ports.
@@ -258,7 +279,7 @@ fn offer<R: Wait>(
     ensures before_end { has_end side.new.put ≡ false }
 {
     let request = request(alloc, config, 0, number).ok_or("a request")?;
-    let pushed = side.push(rt, request);
+    let pushed = push(rt, side, request);
     Ok(pushed.err().map(|back| back.number))
 }
 
@@ -337,21 +358,46 @@ fn came_in_order(alloc: Global, items: &[Item], port: u32) -> Result<bool, Alloc
     Ok(are_in_order(numbers.as_slice()) && ends.as_slice() == [100].as_slice())
 }
 
+/// Makes room for all items of two ports.
+fn open_room(alloc: Global) -> Result<Room, AllocError>
+    ensures empty { IfOk result (λ room. (room.0.items ≡ []) × (room.1.items ≡ [])) }
+    ensures room { IfOk result (λ room. vec_capacity room.1 ≡ 2) }
+{
+    both(
+        Vec::with_capacity(alloc, 2 * (REQUESTS as usize + 1)),
+        Vec::with_capacity(alloc, 2),
+    )
+}
+
 /// Exchanges the requests of two ports over one place.
 fn exchange_all<R: Threads + Wait + Sync>(rt: &R, alloc: Global) -> Result<Exchange, Fail> {
     let config = config_with(alloc, "intake ", "intake = 1")?;
-    let (first, second, take) = two_ports(alloc, &config)?;
-    let exchange = exchanged(rt, alloc, &config, first, second, take)?;
-    Ok(exchange)
+    let room = open_room(alloc)?;
+    match two_ports(alloc, &config) {
+        Ok((first, second, take)) => Ok(exchanged(rt, alloc, &config, first, second, take, room)),
+        Err(what) => Err(what),
+    }
+}
+
+/// Whether all were pushed, how many were taken and left, and whether those of each came in order.
+type Outcome = (bool, (usize, usize), (bool, bool));
+
+/// What came out: whether all were pushed, how many were taken and how many were left, and whether those of both ports
+/// came in order.
+fn outcome_of(alloc: Global, exchange: &Exchange) -> Result<Outcome, AllocError> {
+    let taken = exchange.taken.as_slice();
+    let are_in_order = both(
+        came_in_order(alloc, taken, 0),
+        came_in_order(alloc, taken, 1),
+    )?;
+    let counts = (taken.len(), exchange.left.len());
+    Ok((exchange.all_pushed, counts, are_in_order))
 }
 
 #[test]
 fn three_threads_hand_over_in_order(rt: HostRuntime) -> Result<(), Fail> {
     let exchange = exchange_all(&rt, rt.alloc())?;
-    let counts = (exchange.taken.len(), exchange.left.len());
-    assert_eq!(rt; (exchange.all_pushed, counts), (true, (202, 0)));
-    let first = came_in_order(rt.alloc(), exchange.taken.as_slice(), 0)?;
-    let second = came_in_order(rt.alloc(), exchange.taken.as_slice(), 1)?;
-    assert_eq!(rt; (first, second), (true, true));
+    let outcome = outcome_of(rt.alloc(), &exchange)?;
+    assert_eq!(rt; outcome, (true, (202, 0), (true, true)));
     Ok(())
 }

@@ -106,8 +106,10 @@ fn refuses_all<R: Wait>(rt: &R, mut port: Port) -> bool {
     let polled = port.poll(rt);
     let refused = submitted == Err(SubmitError::Broken) && polled == Err(PollError::Broken);
     match port.finish(rt) {
-        Err((back, FinishError::Broken)) => refused && is_first_in_front(&back),
-        _ => false,
+        Err((back, error)) => {
+            refused && error == FinishError::Broken && is_first_in_front(&back)
+        }
+        Ok(_) => false,
     }
 }
 

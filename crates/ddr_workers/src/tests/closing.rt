@@ -36,6 +36,15 @@ impl WritesAndReads {
         take_front(port, number, echo, bytes)
     }
 
+    /// Submits the write, then the read.
+    fn submit_both<R: Wait>(&self, rt: &R, port: &mut Port) -> Result<(), &'static str>
+        ensures { IsSamePort port.old port.new }
+    {
+        let bytes = [self.byte];
+        submit(rt, port, Request::write(self.addr, &bytes), 0)?;
+        submit(rt, port, Request::read(self.addr, 1), 1)
+    }
+
     /// Takes the replies, of which that of the write comes first.
     fn take_both<R: Wait>(&self, rt: &R, port: &mut Port) -> Result<(), &'static str>
         ensures { IsSamePort port.old port.new }
@@ -45,6 +54,14 @@ impl WritesAndReads {
         let read = read_echo(self.addr, 1);
         WritesAndReads::take_alone(rt, port, 1, read, &[self.byte])
     }
+
+    /// Submits both, and takes their replies.
+    fn exchange<R: Wait>(&self, rt: &R, port: &mut Port) -> Result<(), &'static str>
+        ensures { IsSamePort port.old port.new }
+    {
+        self.submit_both(rt, port)?;
+        self.take_both(rt, port)
+    }
 }
 
 impl Host for WritesAndReads {
@@ -53,11 +70,8 @@ impl Host for WritesAndReads {
     }
 
     fn go_on<R: Wait>(&self, rt: &R, mut port: Port) -> Result<PortEnd, &'static str> {
-        let bytes = [self.byte];
-        submit(rt, &mut port, Request::write(self.addr, &bytes), 0)?;
-        submit(rt, &mut port, Request::read(self.addr, 1), 1)?;
-        self.take_both(rt, &mut port)?;
-        finish_in_time(rt, port).ok_or("an end")
+        let came = self.exchange(rt, &mut port);
+        finish_after(rt, port, came)
     }
 }
 
@@ -73,7 +87,7 @@ fn close_in_reverse<R: Wait>(
     let (first, second, first_work, second_work) = ends;
     let ports = vec![in alloc; second, first]?;
     let workers = vec![in alloc; second_work, first_work]?;
-    close(rt, alloc, id, ports, workers).map_err(|_| "closed".into())
+    expect_closed(close(rt, alloc, id, ports, workers))
 }
 
 /// A command for bank 0 in group 0.
@@ -198,6 +212,15 @@ fn the_ends_come_in_any_order(rt: HostRuntime) -> Result<(), Fail> {
 struct ReadsTwoRows;
 
 impl ReadsTwoRows {
+    /// Submits the three reads.
+    fn submit_all<R: Wait>(rt: &R, port: &mut Port) -> Result<(), &'static str>
+        ensures { IsSamePort port.old port.new }
+    {
+        submit(rt, port, Request::read(0, 1), 0)?;
+        submit(rt, port, Request::read(8192, 1), 1)?;
+        submit(rt, port, Request::read(64, 1), 2)
+    }
+
     /// Takes the first reply, and sees the third come before the second.
     fn take_first<R: Wait>(rt: &R, port: &mut Port) -> Result<(), &'static str>
         ensures { IsSamePort port.old port.new }
@@ -218,20 +241,25 @@ impl ReadsTwoRows {
         take_front(port, 1, read_echo(8192, 1), &[0])?;
         take_front(port, 2, read_echo(64, 1), &[0])
     }
+
+    /// Takes all three replies.
+    fn take_all<R: Wait>(rt: &R, port: &mut Port) -> Result<(), &'static str>
+        ensures { IsSamePort port.old port.new }
+    {
+        ReadsTwoRows::take_first(rt, port)?;
+        ReadsTwoRows::take_others(rt, port)
+    }
 }
 
 impl Host for ReadsTwoRows {
     fn begin<R: Wait>(&self, rt: &R, mut port: Port) -> Result<Port, &'static str> {
-        submit(rt, &mut port, Request::read(0, 1), 0)?;
-        submit(rt, &mut port, Request::read(8192, 1), 1)?;
-        submit(rt, &mut port, Request::read(64, 1), 2)?;
-        Ok(port)
+        let came = ReadsTwoRows::submit_all(rt, &mut port);
+        begun(port, came)
     }
 
     fn go_on<R: Wait>(&self, rt: &R, mut port: Port) -> Result<PortEnd, &'static str> {
-        ReadsTwoRows::take_first(rt, &mut port)?;
-        ReadsTwoRows::take_others(rt, &mut port)?;
-        finish_in_time(rt, port).ok_or("an end")
+        let came = ReadsTwoRows::take_all(rt, &mut port);
+        finish_after(rt, port, came)
     }
 }
 
@@ -261,6 +289,16 @@ fn the_younger_row_hit_comes_first(rt: HostRuntime) -> Result<(), Fail> {
 struct LooksAtReplies;
 
 impl LooksAtReplies {
+    /// Submits the write and two reads.
+    fn submit_all<R: Wait>(rt: &R, port: &mut Port) -> Result<(), &'static str>
+        ensures { IsSamePort port.old port.new }
+    {
+        let bytes = [0x5a, 0x5b];
+        submit(rt, port, Request::write(64, &bytes), 0)?;
+        submit(rt, port, Request::read(65, 2), 1)?;
+        submit(rt, port, Request::read(0, 1), 2)
+    }
+
     /// What the reply of each number repeats, and the bytes that it lends.
     fn expected(number: u64) -> (Echo, usize, [u8; 2]) {
         let (kind, addr, len, lent, bytes) = match number {
@@ -325,22 +363,26 @@ impl LooksAtReplies {
         }
         Ok(())
     }
+
+    /// Looks at the replies as they come, and gives them up.
+    fn look_at_all<R: Wait>(rt: &R, port: &mut Port) -> Result<(), &'static str>
+        ensures { IsSamePort port.old port.new }
+    {
+        LooksAtReplies::look(rt, port)?;
+        LooksAtReplies::move_up(rt, port)?;
+        LooksAtReplies::give_up(port)
+    }
 }
 
 impl Host for LooksAtReplies {
     fn begin<R: Wait>(&self, rt: &R, mut port: Port) -> Result<Port, &'static str> {
-        let bytes = [0x5a, 0x5b];
-        submit(rt, &mut port, Request::write(64, &bytes), 0)?;
-        submit(rt, &mut port, Request::read(65, 2), 1)?;
-        submit(rt, &mut port, Request::read(0, 1), 2)?;
-        Ok(port)
+        let came = LooksAtReplies::submit_all(rt, &mut port);
+        begun(port, came)
     }
 
     fn go_on<R: Wait>(&self, rt: &R, mut port: Port) -> Result<PortEnd, &'static str> {
-        LooksAtReplies::look(rt, &mut port)?;
-        LooksAtReplies::move_up(rt, &mut port)?;
-        LooksAtReplies::give_up(&mut port)?;
-        finish_in_time(rt, port).ok_or("an end")
+        let came = LooksAtReplies::look_at_all(rt, &mut port);
+        finish_after(rt, port, came)
     }
 }
 

@@ -37,7 +37,7 @@ fn have_ended<R: Threads + Wait + Sync>(
     second: Worker,
 ) -> bool {
     let (first, second) = run_both(rt, gate, first, second);
-    first.is_ok() && second.is_ok()
+    both(first, second).is_ok()
 }
 
 /// Runs two ports and two workers, each in a thread. Says whether the first port's reply came, and whether all came to

@@ -3,7 +3,7 @@ ghost use Rattle.std.specs.Prelude.{◌≡◌, ◌∷◌, ◌++◌, [], IfOk, If
 ghost use Rattle.ddr_workers.specs.Closing.{AreOfOneOpen};
 
 use super::*;
-use crate::closing::{CloseError, Ends};
+use crate::closing::Ends;
 use ddr_timing::profile::PROFILE_S;
 
 /// Why ends came back.
@@ -46,6 +46,12 @@ fn run_silent<R: Threads + Wait + Sync>(rt: &R, alloc: Global, id: u64) -> Resul
 {
     let config = Config::read(alloc, PROFILE_S)?;
     run_system(rt, alloc, &config, id, &Silent, &Silent)
+}
+
+/// The end of the second port of such a system.
+fn second_end<R: Threads + Wait + Sync>(rt: &R, alloc: Global, id: u64) -> Result<PortEnd, Fail> {
+    let (_, second, _, _) = run_silent(rt, alloc, id)?;
+    Ok(second)
 }
 
 #[test]
@@ -103,7 +109,7 @@ fn the_end_of_another_system_is_foreign(rt: HostRuntime) -> Result<(), Fail> {
 #[test]
 fn foreign_comes_before_missing(rt: HostRuntime) -> Result<(), Fail> {
     let alloc = rt.alloc();
-    let (_, other, _, _) = run_silent(&rt, alloc, 8)?;
+    let other = second_end(&rt, alloc, 8)?;
     let ports = vec![in alloc; other]?;
     assert_eq!(rt;
         cause_of(&rt, alloc, ports, Vec::new(alloc)),
@@ -116,8 +122,8 @@ fn foreign_comes_before_missing(rt: HostRuntime) -> Result<(), Fail> {
 #[test]
 fn a_port_that_stands_twice_is_foreign(rt: HostRuntime) -> Result<(), Fail> {
     let alloc = rt.alloc();
-    let (_, second, _, _) = run_silent(&rt, alloc, 7)?;
-    let (_, twin, _, _) = run_silent(&rt, alloc, 7)?;
+    let second = second_end(&rt, alloc, 7)?;
+    let twin = second_end(&rt, alloc, 7)?;
     let ports = vec![in alloc; second, twin]?;
     assert_eq!(rt;
         cause_of(&rt, alloc, ports, Vec::new(alloc)),
@@ -137,7 +143,7 @@ fn close_with_first<R: Wait>(
 {
     let Ends { mut ports, workers } = back;
     ports.push(first)?;
-    close(rt, alloc, 7, ports, workers).map_err(|_| "closed".into())
+    expect_closed(close(rt, alloc, 7, ports, workers))
 }
 
 /// Gives all ends but the first to `close`, which misses it.
@@ -203,16 +209,20 @@ fn apart(ends: Ends) -> Result<(AllEnds, AllEnds), Fail>
     ensures workers { IfOk result (λ both. ends.workers.items ≡ both.0.2 ∷ both.0.3 ∷ both.1.2 ∷ both.1.3 ∷ []) }
 {
     let Ends { ports, workers } = ends;
-    let Some(((first, second), (third, fourth))) = four_of(ports) else {
-        return Err("four ports".into());
-    };
-    let Some(((first_work, second_work), (third_work, fourth_work))) = four_of(workers) else {
-        return Err("four workers".into());
-    };
-    Ok((
-        (first, second, first_work, second_work),
-        (third, fourth, third_work, fourth_work),
-    ))
+    let ports = four_of(ports).ok_or("four ports");
+    let workers = four_of(workers).ok_or("four workers");
+    match both(ports, workers) {
+        Ok((((first, second), (third, fourth)), (own_work, other_work))) => Ok((
+            (first, second, own_work.0, own_work.1),
+            (third, fourth, other_work.0, other_work.1),
+        )),
+        Err(what) => Err(what.into()),
+    }
+}
+
+/// How many channels of a closed system have a trace.
+fn count_traces(closed: SystemClosed) -> usize {
+    closed.traces.len()
 }
 
 /// Each of two systems is closed by its own id once its ends are told apart.
@@ -223,8 +233,8 @@ fn two_systems_are_foreign_together(rt: HostRuntime) -> Result<(), Fail> {
     let other = run_silent(&rt, alloc, 8)?;
     let back = close_both(&rt, alloc, own, other)?;
     let (first, second) = apart(back)?;
-    let closed = close_in_order(&rt, alloc, 7, first)?;
-    let other_closed = close_in_order(&rt, alloc, 8, second)?;
-    assert_eq!(rt; (closed.traces.len(), other_closed.traces.len()), (2, 2));
+    let traces = count_traces(close_in_order(&rt, alloc, 7, first)?);
+    let other_traces = count_traces(close_in_order(&rt, alloc, 8, second)?);
+    assert_eq!(rt; (traces, other_traces), (2, 2));
     Ok(())
 }

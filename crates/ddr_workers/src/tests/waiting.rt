@@ -66,19 +66,26 @@ impl Waits<'_> {
         }
         Ok(())
     }
+
+    /// Takes the lines in, and gives the replies up.
+    fn fill_and_take<R: Wait>(rt: &R, port: &mut Port) -> Result<(), &'static str>
+        ensures { IsSamePort port.old port.new }
+    {
+        Waits::fill(rt, port)?;
+        Waits::take(port)
+    }
 }
 
 impl Host for Waits<'_> {
     fn begin<R: Wait>(&self, rt: &R, mut port: Port) -> Result<Port, &'static str> {
-        Waits::submit_all(rt, &mut port)?;
-        Ok(port)
+        let came = Waits::submit_all(rt, &mut port);
+        begun(port, came)
     }
 
     fn go_on<R: Wait>(&self, rt: &R, mut port: Port) -> Result<PortEnd, &'static str> {
         self.wait();
-        Waits::fill(rt, &mut port)?;
-        Waits::take(&mut port)?;
-        finish_in_time(rt, port).ok_or("an end")
+        let came = Waits::fill_and_take(rt, &mut port);
+        finish_after(rt, port, came)
     }
 }
 
@@ -150,6 +157,15 @@ impl Works<'_> {
         }
         Ok(())
     }
+
+    /// Does so, and tells the other port that all came.
+    fn work_and_tell<R: Wait>(&self, rt: &R, port: &mut Port) -> Result<(), &'static str>
+        ensures { IsSamePort port.old port.new }
+    {
+        Works::work(rt, port)?;
+        self.is_done.store(1, Ordering::SeqCst);
+        Ok(())
+    }
 }
 
 impl Host for Works<'_> {
@@ -158,9 +174,8 @@ impl Host for Works<'_> {
     }
 
     fn go_on<R: Wait>(&self, rt: &R, mut port: Port) -> Result<PortEnd, &'static str> {
-        Works::work(rt, &mut port)?;
-        self.is_done.store(1, Ordering::SeqCst);
-        finish_in_time(rt, port).ok_or("an end")
+        let came = self.work_and_tell(rt, &mut port);
+        finish_after(rt, port, came)
     }
 }
 
