@@ -11,6 +11,4 @@ pub mod event;
 pub mod item;
 mod port_side;
 pub mod promise;
-#[cfg(test)]
-mod tests;
 pub mod world;

@@ -22,7 +22,10 @@ fn changed(alloc: Global, lines: &[(&str, &str)]) -> Result<String, AllocError> 
 }
 
 fn push_line(text: &mut String, line: &str, lines: &[(&str, &str)]) -> Result<(), AllocError> {
-    let name = line.split_once(' ').map_or(line, |(name, _)| name);
+    let name = match line.split_once(' ') {
+        Some((name, _)) => name,
+        None => line,
+    };
     for (key, other) in lines {
         if name == *key {
             return text.push_str(other);
@@ -80,31 +83,59 @@ fn reads_the_shape_and_the_limits_of_profile_s(rt: HostRuntime) -> Result<(), Fa
     Ok(())
 }
 
-#[test]
-fn takes_keys_in_any_order_and_spelling(rt: HostRuntime) -> Result<(), Fail> {
-    let alloc = rt.alloc();
-    let mut reversed = String::new(alloc);
+/// Profile S, its last line first.
+fn reversed(alloc: Global) -> Result<String, AllocError> {
+    let mut text = String::new(alloc);
     for line in PROFILE_S.lines().rev() {
-        reversed.push_str(line)?;
-        reversed.push('\n')?;
+        text.push_str(line)?;
+        text.push('\n')?;
     }
-    let last_first = Config::read(alloc, reversed.as_str())?;
-    assert_eq!(rt;
-        [last_first.timing.refi, last_first.limits.cap],
-        [200, 1000]
-    );
+    Ok(text)
+}
 
-    let mut with_mark = String::from_str(alloc, "\u{feff}# a byte order mark and a comment\r\n")?;
-    with_mark.push_str(PROFILE_S)?;
-    assert_eq!(rt; Config::read(alloc, with_mark.as_str())?.timing.refi, 200);
+/// The configuration that a text gives, where it is accepted.
+fn read_of(alloc: Global, text: Result<String, AllocError>) -> Option<Config> {
+    match text {
+        Ok(text) => Config::read(alloc, text.as_str()).ok(),
+        Err(_) => None,
+    }
+}
 
-    let lines = [
-        ("rows", "rows = 0x20 # in base 16"),
-        ("refi", "\"refi\"=+1_000\r"),
-        ("bank_xor", "bank_xor = true"),
-        ("map", "map = 'row column bank group channel'"),
-    ];
-    let config = Config::read(alloc, changed(alloc, &lines)?.as_str())?;
+#[test]
+fn takes_keys_in_any_order(rt: HostRuntime) -> Result<(), Fail> {
+    let alloc = rt.alloc();
+    let config = read_of(alloc, reversed(alloc)).ok_or("accepted")?;
+    assert_eq!(rt; [config.timing.refi, config.limits.cap], [200, 1000]);
+    Ok(())
+}
+
+/// Profile S behind a byte order mark and a comment.
+fn with_mark(alloc: Global) -> Result<String, AllocError> {
+    let mut text = String::from_str(alloc, "\u{feff}# a byte order mark and a comment\r\n")?;
+    text.push_str(PROFILE_S)?;
+    Ok(text)
+}
+
+#[test]
+fn takes_a_byte_order_mark_and_a_comment(rt: HostRuntime) -> Result<(), Fail> {
+    let alloc = rt.alloc();
+    let config = read_of(alloc, with_mark(alloc)).ok_or("accepted")?;
+    assert_eq!(rt; config.timing.refi, 200);
+    Ok(())
+}
+
+/// Lines that spell keys and values in other ways.
+const SPELLED: &[(&str, &str)] = &[
+    ("rows", "rows = 0x20 # in base 16"),
+    ("refi", "\"refi\"=+1_000\r"),
+    ("bank_xor", "bank_xor = true"),
+    ("map", "map = 'row column bank group channel'"),
+];
+
+#[test]
+fn takes_keys_and_values_in_any_spelling(rt: HostRuntime) -> Result<(), Fail> {
+    let alloc = rt.alloc();
+    let config = read_of(alloc, changed(alloc, SPELLED)).ok_or("accepted")?;
     assert_eq!(rt; [config.geometry.rows, config.timing.refi], [32, 1000]);
     assert!(rt; config.geometry.bank_xor);
     let order = [
@@ -154,39 +185,41 @@ const RANGES: [(&str, Key, u32, u32); 32] = [
     ("postpone", Key::Postpone, 0, 7),
 ];
 
+/// Why profile S with this value of a key is refused, if it is.
+fn refusal_of(alloc: Global, name: &str, value: i64) -> Result<Option<ConfigError>, AllocError> {
+    let line = format!(in alloc; "{name} = {value}")?;
+    refusal(alloc, &[(name, line.as_str())])
+}
+
+/// Whether a value of a key is refused as out of its range.
+fn is_beyond(alloc: Global, name: &str, key: Key, value: i64) -> Result<bool, AllocError> {
+    match refusal_of(alloc, name, value)? {
+        Some(ConfigError::Range { key: told }) => Ok(told == key),
+        _ => Ok(false),
+    }
+}
+
 #[test]
 fn a_number_beyond_its_range_is_refused(rt: HostRuntime) -> Result<(), Fail> {
     let alloc = rt.alloc();
     for (name, key, low, high) in RANGES {
-        let beyond = [i64::from(low) - 1, i64::from(high) + 1];
-        for n in beyond {
-            let line = format!(in alloc; "{name} = {n}")?;
-            let answer = refusal(alloc, &[(name, line.as_str())])?;
-            assert_eq!(rt; answer, Some(ConfigError::Range { key }), "{name} = {n}");
-        }
-        for n in [low, high] {
-            let line = format!(in alloc; "{name} = {n}")?;
-            let answer = refusal(alloc, &[(name, line.as_str())])?;
-            assert!(rt;
-                !matches!(answer, Some(ConfigError::Range { .. })),
-                "{name} = {n}"
-            );
-        }
+        let (low, high) = (i64::from(low), i64::from(high));
+        assert!(rt; is_beyond(alloc, name, key, low - 1)?, "{name}");
+        assert!(rt; !is_beyond(alloc, name, key, low)?, "{name}");
+        assert!(rt; !is_beyond(alloc, name, key, high)?, "{name}");
+        assert!(rt; is_beyond(alloc, name, key, high + 1)?, "{name}");
     }
     Ok(())
 }
 
+/// Counts of bank groups, and whether one is accepted.
+const GROUPS: [(i64, bool); 5] = [(1, false), (2, true), (3, false), (4, true), (5, false)];
+
 #[test]
 fn groups_are_2_or_4(rt: HostRuntime) -> Result<(), Fail> {
-    let alloc = rt.alloc();
-    let bad = Some(ConfigError::Range { key: Key::Groups });
-    for (n, want) in [(1, bad), (2, None), (3, bad), (4, None), (5, bad)] {
-        let line = format!(in alloc; "groups = {n}")?;
-        assert_eq!(rt;
-            refusal(alloc, &[("groups", line.as_str())])?,
-            want,
-            "groups = {n}"
-        );
+    for (groups, is_accepted) in GROUPS {
+        let is_beyond = is_beyond(rt.alloc(), "groups", Key::Groups, groups)?;
+        assert_eq!(rt; !is_beyond, is_accepted, "{groups}");
     }
     Ok(())
 }

@@ -1,0 +1,4 @@
+pub mod HostLemmas
+pub mod OutcomeLemmas
+pub mod StartLemmas
+pub mod ThreadLemmas

@@ -1,0 +1,104 @@
+-- The seats of a run's threads, before and afterwards.
+use Rattle.std.proofs.Common.{◌≡◌, ℕ, zero, suc, ◌+◌, ◌<◌, List, [], ◌∷◌, ◌++◌, length, take, get_or, Option, None, Some, slice_get, refl, sym, ap, subst, ◌∙◌, slice_index_or, string_bytes, arith}
+use Rattle.std.specs.List.{cons_option, filter_map, fold}
+use Rattle.std.specs.Option.{option_to_list}
+use Rattle.std.proofs.Math.Seq.{take-append_seam}
+use Rattle.std.proofs.lemmas.List.{take_more}
+use Rattle.std.proofs.lemmas.List.Elements.{filter_map-append}
+use Rattle.std.proofs.lemmas.List.Sums.{fold-append}
+use Rattle.ddr_workers.specs.Closing.{AreMatched}
+use Rattle.ddr_workers.specs.Port.{PortState, IsEndOfPort}
+use Rattle.ddr_workers.specs.Worker.{WorkerState, IsEndOf}
+use Rattle.ddr_run.specs.declared.flag.Stop.{Stop}
+use Rattle.ddr_run.specs.declared.flag.Stop.TheVariants as stops
+use Rattle.ddr_run.specs.declared.hosting.Hosted.{Hosted}
+use Rattle.ddr_run.specs.declared.threads.Seat.{Seat}
+use Rattle.ddr_run.specs.declared.threads.Seat.TheVariants as seats
+use Rattle.ddr_run.specs.Hosting.{AreAsked, IsNewPort, asks_of, replies_text}
+use Rattle.ddr_text.specs.Script.{Instruction}
+use Rattle.ddr_run.specs.Threads.{AreNewPorts, IsHostedFrom, IsNewSeat, Serves, cause_after, ended_in, first_cause, hosted_in, port_seats, seats_of, stop_in}
+
+pub hosted_from : (instructions : List Instruction) (number : ℕ) (port : PortState) (h : Hosted) → port.core.port ≡ number → IsEndOfPort port h.end → AreAsked port.core.geometry number (asks_of number instructions) h.end
+    → string_bytes h.text ≡ replies_text number h.end.completions.took h.end.taken → IsHostedFrom instructions port h
+hosted_from instructions number port h numbered end asked text =
+    let same : number ≡ h.end.port = sym (end.port ∙ numbered) in record {
+      end = end;
+      asked = subst (λ n. AreAsked port.core.geometry n (asks_of n instructions) h.end) same asked;
+      text = text ∙ ap (λ n. replies_text n h.end.completions.took h.end.taken) same;
+    }
+
+-- ---- before
+
+new_from : (first : ℕ) (ports : List PortState) → ((k : ℕ) (p : PortState) → slice_get ports k ≡ Some p → IsNewPort (first + k) p) → (k : ℕ) (s : Seat) → slice_get (port_seats first ports) k ≡ Some s → IsNewSeat s
+new_from first [] each k s there = cc
+new_from first (p ∷ ports) each zero s there =
+    let same : seats.Port first p ≡ s = cc in
+    let number : first + 0 ≡ first = omega arith in
+    subst IsNewSeat same (subst (λ n. IsNewPort n p) number (each 0 p refl))
+new_from first (p ∷ ports) each (suc k) s there =
+    new_from (first + 1) ports (λ n q is. let number : first + suc n ≡ first + 1 + n = omega arith in subst (λ m. IsNewPort m q) number (each (suc n) q is)) k s there
+
+pub new_seats : (ports : List PortState) (workers : List WorkerState) → AreNewPorts ports → (k : ℕ) (s : Seat) → slice_get (seats_of ports workers) k ≡ Some s → IsNewSeat s
+new_seats ports [] new k s there =
+    new_from 0 ports (λ n p is. let number : n ≡ 0 + n = omega arith in subst (λ m. IsNewPort m p) number (new n p is)) k s there
+new_seats ports (w ∷ workers) new zero s there = let same : seats.Worker w ≡ s = cc in subst IsNewSeat same tt
+new_seats ports (w ∷ workers) new (suc k) s there = new_seats ports workers new k s there
+
+-- ---- afterwards
+
+-- one seat more, where the first cause is looked for
+pub cause_more : (k : ℕ) (x : Seat) (all : List Seat) → k < length all → x ≡ get_or all k x → first_cause (filter_map stop_in (take (k + 1) all)) ≡ fold cause_after (first_cause (filter_map stop_in (take k all))) (option_to_list (stop_in x))
+cause_more k x all within is =
+    let before = filter_map stop_in (take k all) in
+    ap (λ xs. first_cause (filter_map stop_in xs)) (take_more all k x within ∙ ap (λ y. take k all ++ y ∷ []) (sym is)) ∙ ap first_cause (filter_map-append stop_in (take k all) (x ∷ []))
+    ∙ fold-append cause_after None before (filter_map stop_in (x ∷ [])) ∙ ap (fold cause_after (first_cause before)) (one (stop_in x))
+  where
+    one : (o : Option Stop) → cons_option o [] ≡ option_to_list o
+    one (Some stop) = refl
+    one None = refl
+
+-- what holds at each place
+from_places : {X : Type 0} (R : X → X → Type 0) (xs ys : List X) → length ys ≡ length xs → ((i : ℕ) (d : X) → i < length xs → R (slice_index_or xs i d) (slice_index_or ys i d)) → AreMatched R xs ys
+from_places R [] [] same each = tt
+from_places R (x ∷ xs) (y ∷ ys) same each = (each 0 x (omega arith), from_places R xs ys (omega (arith, same)) (λ i d below. each (suc i) d (omega (arith, below))))
+from_places R [] (y ∷ ys) same each = absurd (omega (arith, same))
+from_places R (x ∷ xs) [] same each = absurd (omega (arith, same))
+
+-- the same, as a vector has the seats back
+pub served_back : (instructions : List Instruction) (old new rest : List Seat) (n : ℕ) → n ≡ length new → length new ≡ length old → ((i : ℕ) (d : Seat) → i < length old → Serves instructions (slice_index_or old i d) (slice_index_or new i d))
+    → AreMatched (Serves instructions) old (take n (new ++ rest))
+served_back instructions old new rest n whole same serves =
+    subst (AreMatched (Serves instructions) old) (sym (ap (λ m. take m (new ++ rest)) whole ∙ take-append_seam new rest)) (from_places (Serves instructions) old new same serves)
+
+some_stays : (cause : Stop) (more : List Stop) → fold cause_after (Some cause) more ≡ None → ⊥
+some_stays cause [] none = cc
+some_stays stops.Told (stop ∷ more) none = some_stays stop more none
+some_stays stops.OutOfMemory (stop ∷ more) none = some_stays stops.OutOfMemory more none
+some_stays stops.ClockSpent (stop ∷ more) none = some_stays stops.ClockSpent more none
+some_stays stops.PortBroken (stop ∷ more) none = some_stays stops.PortBroken more none
+
+pub none_stopped : (causes : List Stop) → first_cause causes ≡ None → causes ≡ []
+none_stopped [] none = refl
+none_stopped (stop ∷ more) none = absurd (some_stays stop more none)
+
+ports_ended : (instructions : List Instruction) (first : ℕ) (ports : List PortState) (after : List Seat) → AreMatched (Serves instructions) (port_seats first ports) after → filter_map stop_in after ≡ []
+    → AreMatched (IsHostedFrom instructions) ports (filter_map hosted_in after) × (filter_map ended_in after ≡ [])
+ports_ended instructions first [] [] m none = (tt, refl)
+ports_ended instructions first [] (s ∷ after) m none = absurd m
+ports_ended instructions first (p ∷ ports) [] m none = absurd m
+ports_ended instructions first (p ∷ ports) (seats.PortEnd hosted ∷ after) m none = (let rest = ports_ended instructions (first + 1) ports after m.1 none in ((m.0, rest.0), rest.1))
+ports_ended instructions first (p ∷ ports) (seats.Stopped stop ∷ after) m none = cc
+ports_ended instructions first (p ∷ ports) (seats.Port number port ∷ after) m none = absurd m.0
+ports_ended instructions first (p ∷ ports) (seats.Worker worker ∷ after) m none = absurd m.0
+ports_ended instructions first (p ∷ ports) (seats.WorkerEnd end ∷ after) m none = absurd m.0
+
+pub all_ended : (instructions : List Instruction) (ports : List PortState) (workers : List WorkerState) (after : List Seat) → AreMatched (Serves instructions) (seats_of ports workers) after → filter_map stop_in after ≡ []
+    → AreMatched (IsHostedFrom instructions) ports (filter_map hosted_in after) × AreMatched IsEndOf workers (filter_map ended_in after)
+all_ended instructions ports [] after m none =
+    let rest = ports_ended instructions 0 ports after m none in (rest.0, subst (AreMatched IsEndOf []) (sym rest.1) tt)
+all_ended instructions ports (w ∷ workers) [] m none = absurd m
+all_ended instructions ports (w ∷ workers) (seats.WorkerEnd end ∷ after) m none = (let rest = all_ended instructions ports workers after m.1 none in (rest.0, (m.0, rest.1)))
+all_ended instructions ports (w ∷ workers) (seats.Stopped stop ∷ after) m none = cc
+all_ended instructions ports (w ∷ workers) (seats.Port number port ∷ after) m none = absurd m.0
+all_ended instructions ports (w ∷ workers) (seats.Worker worker ∷ after) m none = absurd m.0
+all_ended instructions ports (w ∷ workers) (seats.PortEnd hosted ∷ after) m none = absurd m.0

@@ -1,0 +1,6 @@
+use Rattle.std.proofs.Common.{[]}
+use Rattle.ddr_run.specs.Hosting.{HasAsked}
+use Rattle.ddr_run.proofs.hosting.Host.give_up_ready.Given as goal
+
+abbrev pub invariant-loop : goal.invariant-loop
+invariant-loop l = HasAsked l.fn.self l.self []

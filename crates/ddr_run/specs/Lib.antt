@@ -1,0 +1,4 @@
+pub mod Hosting
+pub mod Outcome
+pub mod Started
+pub mod Threads

@@ -1,0 +1,107 @@
+//! A run of a script in threads: bytes in, the replies of each port and a verdict on each channel's trace out.
+//!
+//! `threads`, `outcome` and `ddr_text` stand below, and `ddr_tool` above.
+ghost use Rattle.std.specs.Prelude.{◌≡◌, IfErr, IfOk, IfSome, None, map, string_bytes};
+ghost use Rattle.ddr_text.specs.Input.{IsText};
+ghost use Rattle.ddr_text.specs.Script.{view};
+ghost use Rattle.ddr_run.specs.Started.{AreChecked, HasRunFault, IsRan, IsThreaded};
+
+use crate::flag::Stop;
+use crate::outcome::{replies_of, verdicts_of};
+use crate::threads::run_all;
+use ddr_text::body::open;
+use ddr_text::fault::Fault;
+use ddr_text::input::{read_input, text_of};
+use ddr_text::instructions::{Form, instructions_of};
+use ddr_text::requests::check_requests;
+use ddr_text::script::Instruction;
+use ddr_text::writing::write_whole;
+use ddr_timing::config::Config;
+use ddr_timing::profile::PROFILE_S;
+use ddr_workers::closing::{CloseError, all_ends_of_one_open};
+use ddr_workers::{close, open as open_system};
+use std::alloc::Global;
+use std::io::{Read, Write};
+use std::sync::Wait;
+use std::thread::Threads;
+
+/// By which the ends of a run are told from those of others. A run has one system.
+const RUN: u64 = 0;
+
+/// Reads a script and runs it, with a thread for each port and one for each channel.
+///
+/// With `sample` the whole input is the script, on the sample configuration; else the input is a configuration, a
+/// line `---` and the script. Each port asks for what its lines say, in order, and keeps its replies. Once all threads
+/// ended these are written, those of port 0 first, and then a line for each channel: `channel C legal`, or `channel C fault
+/// PLACE RULE` for the first fault of its trace. Answers whether all traces are legal.
+///
+/// Fails as `open` does, then as `ScriptLine` at the first line of the script that is at fault, of which `cycle` is
+/// one, or as `ScriptLimit` at the first request too many, and then as `RequestLine` at the first request that no port
+/// takes. Where a thread stops before its end it fails as `OutOfMemory`, `ClockSpent` or `PortBroken`. Nothing is written
+/// before all threads ended.
+pub fn run<H: Threads + Wait + Sync, R: Read, W: Write>(
+    rt: &H,
+    alloc: Global,
+    sample: bool,
+    reader: &mut R,
+    writer: &mut W,
+) -> Result<bool, Fault>
+    ensures untouched { IfErr result (λ fault. (fault ≡ Fault.Write → ⊥) → writer.new ≡ writer.old) }
+    ensures fault { IfErr result (λ fault. IfSome (R.remaining reader.old) (λ input.
+        HasRunFault sample PROFILE_S.now input fault)) }
+    ensures written { IfOk result (λ legal. IfSome (R.remaining reader.old) (λ input.
+        IsRan sample PROFILE_S.now input legal (W.contents writer.old) (W.contents writer.new))) }
+{
+    let input = read_input(alloc, reader)?;
+    let text = text_of(input.as_slice())?;
+    let (config, instructions) = read_requests(alloc, sample, text)?;
+    let (text, legal) = run_threads(rt, alloc, &config, instructions.as_slice())?;
+    write_whole(writer, text.as_str())?;
+    Ok(legal)
+}
+
+/// The configuration of a text, and its script's instructions, each of which asks for what a port takes.
+fn read_requests(
+    alloc: Global,
+    sample: bool,
+    text: &str,
+) -> Result<(Config, Vec<Instruction>), Fault>
+    requires { IsText text.now }
+    ensures ok { IfOk result (λ read. AreChecked sample PROFILE_S.now text.now read.0 (map view read.1.items) None) }
+    ensures err { IfErr result (HasRunFault sample PROFILE_S.now text.now) }
+{
+    let (config, body) = open(alloc, sample, text)?;
+    let form = Form {
+        ports: config.limits.ports,
+        rounds: false,
+    };
+    let instructions = instructions_of(alloc, form, body)?;
+    check_requests(alloc, &config, body)?;
+    Ok((config, instructions))
+}
+
+/// Runs a script that was checked, and gives the text that is to be written, and whether all traces are legal.
+fn run_threads<H: Threads + Wait + Sync>(
+    rt: &H,
+    alloc: Global,
+    config: &Config,
+    instructions: &[Instruction],
+) -> Result<(String, bool), Stop>
+    ensures { IfOk result (λ ran. IsThreaded config.now (map view instructions.now) (string_bytes ran.0) ran.1) }
+{
+    let _limits = config.limits;
+    let (ports, workers) = open_system(alloc, config, RUN)?;
+    let ended = run_all(rt, alloc, instructions, ports, workers)?;
+    let replies = replies_of(alloc, ended.ports)?;
+    all_ends_of_one_open();
+    let closed = match close(rt, alloc, RUN, replies.ends, ended.workers) {
+        Ok(closed) => closed,
+        Err(CloseError::OutOfMemory(_)) => return Err(Stop::OutOfMemory),
+        Err(CloseError::Foreign(_)) => unreachable!(),
+        Err(CloseError::Missing(_)) => unreachable!(),
+    };
+    let (verdicts, legal) = verdicts_of(alloc, config, closed.traces.as_slice())?;
+    let mut text = replies.text;
+    text.push_str(verdicts.as_str())?;
+    Ok((text, legal))
+}

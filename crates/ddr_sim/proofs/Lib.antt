@@ -1,0 +1,4 @@
+pub mod Courses
+pub mod Growth
+pub mod RunLemmas
+pub mod StepCounts

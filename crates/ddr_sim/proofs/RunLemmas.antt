@@ -1,0 +1,176 @@
+-- A run as a whole.
+use Rattle.std.proofs.Common.{◌≡◌, ℕ, List, [], Bool, true, false, Option, None, Some, is_some, Result, Ok, Err, IsTrue, IfSome, ◌⊎◌, inl, inr, refl, sym, ap, subst, ◌∙◌, append-nil}
+use Rattle.std.proofs.KnownBytes.{Appends-nil, Appends-trans}
+use Rattle.std.proofs.lemmas.Bool.{both_ways}
+use Rattle.std.specs.Io.KnownBytes.{Appends, Keeps}
+use Rattle.ddr_timing.specs.declared.config.Config.{Config}
+use Rattle.ddr_world.specs.Kept.{state_of}
+use Rattle.ddr_text.specs.declared.fault.Fault.{Fault}
+use Rattle.ddr_text.specs.declared.fault.Fault.TheVariants as faults
+use Rattle.ddr_text.specs.Body.{IsOpened, parts_of}
+use Rattle.ddr_text.specs.Fault.{is_before_output}
+use Rattle.ddr_text.specs.Input.{IsText}
+use Rattle.ddr_text.specs.Instructions.{AreRead, form_of, instructions_of}
+use Rattle.ddr_sim.specs.Rounds.{Course, Run}
+use Rattle.ddr_sim.specs.Runs.{begun, channel_text, run_of, whole, written_by}
+use Rattle.ddr_text.specs.Script.{Instruction}
+use Rattle.ddr_sim.specs.Simulated.{BeginsWith, printed_in, ComesTo, Leads, Prints, Simulated, run_at}
+use Rattle.ddr_sim.specs.Sims.{AsksFor, HasSimFault, IsBeginning, IsRun, NamesNoChannel, Says, has_channel}
+
+-- what was read and opened says what the body says
+pub said_by : (remaining : Option (List ℕ)) (items text profile : List ℕ) (sample : Bool) (trace : Option ℕ) (config : Config) (body : List ℕ) (said : Result (List Instruction) Fault) → IfSome remaining (λ bytes. items ≡ bytes) → text ≡ items → IsText items
+    → IsOpened (parts_of sample profile text) config body → has_channel config trace ≡ true → instructions_of (form_of config true) body ≡ said → IfSome remaining (λ input. Says sample profile trace input config said)
+said_by None items text profile sample trace config body said known same is_text opened there e = tt
+said_by (Some input) items text profile sample trace config body said known same is_text opened there e =
+    subst (λ i. Says sample profile trace i config said) known (record {
+      text = is_text;
+      body = body;
+      opened = subst (λ t. IsOpened (parts_of sample profile t) config body) same opened;
+      there = there;
+      script = e;
+    })
+
+-- a channel that is not there
+pub names_no_channel : (remaining : Option (List ℕ)) (items text profile : List ℕ) (sample : Bool) (trace : Option ℕ) (config : Config) (body : List ℕ) → IfSome remaining (λ bytes. items ≡ bytes) → text ≡ items → IsText items → IsOpened (parts_of sample profile text) config body → has_channel config trace ≡ false
+    → IfSome remaining (λ input. NamesNoChannel sample profile trace input)
+names_no_channel None items text profile sample trace config body known same is_text opened absent = tt
+names_no_channel (Some input) items text profile sample trace config body known same is_text opened absent =
+    subst (λ i. NamesNoChannel sample profile trace i) known (record {
+      text = is_text;
+      config = config;
+      body = body;
+      opened = subst (λ t. IsOpened (parts_of sample profile t) config body) same opened;
+      absent = absent;
+    })
+
+-- a script that is at fault
+pub no_script : {X : Type 0} (view : X → List Instruction) (remaining : Option (List ℕ)) (profile : List ℕ) (sample : Bool) (trace : Option ℕ) (config : Config) (fault : Fault) (said : Result (List Instruction) Fault) (old : Option (List ℕ)) → AreRead view (Err fault) said
+    → ((other : Result (List Instruction) Fault) → said ≡ other → IfSome remaining (λ input. Says sample profile trace input config other)) → IfSome remaining (λ input. HasSimFault sample profile trace input old old fault)
+no_script view None profile sample trace config fault said old is says = tt
+no_script view (Some input) profile sample trace config faults.OutOfMemory said old is says = inl refl
+no_script view (Some input) profile sample trace config faults.ScriptLimit said old is says = inl ((config, says (Err faults.ScriptLimit) is), refl)
+no_script view (Some input) profile sample trace config (faults.ScriptLine line) said old is says = (config, says (Err (faults.ScriptLine line)) is)
+no_script view (Some input) profile sample trace config _ said old is says = absurd is
+
+-- nothing was printed before the first instruction
+nothing_printed : (silent : Bool) (old : Option (List ℕ)) → Prints silent old old []
+nothing_printed true old = refl
+nothing_printed false old = Appends-nil old
+
+-- the simulation began where the run of these instructions begins
+course_of : (config same : Config) (xs instructions : List Instruction) (sim : Simulated) → same ≡ config → xs ≡ instructions → run_at sim [] ≡ begun config → whole same xs (run_at sim []) ≡ run_of config instructions
+unfolding run_of
+course_of config same xs instructions sim e f is =
+    ap (λ (k : Config). whole k xs (run_at sim [])) e ∙ ap (λ (ys : List Instruction). whole config ys (run_at sim [])) f ∙ ap (whole config instructions) is
+
+pub came_to : (config same : Config) (xs instructions : List Instruction) (sim after : Simulated) (old new : Option (List ℕ)) (r : Result (Unit {0}) Fault) → same ≡ config → xs ≡ instructions → run_at sim [] ≡ begun config → Leads (whole same xs) sim old after new r → ComesTo old after new r (run_of config instructions)
+came_to config same xs instructions sim after old new r e f is leads =
+    subst (ComesTo old after new r) (course_of config same xs instructions sim e f is) (leads old [] (nothing_printed sim.silent old))
+
+late : (old new : Option (List ℕ)) (sim : Simulated) (fault : Fault) (course : Course) → ComesTo old sim new (Err fault) course → is_before_output fault ≡ false
+late old new sim faults.ScriptLimit course is = refl
+late old new sim faults.ClockSpent course is = refl
+late old new sim faults.OutOfMemory course is = refl
+late old new sim faults.Write course is = refl
+late old new sim _ course is = absurd is
+
+-- a fault of a run isn't one before any output
+pub late_untouched : (old new : Option (List ℕ)) (sim : Simulated) (fault : Fault) (course : Course) (A : Type 0) → ComesTo old sim new (Err fault) course → IsTrue (is_before_output fault) → A
+late_untouched old new sim fault course A is before = absurd (both_ways (is_before_output fault) (late old new sim fault course is) before)
+
+asked_so : (remaining : Option (List ℕ)) (profile : List ℕ) (sample : Bool) (trace : Option ℕ) (config : Config) (instructions : List Instruction) (course : Course) → IfSome remaining (λ input. Says sample profile trace input config (Ok instructions)) → run_of config instructions ≡ course
+    → IfSome remaining (λ input. AsksFor sample profile trace input course)
+asked_so None profile sample trace config instructions course says is = tt
+asked_so (Some input) profile sample trace config instructions course says is = record { config = config; instructions = instructions; says = says; course_is = is }
+
+stop_written : (trace : Option ℕ) (silent : Bool) (old new : Option (List ℕ)) (fault : Fault) (text : List ℕ) → silent ≡ is_some trace → Prints silent old new text → Appends old new (written_by trace (Err (record { fault = fault; text = text })))
+stop_written None silent old new fault text e printed = subst (λ b. Prints b old new text) e printed
+stop_written (Some c) silent old new fault text e printed =
+    let same : new ≡ old = subst (λ b. Prints b old new text) e printed in
+    subst (λ n. Appends old n []) (sym same) (Appends-nil old)
+
+beginning : (trace : Option ℕ) (silent : Bool) (old new : Option (List ℕ)) (text : List ℕ) (course : Course) → silent ≡ is_some trace → BeginsWith (printed_in course) text → Prints silent old new text → IsBeginning trace course old new
+beginning None silent old new text course e begins printed = (text, begins, subst (λ b. Prints b old new text) e printed)
+beginning (Some c) silent old new text course e begins printed = tt
+
+-- a run that a fault ended
+pub run_fault : (remaining : Option (List ℕ)) (profile : List ℕ) (sample : Bool) (trace : Option ℕ) (config : Config) (instructions : List Instruction) (sim : Simulated) (old new : Option (List ℕ)) (fault : Fault) → IfSome remaining (λ input. Says sample profile trace input config (Ok instructions))
+    → sim.silent ≡ is_some trace → ComesTo old sim new (Err fault) (run_of config instructions) → IfSome remaining (λ input. HasSimFault sample profile trace input old new fault)
+run_fault None profile sample trace config instructions sim old new fault says silent is = tt
+run_fault (Some input) profile sample trace config instructions sim old new faults.ScriptLimit says silent is = inr (record {
+  stop = record { fault = faults.ScriptLimit; text = is.0 };
+  asks = record { config = config; instructions = instructions; says = says; course_is = is.1 };
+  fault_is = refl;
+  written = stop_written trace sim.silent old new faults.ScriptLimit is.0 silent is.2;
+})
+run_fault (Some input) profile sample trace config instructions sim old new faults.ClockSpent says silent is = record {
+  stop = record { fault = faults.ClockSpent; text = is.0 };
+  asks = record { config = config; instructions = instructions; says = says; course_is = is.1 };
+  fault_is = refl;
+  written = stop_written trace sim.silent old new faults.ClockSpent is.0 silent is.2;
+}
+run_fault (Some input) profile sample trace config instructions sim old new faults.OutOfMemory says silent is = inr (record {
+  course = run_of config instructions;
+  asks = record { config = config; instructions = instructions; says = says; course_is = refl };
+  written = beginning trace sim.silent old new is.0 (run_of config instructions) silent is.1 is.2;
+})
+run_fault (Some input) profile sample trace config instructions sim old new faults.Write says silent is = (run_of config instructions, record { config = config; instructions = instructions; says = says; course_is = refl })
+run_fault (Some input) profile sample trace config instructions sim old new _ says silent is = absurd is
+
+-- a run whose end was not written: its replies, or its trace
+
+pub flush_fault : (remaining : Option (List ℕ)) (profile : List ℕ) (sample : Bool) (trace : Option ℕ) (config : Config) (instructions : List Instruction) (old new : Option (List ℕ)) (fault : Fault) → IfSome remaining (λ input. Says sample profile trace input config (Ok instructions))
+    → fault ≡ faults.Write → IfSome remaining (λ input. HasSimFault sample profile trace input old new fault)
+flush_fault None profile sample trace config instructions old new fault says is = tt
+flush_fault (Some input) profile sample trace config instructions old new fault says is =
+    subst (λ (f : Fault). HasSimFault sample profile trace input old new f) (sym is) (run_of config instructions, record { config = config; instructions = instructions; says = says; course_is = refl })
+
+unsaid : (trace : Option ℕ) (channel : ℕ) (course : Course) (old new : Option (List ℕ)) → trace ≡ Some channel → IsBeginning trace course old new
+unsaid None channel course old new e = absurd (let impossible = e in cc)
+unsaid (Some c) channel course old new e = tt
+
+pub end_fault : (remaining : Option (List ℕ)) (profile : List ℕ) (sample : Bool) (trace : Option ℕ) (channel : ℕ) (config : Config) (instructions : List Instruction) (old new : Option (List ℕ)) (fault : Fault) → trace ≡ Some channel → IfSome remaining (λ input. Says sample profile trace input config (Ok instructions))
+    → (fault ≡ faults.Write) ⊎ (fault ≡ faults.OutOfMemory) → IfSome remaining (λ input. HasSimFault sample profile trace input old new fault)
+end_fault None profile sample trace channel config instructions old new fault some says is = tt
+end_fault (Some input) profile sample trace channel config instructions old new faults.Write some says is = (run_of config instructions, record { config = config; instructions = instructions; says = says; course_is = refl })
+end_fault (Some input) profile sample trace channel config instructions old new faults.OutOfMemory some says is = inr (record {
+  course = run_of config instructions;
+  asks = record { config = config; instructions = instructions; says = says; course_is = refl };
+  written = unsaid trace channel (run_of config instructions) old new some;
+})
+end_fault (Some input) profile sample trace channel config instructions old new _ some says is = absurd (elim is as (λ _. ⊥) [ inl e ↦ cc | inr e ↦ cc ])
+
+kept_as_appended : (b c : Option (List ℕ)) → Keeps b c → Appends b c []
+kept_as_appended None c q = tt
+kept_as_appended (Some x) None q = absurd q
+kept_as_appended (Some x) (Some y) q = q ∙ sym (append-nil x)
+
+appends_kept : (a b c : Option (List ℕ)) (bs : List ℕ) → Appends a b bs → Keeps b c → Appends a c bs
+appends_kept a b c bs p q = subst (Appends a c) (append-nil bs) (Appends-trans a b c bs [] p (kept_as_appended b c q))
+
+-- what a run without a fault writes, with its last part
+end_written : (trace : Option ℕ) (silent : Bool) (old mid new : Option (List ℕ)) (run : Run) → silent ≡ is_some trace → Prints silent old mid run.text → (elim trace as (λ _. Type 0) [ None ↦ Keeps mid new | Some c ↦ Appends mid new (channel_text run.state c) ]) → Appends old new (written_by trace (Ok run))
+end_written None silent old mid new run e printed last = appends_kept old mid new run.text (subst (λ b. Prints b old mid run.text) e printed) last
+end_written (Some c) silent old mid new run e printed last =
+    let same : mid ≡ old = subst (λ b. Prints b old mid run.text) e printed in
+    subst (λ m. Appends m new (channel_text run.state c)) same last
+
+run_written : (remaining : Option (List ℕ)) (profile : List ℕ) (sample : Bool) (trace : Option ℕ) (config : Config) (instructions : List Instruction) (sim : Simulated) (old mid new : Option (List ℕ)) (v : Unit {0}) → IfSome remaining (λ input. Says sample profile trace input config (Ok instructions))
+    → sim.silent ≡ is_some trace → ComesTo old sim mid (Ok v) (run_of config instructions) → (elim trace as (λ _. Type 0) [ None ↦ Keeps mid new | Some c ↦ Appends mid new (channel_text (state_of sim.world) c) ])
+    → IfSome remaining (λ input. IsRun sample profile trace input old new)
+run_written None profile sample trace config instructions sim old mid new v says silent is last = tt
+run_written (Some input) profile sample trace config instructions sim old mid new v says silent is last = record {
+  run = run_at sim is.0;
+  asks = record { config = config; instructions = instructions; says = says; course_is = is.1 };
+  written = end_written trace sim.silent old mid new (run_at sim is.0) silent is.2 last;
+}
+
+pub replies_written : (remaining : Option (List ℕ)) (profile : List ℕ) (sample : Bool) (trace : Option ℕ) (config : Config) (instructions : List Instruction) (sim : Simulated) (old mid new : Option (List ℕ)) (v : Unit {0}) → IfSome remaining (λ input. Says sample profile trace input config (Ok instructions))
+    → sim.silent ≡ is_some trace → trace ≡ None → ComesTo old sim mid (Ok v) (run_of config instructions) → Keeps mid new → IfSome remaining (λ input. IsRun sample profile trace input old new)
+replies_written remaining profile sample trace config instructions sim old mid new v says silent none is last =
+    run_written remaining profile sample trace config instructions sim old mid new v says silent is (subst (λ (t : Option ℕ). elim t as (λ _. Type 0) [ None ↦ Keeps mid new | Some c ↦ Appends mid new (channel_text (state_of sim.world) c) ]) (sym none) last)
+
+pub trace_written : (remaining : Option (List ℕ)) (profile : List ℕ) (sample : Bool) (trace : Option ℕ) (channel : ℕ) (config : Config) (instructions : List Instruction) (sim : Simulated) (old mid new : Option (List ℕ)) (v : Unit {0}) → IfSome remaining (λ input. Says sample profile trace input config (Ok instructions))
+    → sim.silent ≡ is_some trace → trace ≡ Some channel → ComesTo old sim mid (Ok v) (run_of config instructions) → Appends mid new (channel_text (state_of sim.world) channel) → IfSome remaining (λ input. IsRun sample profile trace input old new)
+trace_written remaining profile sample trace channel config instructions sim old mid new v says silent some is last =
+    run_written remaining profile sample trace config instructions sim old mid new v says silent is (subst (λ (t : Option ℕ). elim t as (λ _. Type 0) [ None ↦ Keeps mid new | Some c ↦ Appends mid new (channel_text (state_of sim.world) c) ]) (sym some) last)

@@ -1,0 +1,5 @@
+pub mod Replies
+pub mod Rounds
+pub mod Runs
+pub mod Sims
+pub mod Simulated

@@ -1,0 +1,13 @@
+//! Tests that cross crates; nothing else is here, and nothing stands above.
+//!
+//! `world` runs the core by worked lists of events and by chance, `texts` takes inputs and command lines apart, and
+//! `commands` runs whole commands, over inputs of bytes, and looks at every byte that comes out. All stand on public calls
+//! alone. The tests of one crate's own calls stand in it.
+#![tactic(auto)]
+
+#[cfg(test)]
+mod commands;
+#[cfg(test)]
+mod texts;
+#[cfg(test)]
+mod world;

@@ -1,0 +1,163 @@
+//! Command lines, and the jobs that they state.
+use clap::error::ErrorKind;
+use ddr_text::job::{Job, job_of};
+use std::alloc::{AllocError, Global};
+use std::process::Abort;
+use std::test::Fail;
+
+/// The words of a command line, between spaces.
+fn words_of(alloc: Global, line: &str) -> Result<Vec<&str>, AllocError> {
+    let mut words = Vec::new(alloc);
+    for word in line.split(' ') {
+        words.push(word)?;
+    }
+    Ok(words)
+}
+
+/// That a command line states a job.
+fn states(rt: &impl Abort, alloc: Global, line: &str, job: Job) -> Result<(), Fail> {
+    let words = words_of(alloc, line)?;
+    assert_eq!(rt; job_of(alloc, words.as_slice())?, job, "{line:?}");
+    Ok(())
+}
+
+/// That a command line gives an error of this kind.
+fn gives(rt: &impl Abort, alloc: Global, line: &str, kind: ErrorKind) -> Result<(), Fail> {
+    let words = words_of(alloc, line)?;
+    let given = job_of(alloc, words.as_slice()).err();
+    assert_eq!(rt; given.map(|error| error.kind()), Some(kind), "{line:?}");
+    Ok(())
+}
+
+/// Command lines, and the jobs that they state.
+const JOBS: &[(&str, Job)] = &[
+    ("ddr run", Job::Run { sample: false }),
+    ("ddr run --sample", Job::Run { sample: true }),
+    ("ddr check", Job::Check { sample: false }),
+    ("ddr check --sample", Job::Check { sample: true }),
+    ("ddr map", Job::Map { sample: false }),
+    ("ddr map --sample", Job::Map { sample: true }),
+    // The program may have another name.
+    ("/bin/model map", Job::Map { sample: false }),
+];
+
+/// Command lines, whether each asks for the sample, and which trace.
+const SIMS: &[(&str, bool, Option<u32>)] = &[
+    ("ddr", true, None),
+    ("ddr sim", false, None),
+    ("ddr sim --sample", true, None),
+    ("ddr sim --trace 1", false, Some(1)),
+    ("ddr sim --trace 0 --sample", true, Some(0)),
+    (
+        "ddr sim --sample --trace=4294967295",
+        true,
+        Some(4_294_967_295),
+    ),
+];
+
+#[test]
+fn sims(rt: HostRuntime) -> Result<(), Fail> {
+    for (line, sample, trace) in SIMS {
+        let job = Job::Sim {
+            sample: *sample,
+            trace: *trace,
+        };
+        states(&rt, rt.alloc(), line, job)?;
+    }
+    Ok(())
+}
+
+#[test]
+fn no_words(rt: HostRuntime) -> Result<(), Fail> {
+    let sample = Job::Sim {
+        sample: true,
+        trace: None,
+    };
+    assert_eq!(rt; job_of(rt.alloc(), [].as_slice())?, sample);
+    Ok(())
+}
+
+#[test]
+fn subcommands(rt: HostRuntime) -> Result<(), Fail> {
+    for (line, job) in JOBS {
+        states(&rt, rt.alloc(), line, *job)?;
+    }
+    Ok(())
+}
+
+/// Command lines, and the kinds of their errors.
+const ERRORS: &[(&str, ErrorKind)] = &[
+    ("ddr --sample", ErrorKind::UnknownArgument),
+    ("ddr map --other", ErrorKind::UnknownArgument),
+    ("ddr map -s", ErrorKind::UnknownArgument),
+    ("ddr map more", ErrorKind::UnknownArgument),
+    ("ddr check --trace 0", ErrorKind::UnknownArgument),
+    ("ddr map --trace=0", ErrorKind::UnknownArgument),
+    ("ddr run --trace 1", ErrorKind::UnknownArgument),
+    ("ddr trace", ErrorKind::InvalidSubcommand),
+    ("ddr SIM", ErrorKind::InvalidSubcommand),
+    ("ddr ", ErrorKind::InvalidSubcommand),
+    // Values.
+    ("ddr sim --trace x", ErrorKind::ValueValidation),
+    ("ddr sim --trace=-1", ErrorKind::ValueValidation),
+    ("ddr sim --trace=4294967296", ErrorKind::ValueValidation),
+    ("ddr sim --trace", ErrorKind::InvalidValue),
+    ("ddr sim --sample=true", ErrorKind::TooManyValues),
+    ("ddr map --sample --sample", ErrorKind::ArgumentConflict),
+    // Requests for help.
+    ("ddr --help", ErrorKind::DisplayHelp),
+    ("ddr -h", ErrorKind::DisplayHelp),
+    ("ddr sim --help", ErrorKind::DisplayHelp),
+];
+
+#[test]
+fn errors(rt: HostRuntime) -> Result<(), Fail> {
+    for (line, kind) in ERRORS {
+        gives(&rt, rt.alloc(), line, *kind)?;
+    }
+    Ok(())
+}
+
+const BAD_CHANNELS: &[&str] = &["x", "", "-1", "1.0", "0x1", " 1", "4294967296"];
+
+#[test]
+fn bad_channels(rt: HostRuntime) {
+    for channel in BAD_CHANNELS {
+        let words = ["ddr", "sim", "--sample", "--trace", *channel];
+        let job = job_of(rt.alloc(), words.as_slice());
+        assert!(rt; job.is_err(), "{channel:?}");
+    }
+}
+
+/// Command lines, and the first lines of the texts of their errors.
+const TEXTS: &[(&str, &str)] = &[
+    (
+        "ddr sim --trace=x",
+        "error: invalid value 'x' for '--trace <CHANNEL>': invalid digit found in string",
+    ),
+    (
+        "ddr map --trace=0",
+        "error: unexpected argument '--trace' found",
+    ),
+    (
+        "ddr erase --sample",
+        "error: unrecognized subcommand 'erase'",
+    ),
+];
+
+/// That a command line gives an error whose text begins with this line.
+fn says(rt: &impl Abort, alloc: Global, line: &str, text: &str) -> Result<(), Fail> {
+    let words = words_of(alloc, line)?;
+    let error = job_of(alloc, words.as_slice()).err().ok_or("an error")?;
+    let whole = error.to_string(alloc)?;
+    assert_eq!(rt; whole.as_str().lines().next(), Some(text), "{line:?}");
+    Ok(())
+}
+
+#[test]
+fn texts(rt: HostRuntime) -> Result<(), Fail> {
+    for (line, text) in TEXTS {
+        says(&rt, rt.alloc(), line, text)?;
+    }
+    Ok(())
+}

@@ -1,6 +1,0 @@
-use Rattle.std.proofs.Common.{[]}
-use Rattle.ddr_tool.specs.Hosting.{HasAsked}
-use Rattle.ddr_tool.proofs.hosting.Host.drain.Given as goal
-
-abbrev pub invariant-loop : goal.invariant-loop
-invariant-loop g l = HasAsked l.fn.self l.self []

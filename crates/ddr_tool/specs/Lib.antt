@@ -1,9 +1,0 @@
-pub mod Hosting
-pub mod Outcome
-pub mod Replies
-pub mod Rounds
-pub mod Runs
-pub mod Sims
-pub mod Simulated
-pub mod Started
-pub mod Threads
