@@ -14,7 +14,6 @@ pub mod SentLemmas
 pub mod SideLemmas
 pub mod StepLemmas
 pub mod TotalLemmas
-pub mod TwoSideLemmas
 pub mod WorkerLemmas
 pub mod CountedLemmas
 pub mod EndedLemmas

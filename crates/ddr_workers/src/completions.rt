@@ -95,6 +95,3 @@ pub fn join<R: Wait>(rt: &R, puts: Vec<DonePut>, take: DoneTake) -> Vec<Done>
 {
     lane::join(rt, puts, take)
 }
-
-#[cfg(test)]
-mod tests;

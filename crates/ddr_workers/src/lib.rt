@@ -29,10 +29,6 @@ pub mod refusal;
 pub mod requests;
 mod rows;
 mod system;
-#[cfg(test)]
-mod testing;
-#[cfg(test)]
-mod tests;
 pub mod worker;
 
 pub use closing::close;

@@ -128,6 +128,3 @@ pub fn join<R: Wait>(rt: &R, puts: Vec<RequestPut>, take: RequestTake) -> Vec<It
 {
     lane::join(rt, puts, take)
 }
-
-#[cfg(test)]
-mod tests;

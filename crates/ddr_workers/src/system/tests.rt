@@ -5,7 +5,6 @@ ghost use Rattle.ddr_workers.specs.Completions.{IsFrom};
 use super::*;
 use crate::port::PollAnswer;
 use crate::refusal::{FinishError, PollError, SubmitError};
-use crate::testing::{is_reply, read_echo};
 use ddr_address_map::map::Map;
 use ddr_address_map::request::{Done, Echo, Kind};
 use ddr_ports::request::Request;
@@ -34,6 +33,13 @@ fn port_and_side(alloc: Global, config: &Config) -> Result<(Port, DonePut), Fail
     Ok((port, side))
 }
 
+/// What the reply of a read of the first bytes repeats of it.
+const READ: Echo = Echo {
+    kind: Kind::Read,
+    addr: 0,
+    len: 4,
+};
+
 /// The completion of a read of the first line, with this number, for port 0: a line of nines.
 fn completion(alloc: Global, config: &Config, number: u64) -> Option<Done>
     ensures { IfSome result (IsFrom (record { geometry = config.now.geometry; port = 0 }) 0) }
@@ -46,11 +52,7 @@ fn completion(alloc: Global, config: &Config, number: u64) -> Option<Done>
     Some(Done {
         port: 0,
         number,
-        echo: Echo {
-            kind: Kind::Read,
-            addr: 0,
-            len: 4,
-        },
+        echo: READ,
         issued: 4,
         due: 12,
         line,
@@ -78,7 +80,12 @@ fn complete<R: Wait>(
 
 /// Whether the read of number 0 is in front, with its bytes.
 fn is_first_in_front(port: &Port) -> bool {
-    is_reply(port.front(), 0, read_echo(0, 4), &[9; 4])
+    match port.front() {
+        Some(reply) => {
+            reply.number == 0 && reply.echo == READ && reply.bytes == [9; 4].as_slice()
+        }
+        None => false,
+    }
 }
 
 /// Submits two reads and takes the first one's completion in.

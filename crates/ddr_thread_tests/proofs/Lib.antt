@@ -1,0 +1,2 @@
+pub mod OneOpen
+pub mod TwoSideLemmas

@@ -1,0 +1,10 @@
+use Rattle.std.proofs.Common.{◌≡◌, rules, ◌∷◌, [], inl, inr, refl}
+use Rattle.ddr_thread_tests.proofs.OneOpen.{among}
+use Rattle.ddr_thread_tests.proofs.runs.refusals.the_end_of_a_worker_is_missing.Goals as goal
+
+pub cause_of-requires : goal.cause_of-requires
+cause_of-requires g c =
+    let all = c.in_ok-first in
+    let ports : c.in_ok-ports.ports.items ≡ all.first ∷ all.second ∷ [] = search rules in
+    let workers : c.in_ok-workers.workers.items ≡ all.second_work ∷ [] = search rules in
+    among 7 all.first all.second _ all.second_work all.ensures.one _ _ _ _ ports workers (λ own. inl refl, (λ own. inr refl, tt)) (λ own. inr refl, tt)

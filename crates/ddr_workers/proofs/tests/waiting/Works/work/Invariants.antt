@@ -1,5 +1,0 @@
-use Rattle.ddr_workers.specs.Port.{IsSamePort}
-use Rattle.ddr_workers.proofs.tests.waiting.Works.work.Given as goal
-
-abbrev pub invariant-loop-round : goal.invariant-loop-round
-invariant-loop-round g l = IsSamePort l.fn.port l.port
