@@ -2,11 +2,14 @@
 //!
 //! Below stands `table`, with what the table holds at a key; `values` takes the values of a table that
 //! passed.
-ghost use Rattle.std.specs.Prelude.{◌≡◌, ◌≢◌, ◌<◌, IfErr, IfSome, None, OnOk, find, length, not, position};
+ghost use Rattle.std.specs.Prelude.{◌≡◌, ◌≢◌, ◌+◌, ◌<◌, ◌&&◌, IfErr, IfSome, IsTrue, None, OnOk, find, length, max, nat_le, nat_lt, not, position};
 ghost use Rattle.std.specs.Result.{result_err};
 ghost use Rattle.toml.specs.View.{table_view};
-ghost use Rattle.ddr_timing.specs.Keys.{keys};
+ghost use Rattle.ddr_timing.specs.declared.key.Key.TheVariants.{Low, High, Writes, Cl, Cwl, Rp, Ras, CcdS, Wr, Rtp, Rtw, Rfc, Refi};
+ghost use Rattle.ddr_timing.specs.declared.units.TheConstants.{BURST_CLOCKS};
+ghost use Rattle.ddr_timing.specs.Keys.{domain_of, keys};
 ghost use Rattle.ddr_timing.specs.Refusals.{IsSound, broken_relation, has_unknown, is_key, is_missing, is_no_power, is_out_of_range, not_power_of_two, out_of_range, relations, table_refusal};
+ghost use Rattle.ddr_timing.specs.Tables.{number_of, takes_number};
 
 use crate::error::ConfigError;
 use crate::key::{Domain, Key};
@@ -125,30 +128,79 @@ fn relations(table: &Table) -> [bool; 7]
     requires { out_of_range (table_view table.now) ≡ None }
     ensures { result ≡ relations (table_view table.now) }
 {
+    [
+        bursts_pass(table),
+        is_at_least(table, Key::CcdL, Key::CcdS),
+        is_at_least(table, Key::RrdL, Key::RrdS),
+        write_follows_read(table),
+        refresh_fits(table),
+        marks_lie_apart(table),
+        mark_is_reached(table),
+    ]
+}
+
+/// Whether the value at one key is not below that at another.
+fn is_at_least(table: &Table, key: Key, other: Key) -> bool
+    requires ranged { out_of_range (table_view table.now) ≡ None }
+    requires takes { IsTrue (takes_number (domain_of key)) }
+    requires other_takes { IsTrue (takes_number (domain_of other)) }
+    ensures { result ≡ nat_le (number_of (table_view table.now) other) (number_of (table_view table.now) key) }
+{
+    number(table, key) >= number(table, other)
+}
+
+/// Whether column commands to two bank groups are no closer than a burst takes.
+fn bursts_pass(table: &Table) -> bool
+    requires { out_of_range (table_view table.now) ≡ None }
+    ensures { result ≡ nat_le BURST_CLOCKS (number_of (table_view table.now) CcdS) }
+{
+    let ccd_s = number(table, Key::CcdS);
+    ccd_s >= BURST_CLOCKS
+}
+
+/// Whether a write that follows a read has its data behind the read's.
+fn write_follows_read(table: &Table) -> bool
+    requires { out_of_range (table_view table.now) ≡ None }
+    ensures { result ≡ (nat_le BURST_CLOCKS (number_of (table_view table.now) Rtw) && nat_le (number_of (table_view table.now) Cl + BURST_CLOCKS) (number_of (table_view table.now) Rtw + number_of (table_view table.now) Cwl)) }
+{
     let cl = number(table, Key::Cl);
+    let cwl = number(table, Key::Cwl);
+    let rtw = number(table, Key::Rtw);
+    rtw >= BURST_CLOCKS && rtw + cwl >= cl + BURST_CLOCKS
+}
+
+/// Whether an interval between refreshes has time for one, and for what has to end before it.
+fn refresh_fits(table: &Table) -> bool
+    requires { out_of_range (table_view table.now) ≡ None }
+    ensures { result ≡ nat_le (max (max (max (number_of (table_view table.now) Ras) (number_of (table_view table.now) Cwl + BURST_CLOCKS + number_of (table_view table.now) Wr)) (number_of (table_view table.now) Rtp) + number_of (table_view table.now) Rp) (number_of (table_view table.now) Rfc) + 4) (number_of (table_view table.now) Refi) }
+{
     let cwl = number(table, Key::Cwl);
     let rp = number(table, Key::Rp);
     let ras = number(table, Key::Ras);
-    let rrd_s = number(table, Key::RrdS);
-    let rrd_l = number(table, Key::RrdL);
-    let ccd_s = number(table, Key::CcdS);
-    let ccd_l = number(table, Key::CcdL);
     let wr = number(table, Key::Wr);
     let rtp = number(table, Key::Rtp);
-    let rtw = number(table, Key::Rtw);
     let rfc = number(table, Key::Rfc);
     let refi = number(table, Key::Refi);
+    let precharged = ras.max(cwl + BURST_CLOCKS + wr).max(rtp) + rp;
+    precharged.max(rfc) + 4 <= refi
+}
+
+/// Whether the low mark of the write drain lies below the high one.
+fn marks_lie_apart(table: &Table) -> bool
+    requires { out_of_range (table_view table.now) ≡ None }
+    ensures { result ≡ nat_lt (number_of (table_view table.now) Low) (number_of (table_view table.now) High) }
+{
     let low = number(table, Key::Low);
     let high = number(table, Key::High);
+    low < high
+}
+
+/// Whether the writes that may wait reach the high mark of the write drain.
+fn mark_is_reached(table: &Table) -> bool
+    requires { out_of_range (table_view table.now) ≡ None }
+    ensures { result ≡ nat_le (number_of (table_view table.now) High) (number_of (table_view table.now) Writes) }
+{
+    let high = number(table, Key::High);
     let writes = number(table, Key::Writes);
-    let precharged = ras.max(cwl + BURST_CLOCKS + wr).max(rtp) + rp;
-    [
-        ccd_s >= BURST_CLOCKS,
-        ccd_l >= ccd_s,
-        rrd_l >= rrd_s,
-        rtw >= BURST_CLOCKS && rtw + cwl >= cl + BURST_CLOCKS,
-        precharged.max(rfc) + 4 <= refi,
-        low < high,
-        high <= writes,
-    ]
+    high <= writes
 }
