@@ -1,6 +1,7 @@
 //! Runs of a channel. Those of `rows`, `refreshes`, `drain` and `refusals` are worked out by hand, their cycles and
 //! their bytes; those of `chance` are compared with a flat map of bytes and with the checkers of a whole trace.
-ghost use Rattle.std.specs.Prelude.{◌≡◌, IfOk};
+ghost use Rattle.std.specs.Prelude.{◌≡◌, ◌≤◌, IfOk};
+ghost use Rattle.ddr_timing.specs.declared.units.TheConstants.{CLOCK_STOP};
 ghost use Rattle.ddr_channel.specs.Sound.{IsServed};
 
 use crate::channel::{Channel, CycleError};
@@ -11,6 +12,7 @@ use ddr_timing::profile::PROFILE_S;
 use ddr_trace::command::{Command, Entry};
 use ddr_trace::trace::Trace;
 use std::alloc::{AllocError, Global};
+use std::fmt::Debug;
 use std::process::Abort;
 use std::test::Fail;
 
@@ -23,6 +25,11 @@ mod rows;
 /// The bytes of a line that was never written.
 const ZEROS: Line = [0; 64];
 
+/// Compares what is found with what is expected. A failure names this line, so it is told what was compared.
+fn check_eq<T: Copy + PartialEq + Debug>(rt: &impl Abort, what: &str, found: T, expected: T) {
+    assert_eq!(rt; found, expected, "{what}");
+}
+
 /// Profile S with other lines: each pair is a key and what stands for its line.
 fn config_with(alloc: Global, lines: &[(&str, &str)]) -> Result<Config, Fail> {
     let mut text = String::new(alloc);
@@ -34,7 +41,10 @@ fn config_with(alloc: Global, lines: &[(&str, &str)]) -> Result<Config, Fail> {
 }
 
 fn push_line(text: &mut String, line: &str, lines: &[(&str, &str)]) -> Result<(), AllocError> {
-    let name = line.split_once(' ').map_or(line, |(name, _)| name);
+    let name = match line.split_once(' ') {
+        Some((name, _)) => name,
+        None => line,
+    };
     for (key, other) in lines {
         if name == *key {
             return text.push_str(other);
@@ -92,10 +102,17 @@ fn request(alloc: Global, config: &Config, number: u64, access: Access) -> Resul
     })
 }
 
+/// A channel of profile S with other lines, before this cycle.
+fn open_at(alloc: Global, lines: &[(&str, &str)], first: u64) -> Result<Channel, Fail>
+    requires { first ≤ CLOCK_STOP }
+{
+    let config = config_with(alloc, lines)?;
+    Ok(Channel::open(alloc, &config, first)?)
+}
+
 /// A channel of profile S with other lines, before cycle 0.
 fn open(alloc: Global, lines: &[(&str, &str)]) -> Result<Channel, Fail> {
-    let config = config_with(alloc, lines)?;
-    Ok(Channel::open(alloc, &config, 0)?)
+    open_at(alloc, lines, 0)
 }
 
 /// Admits a request for each access, with numbers from `first` on.
@@ -227,23 +244,38 @@ struct Outcome {
     lines: &'static [(u64, &'static [u8])],
 }
 
+/// Requests in turns, and what comes of them.
+#[derive(Drop)]
+struct Case {
+    /// What is changed in profile S: each pair is a key and what stands for its line.
+    lines: &'static [(&'static str, &'static str)],
+    /// How many cycles are made, and which requests are admitted then. The requests are numbered from 0.
+    turns: &'static [(u32, &'static [Access])],
+    outcome: Outcome,
+}
+
+fn push_step(entries: &mut Vec<Entry>, step: &Step) -> Result<(), AllocError> {
+    entries.push(step.entry())?;
+    Ok(())
+}
+
 fn push_steps(entries: &mut Vec<Entry>, steps: &[Step]) -> Result<(), AllocError> {
     for step in steps {
-        entries.push(step.entry())?;
+        push_step(entries, step)?;
     }
     Ok(())
 }
 
 /// Compares the trace so far, and the next cycle.
 fn check_entries(rt: &impl Abort, channel: &Channel, commands: &[Entry], now: u64) {
-    assert_eq!(rt; channel.trace(), commands);
-    assert_eq!(rt; channel.now(), now);
+    check_eq(rt, "the commands so far", channel.trace(), commands);
+    check_eq(rt, "the next cycle", channel.now(), now);
 }
 
 /// Compares a whole trace from cycle 0 on.
 fn check_whole(rt: &impl Abort, trace: &Trace, commands: &[Entry], end: u64) {
-    assert_eq!(rt; trace.entries.as_slice(), commands);
-    assert_eq!(rt; (trace.start, trace.end), (0, end));
+    check_eq(rt, "all commands", trace.entries.as_slice(), commands);
+    check_eq(rt, "the ends", (trace.start, trace.end), (0, end));
 }
 
 /// Compares the trace and its end. The channel is given up.
@@ -271,7 +303,7 @@ fn check_times(
     for done in taken {
         times.push((done.number, done.issued, done.due))?;
     }
-    assert_eq!(rt; times.as_slice(), expected);
+    check_eq(rt, "the times", times.as_slice(), expected);
     Ok(())
 }
 
@@ -319,16 +351,10 @@ fn check_rest(
     Ok(())
 }
 
-/// Opens a channel of profile S with other lines, admits requests in turns, and compares all that comes of them.
-fn check(
-    rt: &impl Abort,
-    alloc: Global,
-    lines: &[(&str, &str)],
-    turns: &[(u32, &[Access])],
-    outcome: &Outcome,
-) -> Result<(), Fail> {
-    let mut channel = open(alloc, lines)?;
-    admit_in_turns(alloc, &mut channel, turns)?;
-    check_rest(rt, alloc, &mut channel, outcome)?;
-    check_trace(rt, alloc, channel, outcome)
+/// Opens a channel, admits the requests of a case in their turns, and compares all that comes of them.
+fn check(rt: &impl Abort, alloc: Global, case: &Case) -> Result<(), Fail> {
+    let mut channel = open(alloc, case.lines)?;
+    admit_in_turns(alloc, &mut channel, case.turns)?;
+    check_rest(rt, alloc, &mut channel, &case.outcome)?;
+    check_trace(rt, alloc, channel, &case.outcome)
 }

@@ -73,13 +73,18 @@ impl Chance {
     }
 }
 
+/// Puts a byte over another where it is enabled.
+fn put(old: &mut u8, new: u8, enabled: bool) {
+    if enabled {
+        *old = new;
+    }
+}
+
 /// Puts the bytes whose bit in the mask is set over those of the line.
 fn merge(line: &mut Line, mask: u64, bytes: &Line) {
     let mut rest = mask;
     for (old, new) in line.iter_mut().zip(bytes.iter()) {
-        if rest & 1 == 1 {
-            *old = *new;
-        }
+        put(old, *new, rest & 1 == 1);
         rest >>= 1;
     }
 }
@@ -110,10 +115,9 @@ struct Run {
 }
 
 fn start(alloc: Global, lines: &[(&str, &str)]) -> Result<Run, Fail> {
-    let config = config_with(alloc, lines)?;
     Ok(Run {
         alloc,
-        channel: Channel::open(alloc, &config, START)?,
+        channel: open_at(alloc, lines, START)?,
         chance: Chance(1),
         memory: vec![in alloc; ZEROS; LINES]?,
         admitted: Vec::new(alloc),
@@ -174,7 +178,12 @@ impl Run {
             .admitted
             .get_mut(number as usize)
             .ok_or("never admitted")?;
-        assert!(rt; !admitted.came_back, "request {number} came twice");
+        check_eq(
+            rt,
+            "coming twice",
+            (number, admitted.came_back),
+            (number, false),
+        );
         admitted.came_back = true;
         Ok(*admitted)
     }
@@ -223,7 +232,12 @@ impl Run {
     /// Checks that all came back, each by a column command of its own, and that the trace is legal.
     fn check_whole(&self, rt: &impl Abort) -> Result<(), Fail> {
         let count = self.admitted.len();
-        assert_eq!(rt; (self.all_came_back(), self.columns()), (true, count));
+        check_eq(
+            rt,
+            "what came back",
+            (self.all_came_back(), self.columns()),
+            (true, count),
+        );
         assert!(rt; count > 100 && self.refused > 100);
         check_legal(rt, self.alloc, &self.channel)
     }
@@ -253,11 +267,15 @@ impl Run {
 /// Compares a request that was handed back with what was offered.
 fn check_returned(rt: &impl Abort, returned: &Req, number: u64, access: Access, line: &Line) {
     let (mask, _) = access.mask_and_byte();
-    assert_eq!(rt; (returned.port, returned.number), (0, number));
-    assert_eq!(rt;
-        (returned.echo, returned.mask, *returned.line),
-        (access.echo(), mask, *line)
+    check_eq(
+        rt,
+        "the number",
+        (returned.port, returned.number),
+        (0, number),
     );
+    check_eq(rt, "the echo", returned.echo, access.echo());
+    check_eq(rt, "the mask", returned.mask, mask);
+    check_eq(rt, "the line", *returned.line, *line);
 }
 
 /// Compares what is done with the request that was admitted. Nothing is said of the line of a write.
@@ -267,10 +285,9 @@ fn check_done(rt: &impl Abort, done: &Done, admitted: &Admitted) {
         Kind::Write => (7, *done.line),
     };
     let due = done.issued.wrapping_add(latency);
-    assert_eq!(rt;
-        (done.echo, done.due, *done.line),
-        (admitted.echo, due, line)
-    );
+    check_eq(rt, "the echo", done.echo, admitted.echo);
+    check_eq(rt, "when it is due", done.due, due);
+    check_eq(rt, "the line", *done.line, line);
 }
 
 /// Checks a whole trace by both checkers.
@@ -279,10 +296,9 @@ fn check_legal(rt: &impl Abort, alloc: Global, channel: &Channel) -> Result<(), 
     let entries = channel.trace();
     let end = channel.now();
     let fault = checker::first_fault(alloc, entries, config, START, end)?;
-    assert_eq!(rt;
-        (fault, plain::first_fault(entries, config, START, end)),
-        (None, None)
-    );
+    check_eq(rt, "the first fault", fault, None);
+    let fault = plain::first_fault(entries, config, START, end);
+    check_eq(rt, "the first fault told by the plain checker", fault, None);
     Ok(())
 }
 
@@ -297,52 +313,63 @@ fn calls_by_chance_in_profile_s(rt: HostRuntime) -> Result<(), Fail> {
     runs_well(&rt, rt.alloc(), &[])
 }
 
+const SMALLEST: &[(&str, &str)] = &[
+    ("reads", "reads = 1"),
+    ("writes", "writes = 1"),
+    ("done", "done = 1"),
+    ("low", "low = 0"),
+    ("high", "high = 1"),
+];
+
 #[test]
 fn calls_by_chance_in_the_smallest_queues(rt: HostRuntime) -> Result<(), Fail> {
-    let lines = [
-        ("reads", "reads = 1"),
-        ("writes", "writes = 1"),
-        ("done", "done = 1"),
-        ("low", "low = 0"),
-        ("high", "high = 1"),
-    ];
-    runs_well(&rt, rt.alloc(), &lines)
+    runs_well(&rt, rt.alloc(), SMALLEST)
 }
+
+const DEEP: &[(&str, &str)] = &[
+    ("reads", "reads = 32"),
+    ("writes", "writes = 32"),
+    ("done", "done = 64"),
+    ("high", "high = 32"),
+    ("cap", "cap = 100"),
+];
 
 #[test]
 fn calls_by_chance_in_deep_queues(rt: HostRuntime) -> Result<(), Fail> {
-    let lines = [
-        ("reads", "reads = 32"),
-        ("writes", "writes = 32"),
-        ("done", "done = 64"),
-        ("high", "high = 32"),
-        ("cap", "cap = 100"),
-    ];
-    runs_well(&rt, rt.alloc(), &lines)
+    runs_well(&rt, rt.alloc(), DEEP)
 }
+
+const NEXT_TO_EACH_OTHER: &[(&str, &str)] = &[("low", "low = 3"), ("high", "high = 4")];
 
 #[test]
 fn calls_by_chance_with_marks_next_to_each_other(rt: HostRuntime) -> Result<(), Fail> {
-    runs_well(&rt, rt.alloc(), &[("low", "low = 3"), ("high", "high = 4")])
+    runs_well(&rt, rt.alloc(), NEXT_TO_EACH_OTHER)
 }
+
+const CAP_OF_ONE: &[(&str, &str)] = &[("cap", "cap = 1")];
 
 #[test]
 fn calls_by_chance_with_a_cap_of_one(rt: HostRuntime) -> Result<(), Fail> {
-    runs_well(&rt, rt.alloc(), &[("cap", "cap = 1")])
+    runs_well(&rt, rt.alloc(), CAP_OF_ONE)
 }
+
+const NONE_POSTPONED: &[(&str, &str)] = &[("postpone", "postpone = 0")];
 
 #[test]
 fn calls_by_chance_with_no_refresh_postponed(rt: HostRuntime) -> Result<(), Fail> {
-    runs_well(&rt, rt.alloc(), &[("postpone", "postpone = 0")])
+    runs_well(&rt, rt.alloc(), NONE_POSTPONED)
 }
+
+const SEVEN_POSTPONED: &[(&str, &str)] = &[("postpone", "postpone = 7")];
 
 #[test]
 fn calls_by_chance_with_seven_refreshes_postponed(rt: HostRuntime) -> Result<(), Fail> {
-    runs_well(&rt, rt.alloc(), &[("postpone", "postpone = 7")])
+    runs_well(&rt, rt.alloc(), SEVEN_POSTPONED)
 }
+
+const TWO_GROUPS: &[(&str, &str)] = &[("groups", "groups = 2"), ("bank_xor", "bank_xor = true")];
 
 #[test]
 fn calls_by_chance_in_two_groups(rt: HostRuntime) -> Result<(), Fail> {
-    let lines = [("groups", "groups = 2"), ("bank_xor", "bank_xor = true")];
-    runs_well(&rt, rt.alloc(), &lines)
+    runs_well(&rt, rt.alloc(), TWO_GROUPS)
 }

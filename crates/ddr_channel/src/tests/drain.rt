@@ -1,109 +1,130 @@
 //! When writes go before reads.
 use super::*;
 
-const OLDER_READ: Outcome = Outcome {
-    commands: &[
-        Step::Act(0, 0, 0, 0),
-        Step::Rd(4, 0, 0, 0, 0),
-        Step::Wr(11, 0, 0, 0, 0),
-    ],
-    end: 19,
-    times: &[(0, 4, 12), (1, 11, 18)],
-    lines: &[(0, &[])],
+const OLDER_READ: Case = Case {
+    lines: &[("low", "low = 0"), ("high", "high = 1")],
+    turns: &[(0, &[Access::Read(0), Access::Write(0, 1, 0xff)])],
+    outcome: Outcome {
+        commands: &[
+            Step::Act(0, 0, 0, 0),
+            Step::Rd(4, 0, 0, 0, 0),
+            Step::Wr(11, 0, 0, 0, 0),
+        ],
+        end: 19,
+        times: &[(0, 4, 12), (1, 11, 18)],
+        lines: &[(0, &[])],
+    },
 };
 
 /// Drain mode is on, but the write waits for the older read of its line.
 #[test]
 fn drained_write_waits_for_an_older_read(rt: HostRuntime) -> Result<(), Fail> {
-    let marks = [("low", "low = 0"), ("high", "high = 1")];
-    let accesses = [Access::Read(0), Access::Write(0, 1, 0xff)];
-    check(&rt, rt.alloc(), &marks, &[(0, &accesses)], &OLDER_READ)
+    check(&rt, rt.alloc(), &OLDER_READ)
 }
 
 /// Drains begin at three pending writes and end at one.
-const MARKS: [(&str, &str); 2] = [("low", "low = 1"), ("high", "high = 3")];
+const MARKS: &[(&str, &str)] = &[("low", "low = 1"), ("high", "high = 3")];
 
 /// CCD_L between the writes, WL + 4 + WTR_L up to the read, and RTW.
-const DRAIN_ON: Outcome = Outcome {
-    commands: &[
-        Step::Act(0, 0, 0, 0),
-        Step::Wr(4, 0, 0, 0, 0),
-        Step::Wr(9, 0, 0, 0, 1),
-        Step::Rd(20, 0, 0, 0, 3),
-        Step::Wr(27, 0, 0, 0, 2),
-    ],
-    end: 35,
-    times: &[(1, 4, 11), (2, 9, 16), (0, 20, 28), (3, 27, 34)],
-    lines: &[(0, &[])],
+const DRAIN_ON: Case = Case {
+    lines: MARKS,
+    turns: &[(
+        0,
+        &[
+            Access::Read(192),
+            Access::Write(0, 1, 1),
+            Access::Write(64, 1, 2),
+            Access::Write(128, 1, 3),
+        ],
+    )],
+    outcome: Outcome {
+        commands: &[
+            Step::Act(0, 0, 0, 0),
+            Step::Wr(4, 0, 0, 0, 0),
+            Step::Wr(9, 0, 0, 0, 1),
+            Step::Rd(20, 0, 0, 0, 3),
+            Step::Wr(27, 0, 0, 0, 2),
+        ],
+        end: 35,
+        times: &[(1, 4, 11), (2, 9, 16), (0, 20, 28), (3, 27, 34)],
+        lines: &[(0, &[])],
+    },
 };
 
 /// Three pending writes turn the drain on. With two it stays on, though two would not turn it on, and with one it
 /// is off: the read goes before the third write.
 #[test]
 fn drain_stays_on_above_the_low_mark(rt: HostRuntime) -> Result<(), Fail> {
-    let accesses = [
-        Access::Read(192),
-        Access::Write(0, 1, 1),
-        Access::Write(64, 1, 2),
-        Access::Write(128, 1, 3),
-    ];
-    check(&rt, rt.alloc(), &MARKS, &[(0, &accesses)], &DRAIN_ON)
+    check(&rt, rt.alloc(), &DRAIN_ON)
 }
 
-const DRAIN_OFF: Outcome = Outcome {
-    commands: &[
-        Step::Act(0, 0, 0, 0),
-        Step::Rd(4, 0, 0, 0, 3),
-        Step::Wr(11, 0, 0, 0, 0),
-        Step::Wr(16, 0, 0, 0, 1),
-    ],
-    end: 24,
-    times: &[(2, 4, 12), (0, 11, 18), (1, 16, 23)],
-    lines: &[],
+const DRAIN_OFF: Case = Case {
+    lines: MARKS,
+    turns: &[(
+        0,
+        &[
+            Access::Write(0, 1, 1),
+            Access::Write(64, 1, 2),
+            Access::Read(192),
+        ],
+    )],
+    outcome: Outcome {
+        commands: &[
+            Step::Act(0, 0, 0, 0),
+            Step::Rd(4, 0, 0, 0, 3),
+            Step::Wr(11, 0, 0, 0, 0),
+            Step::Wr(16, 0, 0, 0, 1),
+        ],
+        end: 24,
+        times: &[(2, 4, 12), (0, 11, 18), (1, 16, 23)],
+        lines: &[],
+    },
 };
 
 /// Two pending writes lie between the marks, so reads go first.
 #[test]
 fn drain_stays_off_below_the_high_mark(rt: HostRuntime) -> Result<(), Fail> {
-    let accesses = [
-        Access::Write(0, 1, 1),
-        Access::Write(64, 1, 2),
-        Access::Read(192),
-    ];
-    check(&rt, rt.alloc(), &MARKS, &[(0, &accesses)], &DRAIN_OFF)
+    check(&rt, rt.alloc(), &DRAIN_OFF)
 }
 
-const DRAIN_GOES_ON: Outcome = Outcome {
-    commands: &[
-        Step::Act(0, 0, 0, 0),
-        Step::Wr(4, 0, 0, 0, 0),
-        Step::Wr(9, 0, 0, 0, 1),
-        Step::Wr(14, 0, 0, 0, 2),
-        Step::Rd(25, 0, 0, 0, 4),
-        Step::Wr(32, 0, 0, 0, 3),
+const DRAIN_GOES_ON: Case = Case {
+    lines: MARKS,
+    turns: &[
+        (
+            0,
+            &[
+                Access::Read(256),
+                Access::Write(0, 1, 1),
+                Access::Write(64, 1, 2),
+                Access::Write(128, 1, 3),
+            ],
+        ),
+        // up to the first write, which leaves two; the next one to come makes three of them, and two after its turn
+        (5, &[Access::Write(192, 1, 4)]),
     ],
-    end: 40,
-    times: &[
-        (1, 4, 11),
-        (2, 9, 16),
-        (3, 14, 21),
-        (0, 25, 33),
-        (4, 32, 39),
-    ],
-    lines: &[],
+    outcome: Outcome {
+        commands: &[
+            Step::Act(0, 0, 0, 0),
+            Step::Wr(4, 0, 0, 0, 0),
+            Step::Wr(9, 0, 0, 0, 1),
+            Step::Wr(14, 0, 0, 0, 2),
+            Step::Rd(25, 0, 0, 0, 4),
+            Step::Wr(32, 0, 0, 0, 3),
+        ],
+        end: 40,
+        times: &[
+            (1, 4, 11),
+            (2, 9, 16),
+            (3, 14, 21),
+            (0, 25, 33),
+            (4, 32, 39),
+        ],
+        lines: &[],
+    },
 };
 
 /// A drain that is on goes on between the marks while writes come, and ends only at the low mark.
 #[test]
 fn drain_takes_writes_that_come_later(rt: HostRuntime) -> Result<(), Fail> {
-    let accesses = [
-        Access::Read(256),
-        Access::Write(0, 1, 1),
-        Access::Write(64, 1, 2),
-        Access::Write(128, 1, 3),
-    ];
-    // up to the first write, which leaves two; the next one to come makes three of them, and two after its turn
-    let later = [Access::Write(192, 1, 4)];
-    let turns: [(u32, &[Access]); 2] = [(0, &accesses), (5, &later)];
-    check(&rt, rt.alloc(), &MARKS, &turns, &DRAIN_GOES_ON)
+    check(&rt, rt.alloc(), &DRAIN_GOES_ON)
 }

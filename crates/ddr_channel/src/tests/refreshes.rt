@@ -6,10 +6,10 @@ use super::*;
 fn make_first_refresh(rt: &impl Abort, channel: &mut Channel) -> Result<(), Fail> {
     for _nth in 0..200 {
         channel.cycle()?;
-        assert!(rt; channel.trace().is_empty());
+        check_eq(rt, "the commands before it", channel.trace().len(), 0);
     }
     channel.cycle()?;
-    assert!(rt; channel.is_empty());
+    check_eq(rt, "whether it is empty", channel.is_empty(), true);
     Ok(())
 }
 
@@ -28,37 +28,52 @@ fn an_idle_channel_refreshes(rt: HostRuntime) -> Result<(), Fail> {
 }
 
 /// RP, RFC, RCD; then RAS, RP and RCD.
-const ROW_CLOSED: Outcome = Outcome {
-    commands: &[
-        Step::Act(0, 0, 0, 0),
-        Step::Wr(4, 0, 0, 0, 0),
-        Step::PreAll(200),
-        Step::Refresh(204),
-        Step::Act(224, 0, 0, 1),
-        Step::Rd(228, 0, 0, 1, 0),
-        Step::Pre(234, 0, 0),
-        Step::Act(238, 0, 0, 0),
-        Step::Rd(242, 0, 0, 0, 0),
+const ROW_CLOSED: Case = Case {
+    lines: &[],
+    turns: &[
+        (0, &[Access::Write(0, u64::MAX, 0x55)]),
+        (205, &[Access::Read(8192), Access::Read(0)]),
     ],
-    end: 251,
-    times: &[(0, 4, 11), (1, 228, 236), (2, 242, 250)],
-    lines: &[(1, &[]), (2, &[0x55; 64])],
+    outcome: Outcome {
+        commands: &[
+            Step::Act(0, 0, 0, 0),
+            Step::Wr(4, 0, 0, 0, 0),
+            Step::PreAll(200),
+            Step::Refresh(204),
+            Step::Act(224, 0, 0, 1),
+            Step::Rd(228, 0, 0, 1, 0),
+            Step::Pre(234, 0, 0),
+            Step::Act(238, 0, 0, 0),
+            Step::Rd(242, 0, 0, 0, 0),
+        ],
+        end: 251,
+        times: &[(0, 4, 11), (1, 228, 236), (2, 242, 250)],
+        lines: &[(1, &[]), (2, &[0x55; 64])],
+    },
 };
 
 /// The idle channel closes its row first, and what was written there is read again later.
 #[test]
 fn a_refresh_closes_the_rows(rt: HostRuntime) -> Result<(), Fail> {
-    let writes = [Access::Write(0, u64::MAX, 0x55)];
-    let reads = [Access::Read(8192), Access::Read(0)];
-    let turns: [(u32, &[Access]); 2] = [(0, &writes), (205, &reads)];
-    check(&rt, rt.alloc(), &[], &turns, &ROW_CLOSED)
+    check(&rt, rt.alloc(), &ROW_CLOSED)
 }
 
-/// Takes what is done, which is due in the cycle that was just made: a read of zeros.
+/// Compares what is done with a read of zeros that is due in this cycle.
+fn check_read(rt: &impl Abort, done: &Done, cycle: u64) {
+    check_eq(rt, "when it is due", done.due, cycle);
+    check_eq(
+        rt,
+        "CL + 4 behind its command",
+        done.issued.wrapping_add(8),
+        cycle,
+    );
+    check_eq(rt, "the line", *done.line, ZEROS);
+}
+
+/// Takes what is done, which is due in the cycle that was just made.
 fn take_read(rt: &impl Abort, channel: &mut Channel, cycle: u64) {
     if let Some(done) = channel.pop_done() {
-        assert_eq!(rt; (done.due, done.issued.wrapping_add(8)), (cycle, cycle));
-        assert_eq!(rt; *done.line, ZEROS);
+        check_read(rt, &done, cycle);
     }
 }
 
@@ -85,7 +100,7 @@ fn make_cycles_with_reads(
 
 /// Commands, and behind them reads CCD_L apart: the cycle of the first one, and how many there are. The third refresh
 /// that falls due forces one: at 600 behind the read of 599, RTP before the PREA, and at 800 behind that of 795.
-const POSTPONED: [(&[Step], u64, u64); 3] = [
+const POSTPONED: &[(&[Step], u64, u64)] = &[
     (&[Step::Act(0, 0, 0, 0)], 4, 120),
     (
         &[
@@ -108,11 +123,10 @@ const POSTPONED: [(&[Step], u64, u64); 3] = [
 ];
 
 /// Appends reads CCD_L apart.
-fn push_reads(entries: &mut Vec<Entry>, first: u64, count: u64) -> Result<(), Fail> {
-    let mut cycle = first;
-    for _nth in 0..count {
-        entries.push(Step::Rd(cycle, 0, 0, 0, 0).entry())?;
-        cycle = cycle.wrapping_add(5);
+fn push_reads(entries: &mut Vec<Entry>, first: u64, count: u64) -> Result<(), AllocError> {
+    for nth in 0..count {
+        let cycle = first.wrapping_add(nth.wrapping_mul(5));
+        push_step(entries, &Step::Rd(cycle, 0, 0, 0, 0))?;
     }
     Ok(())
 }
@@ -122,7 +136,7 @@ fn check_postponed(rt: &impl Abort, alloc: Global, channel: &Channel) -> Result<
     let mut commands = Vec::new(alloc);
     for (steps, first, count) in POSTPONED {
         push_steps(&mut commands, steps)?;
-        push_reads(&mut commands, first, count)?;
+        push_reads(&mut commands, *first, *count)?;
     }
     check_entries(rt, channel, &commands, 830);
     Ok(())

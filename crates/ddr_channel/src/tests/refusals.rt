@@ -20,8 +20,12 @@ fn offer_in_vain(
     let Err(returned) = channel.admit(offered) else {
         return Err("admitted by a full queue".into());
     };
-    assert_eq!(rt; returned.place, place);
+    check_eq(rt, "the place", returned.place, place);
     Ok(returned)
+}
+
+fn check_room(rt: &impl Abort, channel: &Channel, expected: bool) {
+    check_eq(rt, "whether there is room", channel.room(), expected);
 }
 
 /// Makes so many cycles, before each of which there is no room.
@@ -29,7 +33,7 @@ fn make_full_cycles(rt: &impl Abort, channel: &mut Channel, count: u32) -> Resul
     ensures { channel.new.config ≡ channel.old.config }
 {
     for _nth in 0..count {
-        assert!(rt; !channel.room());
+        check_room(rt, channel, false);
         channel.cycle()?;
     }
     Ok(())
@@ -38,22 +42,27 @@ fn make_full_cycles(rt: &impl Abort, channel: &mut Channel, count: u32) -> Resul
 /// Compares a request that was handed back with what was offered: the number, the mask and the byte of the line.
 fn check_returned(rt: &impl Abort, returned: &Req, kind: Kind, expected: (u64, u64, u8)) {
     let (number, mask, byte) = expected;
-    assert_eq!(rt; returned.echo.kind, kind);
-    assert_eq!(rt;
-        (returned.port, returned.number, returned.mask),
-        (0, number, mask)
+    check_eq(rt, "the kind", returned.echo.kind, kind);
+    check_eq(
+        rt,
+        "the number",
+        (returned.port, returned.number),
+        (0, number),
     );
-    assert_eq!(rt; *returned.line, [byte; 64]);
+    check_eq(rt, "the mask", returned.mask, mask);
+    check_eq(rt, "the line", *returned.line, [byte; 64]);
 }
+
+const EIGHT_READS: &[Access] = &[Access::Read(0); 8];
 
 /// Fills the queue of the reads, and offers one read more. A write, numbered 9, has a place.
 fn refused_read(rt: &impl Abort, alloc: Global, channel: &mut Channel) -> Result<Req, Fail>
     ensures config { channel.new.config ≡ channel.old.config }
     ensures served { IfOk result (λ r. IsServed channel.new.config r.place) }
 {
-    assert!(rt; channel.room());
-    admit_all(alloc, channel, 0, &[Access::Read(0); 8])?;
-    assert!(rt; !channel.room());
+    check_room(rt, channel, true);
+    admit_all(alloc, channel, 0, EIGHT_READS)?;
+    check_room(rt, channel, false);
     let ninth = offer_in_vain(rt, alloc, channel, 8, Access::Read(0))?;
     check_returned(rt, &ninth, Kind::Read, (8, 0, 0xee));
     admit_all(alloc, channel, 9, &[Access::Write(0, 1, 0x77)])?;
@@ -65,8 +74,13 @@ fn admit_again(rt: &impl Abort, channel: &mut Channel, ninth: Req) -> Result<(),
     requires { IsServed channel.old.config ninth.place }
 {
     make_full_cycles(rt, channel, 5)?;
-    assert!(rt; channel.room());
-    assert!(rt; channel.admit(ninth).is_ok());
+    check_room(rt, channel, true);
+    check_eq(
+        rt,
+        "whether it is admitted",
+        channel.admit(ninth).is_ok(),
+        true,
+    );
     Ok(())
 }
 
@@ -117,7 +131,7 @@ fn a_full_queue_hands_the_request_back(rt: HostRuntime) -> Result<(), Fail> {
 }
 
 /// Settings with which there is room for one write.
-const ONE_WRITE: [(&str, &str); 3] = [
+const ONE_WRITE: &[(&str, &str)] = &[
     ("writes", "writes = 1"),
     ("low", "low = 0"),
     ("high", "high = 1"),
@@ -125,9 +139,14 @@ const ONE_WRITE: [(&str, &str); 3] = [
 
 /// Admits a write, and offers a second one in vain.
 fn refuse_second_write(rt: &impl Abort, alloc: Global, channel: &mut Channel) -> Result<(), Fail> {
-    assert_eq!(rt; channel.config().limits.writes, 1);
+    check_eq(
+        rt,
+        "the places of writes",
+        channel.config().limits.writes,
+        1,
+    );
     admit_all(alloc, channel, 0, &[Access::Write(0, 1, 5)])?;
-    assert!(rt; !channel.room());
+    check_room(rt, channel, false);
     let second = offer_in_vain(rt, alloc, channel, 1, Access::Write(64, 2, 6))?;
     check_returned(rt, &second, Kind::Write, (1, 2, 6));
     Ok(())
@@ -138,7 +157,7 @@ fn serve_first_two(rt: &impl Abort, alloc: Global, channel: &mut Channel) -> Res
     admit_all(alloc, channel, 2, &[Access::Read(0)])?;
     let taken = finish(alloc, channel)?;
     check_times(rt, alloc, &taken, &[(0, 4, 11), (2, 15, 23)])?;
-    assert_eq!(rt; channel.now(), 24);
+    check_eq(rt, "the next cycle", channel.now(), 24);
     Ok(())
 }
 
@@ -166,9 +185,17 @@ fn serve_one_by_one(rt: &impl Abort, alloc: Global, channel: &mut Channel) -> Re
 /// Where the writes have no place left, a read is admitted, and `room` tells that not both kinds have one.
 #[test]
 fn each_kind_has_a_queue_of_its_own(rt: HostRuntime) -> Result<(), Fail> {
-    let mut channel = open(rt.alloc(), &ONE_WRITE)?;
+    let mut channel = open(rt.alloc(), ONE_WRITE)?;
     serve_one_by_one(&rt, rt.alloc(), &mut channel)?;
     check_trace(&rt, rt.alloc(), channel, &ONE_WRITE_AT_A_TIME)
+}
+
+/// The number of the completion that was done first.
+fn number_done(channel: &Channel) -> Option<u64> {
+    match channel.next_done() {
+        Some(done) => Some(done.number),
+        None => None,
+    }
 }
 
 /// Makes so many cycles. Behind each it compares the number of the completion that was done first.
@@ -180,7 +207,7 @@ fn check_next_done(
 ) -> Result<(), Fail> {
     for _nth in 0..count {
         channel.cycle()?;
-        assert_eq!(rt; channel.next_done().map(|done| done.number), expected);
+        check_eq(rt, "what is done", number_done(channel), expected);
     }
     Ok(())
 }
@@ -196,12 +223,20 @@ const WAITS_FOR_ROOM: Outcome = Outcome {
     lines: &[],
 };
 
+/// Takes the completion that was done first, and tells when it was due.
+fn take_due(channel: &mut Channel) -> Option<u64> {
+    match channel.pop_done() {
+        Some(done) => Some(done.due),
+        None => None,
+    }
+}
+
 /// Has the first read done from cycle 12 on, and takes it behind cycle 29.
 fn take_late(rt: &impl Abort, channel: &mut Channel) -> Result<(), Fail> {
     check_next_done(rt, channel, 12, None)?;
     check_next_done(rt, channel, 18, Some(0))?;
-    assert_eq!(rt; channel.trace().len(), 2);
-    assert_eq!(rt; channel.pop_done().map(|done| done.due), Some(12));
+    check_eq(rt, "how many commands", channel.trace().len(), 2);
+    check_eq(rt, "when it was due", take_due(channel), Some(12));
     Ok(())
 }
 
@@ -224,19 +259,26 @@ fn no_column_command_without_room(rt: HostRuntime) -> Result<(), Fail> {
     check_trace(&rt, rt.alloc(), channel, &WAITS_FOR_ROOM)
 }
 
+/// The first cycle that the clock does not allow.
+const SPENT: u64 = 1 << 62;
+
 /// Makes the last cycle that the clock allows, and no other.
 fn spend_clock(rt: &impl Abort, channel: &mut Channel) {
-    assert_eq!(rt; channel.cycle(), Ok(()));
-    assert_eq!(rt; channel.now(), 1 << 62);
-    assert_eq!(rt; channel.cycle(), Err(CycleError::ClockSpent));
-    assert_eq!(rt; channel.now(), 1 << 62);
-    assert!(rt; channel.next_done().is_none());
+    check_eq(rt, "the last cycle", channel.cycle(), Ok(()));
+    check_eq(rt, "the clock", channel.now(), SPENT);
+    check_eq(
+        rt,
+        "one cycle more",
+        channel.cycle(),
+        Err(CycleError::ClockSpent),
+    );
+    check_eq(rt, "the clock", channel.now(), SPENT);
+    check_eq(rt, "what is done", number_done(channel), None);
 }
 
 #[test]
 fn the_clock_is_spent(rt: HostRuntime) -> Result<(), Fail> {
-    let config = Config::read(rt.alloc(), PROFILE_S)?;
-    let mut channel = Channel::open(rt.alloc(), &config, (1 << 62) - 1)?;
+    let mut channel = open_at(rt.alloc(), &[], SPENT - 1)?;
     spend_clock(&rt, &mut channel);
     Ok(())
 }
