@@ -254,6 +254,18 @@ struct Case {
     outcome: Outcome,
 }
 
+/// What a channel is given, and what is looked at in the meantime.
+#[derive(Drop)]
+enum Scene {
+    /// The turns of a case.
+    Turns(&'static [(u32, &'static [Access])]),
+    FirstRefresh,
+    Ten,
+    OneByOne,
+    RoomForOne,
+    TwoPorts,
+}
+
 fn push_step(entries: &mut Vec<Entry>, step: &Step) -> Result<(), AllocError> {
     entries.push(step.entry())?;
     Ok(())
@@ -279,17 +291,9 @@ fn check_whole(rt: &impl Abort, trace: &Trace, commands: &[Entry], end: u64) {
 }
 
 /// Compares the trace and its end. The channel is given up.
-fn check_trace(
-    rt: &impl Abort,
-    alloc: Global,
-    channel: Channel,
-    outcome: &Outcome,
-) -> Result<(), Fail> {
-    let mut commands = Vec::new(alloc);
-    push_steps(&mut commands, outcome.commands)?;
-    check_entries(rt, &channel, &commands, outcome.end);
-    check_whole(rt, &channel.into_trace(), &commands, outcome.end);
-    Ok(())
+fn check_trace(rt: &impl Abort, channel: Channel, commands: &[Entry], end: u64) {
+    check_entries(rt, &channel, commands, end);
+    check_whole(rt, &channel.into_trace(), commands, end);
 }
 
 /// Compares the number of each request that came back, the cycle of its column command and that of its completion.
@@ -351,10 +355,54 @@ fn check_rest(
     Ok(())
 }
 
+/// Admits requests in turns, and compares what comes of them.
+fn serve_turns(
+    rt: &impl Abort,
+    alloc: Global,
+    channel: &mut Channel,
+    turns: &[(u32, &[Access])],
+    outcome: &Outcome,
+) -> Result<(), Fail> {
+    admit_in_turns(alloc, channel, turns)?;
+    check_rest(rt, alloc, channel, outcome)
+}
+
+/// Has the channel serve what the scene gives it.
+fn serve(
+    rt: &impl Abort,
+    alloc: Global,
+    channel: &mut Channel,
+    scene: &Scene,
+    outcome: &Outcome,
+) -> Result<(), Fail> {
+    match scene {
+        Scene::Turns(turns) => serve_turns(rt, alloc, channel, turns, outcome),
+        Scene::FirstRefresh => refreshes::make_first_refresh(rt, channel),
+        Scene::Ten => refusals::serve_ten(rt, alloc, channel),
+        Scene::OneByOne => refusals::serve_one_by_one(rt, alloc, channel),
+        Scene::RoomForOne => refusals::serve_with_room_for_one(rt, alloc, channel),
+        Scene::TwoPorts => rows::serve_two_ports(rt, alloc, channel),
+    }
+}
+
+/// Plays a scene with a channel of profile S with other lines, and compares all that comes of it.
+fn play(
+    rt: &impl Abort,
+    alloc: Global,
+    lines: &[(&str, &str)],
+    scene: &Scene,
+    outcome: &Outcome,
+) -> Result<(), Fail> {
+    let mut commands = Vec::new(alloc);
+    push_steps(&mut commands, outcome.commands)?;
+    let mut channel = open(alloc, lines)?;
+    serve(rt, alloc, &mut channel, scene, outcome)?;
+    check_trace(rt, channel, &commands, outcome.end);
+    Ok(())
+}
+
 /// Opens a channel, admits the requests of a case in their turns, and compares all that comes of them.
 fn check(rt: &impl Abort, alloc: Global, case: &Case) -> Result<(), Fail> {
-    let mut channel = open(alloc, case.lines)?;
-    admit_in_turns(alloc, &mut channel, case.turns)?;
-    check_rest(rt, alloc, &mut channel, &case.outcome)?;
-    check_trace(rt, alloc, channel, &case.outcome)
+    let scene = Scene::Turns(case.turns);
+    play(rt, alloc, case.lines, &scene, &case.outcome)
 }

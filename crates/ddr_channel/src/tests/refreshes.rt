@@ -3,7 +3,7 @@
 use super::*;
 
 /// Makes cycles that issue no command, up to the one in which a refresh falls due, and that one.
-fn make_first_refresh(rt: &impl Abort, channel: &mut Channel) -> Result<(), Fail> {
+pub fn make_first_refresh(rt: &impl Abort, channel: &mut Channel) -> Result<(), Fail> {
     for _nth in 0..200 {
         channel.cycle()?;
         check_eq(rt, "the commands before it", channel.trace().len(), 0);
@@ -22,9 +22,7 @@ const ONE_REFRESH: Outcome = Outcome {
 
 #[test]
 fn an_idle_channel_refreshes(rt: HostRuntime) -> Result<(), Fail> {
-    let mut channel = open(rt.alloc(), &[])?;
-    make_first_refresh(&rt, &mut channel)?;
-    check_trace(&rt, rt.alloc(), channel, &ONE_REFRESH)
+    play(&rt, rt.alloc(), &[], &Scene::FirstRefresh, &ONE_REFRESH)
 }
 
 /// RP, RFC, RCD; then RAS, RP and RCD.

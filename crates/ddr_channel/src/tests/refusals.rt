@@ -115,7 +115,7 @@ const FULL_QUEUE: Outcome = Outcome {
 };
 
 /// Serves the ten requests, the one that was refused among them.
-fn serve_ten(rt: &impl Abort, alloc: Global, channel: &mut Channel) -> Result<(), Fail> {
+pub fn serve_ten(rt: &impl Abort, alloc: Global, channel: &mut Channel) -> Result<(), Fail> {
     let ninth = refused_read(rt, alloc, channel)?;
     admit_again(rt, channel, ninth)?;
     check_rest(rt, alloc, channel, &FULL_QUEUE)
@@ -125,9 +125,7 @@ fn serve_ten(rt: &impl Abort, alloc: Global, channel: &mut Channel) -> Result<()
 /// meantime is before it.
 #[test]
 fn a_full_queue_hands_the_request_back(rt: HostRuntime) -> Result<(), Fail> {
-    let mut channel = open(rt.alloc(), &[])?;
-    serve_ten(&rt, rt.alloc(), &mut channel)?;
-    check_trace(&rt, rt.alloc(), channel, &FULL_QUEUE)
+    play(&rt, rt.alloc(), &[], &Scene::Ten, &FULL_QUEUE)
 }
 
 /// Settings with which there is room for one write.
@@ -175,7 +173,7 @@ const ONE_WRITE_AT_A_TIME: Outcome = Outcome {
 };
 
 /// Serves a write, a read, and then the write that had no place.
-fn serve_one_by_one(rt: &impl Abort, alloc: Global, channel: &mut Channel) -> Result<(), Fail> {
+pub fn serve_one_by_one(rt: &impl Abort, alloc: Global, channel: &mut Channel) -> Result<(), Fail> {
     refuse_second_write(rt, alloc, channel)?;
     serve_first_two(rt, alloc, channel)?;
     admit_all(alloc, channel, 3, &[Access::Write(64, 2, 6)])?;
@@ -185,9 +183,13 @@ fn serve_one_by_one(rt: &impl Abort, alloc: Global, channel: &mut Channel) -> Re
 /// Where the writes have no place left, a read is admitted, and `room` tells that not both kinds have one.
 #[test]
 fn each_kind_has_a_queue_of_its_own(rt: HostRuntime) -> Result<(), Fail> {
-    let mut channel = open(rt.alloc(), ONE_WRITE)?;
-    serve_one_by_one(&rt, rt.alloc(), &mut channel)?;
-    check_trace(&rt, rt.alloc(), channel, &ONE_WRITE_AT_A_TIME)
+    play(
+        &rt,
+        rt.alloc(),
+        ONE_WRITE,
+        &Scene::OneByOne,
+        &ONE_WRITE_AT_A_TIME,
+    )
 }
 
 /// The number of the completion that was done first.
@@ -241,7 +243,7 @@ fn take_late(rt: &impl Abort, channel: &mut Channel) -> Result<(), Fail> {
 }
 
 /// Serves two reads, of which the second has to wait.
-fn serve_with_room_for_one(
+pub fn serve_with_room_for_one(
     rt: &impl Abort,
     alloc: Global,
     channel: &mut Channel,
@@ -251,12 +253,19 @@ fn serve_with_room_for_one(
     check_rest(rt, alloc, channel, &WAITS_FOR_ROOM)
 }
 
+/// Settings with which one request may be in flight or done.
+const ONE_DONE: &[(&str, &str)] = &[("done", "done = 1")];
+
 /// One request may be in flight or done: the second read waits until the first is taken.
 #[test]
 fn no_column_command_without_room(rt: HostRuntime) -> Result<(), Fail> {
-    let mut channel = open(rt.alloc(), &[("done", "done = 1")])?;
-    serve_with_room_for_one(&rt, rt.alloc(), &mut channel)?;
-    check_trace(&rt, rt.alloc(), channel, &WAITS_FOR_ROOM)
+    play(
+        &rt,
+        rt.alloc(),
+        ONE_DONE,
+        &Scene::RoomForOne,
+        &WAITS_FOR_ROOM,
+    )
 }
 
 /// The first cycle that the clock does not allow.

@@ -241,7 +241,7 @@ fn check_ports(rt: &impl Abort, taken: &[Done]) -> Result<(), Fail> {
 }
 
 /// Serves both, and compares what comes of them.
-fn serve_two_ports(rt: &impl Abort, alloc: Global, channel: &mut Channel) -> Result<(), Fail> {
+pub fn serve_two_ports(rt: &impl Abort, alloc: Global, channel: &mut Channel) -> Result<(), Fail> {
     admit_of_two_ports(rt, alloc, channel)?;
     let taken = finish(alloc, channel)?;
     check_times(rt, alloc, &taken, TWO_PORTS.times)?;
@@ -250,9 +250,7 @@ fn serve_two_ports(rt: &impl Abort, alloc: Global, channel: &mut Channel) -> Res
 
 #[test]
 fn a_read_of_another_port_behind_a_write(rt: HostRuntime) -> Result<(), Fail> {
-    let mut channel = open(rt.alloc(), &[])?;
-    serve_two_ports(&rt, rt.alloc(), &mut channel)?;
-    check_trace(&rt, rt.alloc(), channel, &TWO_PORTS)
+    play(&rt, rt.alloc(), &[], &Scene::TwoPorts, &TWO_PORTS)
 }
 
 /// RTW behind the read, whose row is opened first, though the write is older.
