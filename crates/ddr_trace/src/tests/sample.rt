@@ -1,5 +1,4 @@
-//! The sample configuration, and entries of rank 0.
-use crate::command::{Command, Entry};
+//! The sample configuration, and entries of rank 0: macros, as no function is called in the value of a constant.
 use ddr_timing::config::Config;
 use ddr_timing::geometry::{Digit, Geometry};
 use ddr_timing::limits::Limits;
@@ -69,65 +68,95 @@ pub fn sample() -> Config {
     }
 }
 
-pub fn act(cycle: u64, group: u32, bank: u32, row: u32) -> Entry {
-    Entry {
-        cycle,
-        command: Command::Act {
-            rank: 0,
-            group,
-            bank,
-            row,
-        },
-    }
+/// The ACT of a cycle, a group, a bank and a row.
+macro_rules! act {
+    ($cycle:expr, $group:expr, $bank:expr, $row:expr) => {
+        $crate::command::Entry {
+            cycle: $cycle,
+            command: $crate::command::Command::Act {
+                rank: 0,
+                group: $group,
+                bank: $bank,
+                row: $row,
+            },
+        }
+    };
 }
 
-pub fn rd(cycle: u64, group: u32, bank: u32, row: u32) -> Entry {
-    Entry {
-        cycle,
-        command: Command::Rd {
-            rank: 0,
-            group,
-            bank,
-            row,
-            line: 0,
-        },
-    }
+pub(super) use act;
+
+/// The RD of line 0 of a cycle, a group, a bank and a row.
+macro_rules! rd {
+    ($cycle:expr, $group:expr, $bank:expr, $row:expr) => {
+        $crate::command::Entry {
+            cycle: $cycle,
+            command: $crate::command::Command::Rd {
+                rank: 0,
+                group: $group,
+                bank: $bank,
+                row: $row,
+                line: 0,
+            },
+        }
+    };
 }
 
-pub fn wr(cycle: u64, group: u32, bank: u32, row: u32) -> Entry {
-    Entry {
-        cycle,
-        command: Command::Wr {
-            rank: 0,
-            group,
-            bank,
-            row,
-            line: 0,
-        },
-    }
+pub(super) use rd;
+
+/// The WR of line 0 of a cycle, a group, a bank and a row.
+macro_rules! wr {
+    ($cycle:expr, $group:expr, $bank:expr, $row:expr) => {
+        $crate::command::Entry {
+            cycle: $cycle,
+            command: $crate::command::Command::Wr {
+                rank: 0,
+                group: $group,
+                bank: $bank,
+                row: $row,
+                line: 0,
+            },
+        }
+    };
 }
 
-pub fn pre(cycle: u64, group: u32, bank: u32) -> Entry {
-    Entry {
-        cycle,
-        command: Command::Pre {
-            rank: 0,
-            group,
-            bank,
-        },
-    }
+pub(super) use wr;
+
+/// The PRE of a cycle, a group and a bank.
+macro_rules! pre {
+    ($cycle:expr, $group:expr, $bank:expr) => {
+        $crate::command::Entry {
+            cycle: $cycle,
+            command: $crate::command::Command::Pre {
+                rank: 0,
+                group: $group,
+                bank: $bank,
+            },
+        }
+    };
 }
 
-pub fn pre_all(cycle: u64) -> Entry {
-    Entry {
-        cycle,
-        command: Command::PreAll { rank: 0 },
-    }
+pub(super) use pre;
+
+/// The PREA of a cycle.
+macro_rules! pre_all {
+    ($cycle:expr) => {
+        $crate::command::Entry {
+            cycle: $cycle,
+            command: $crate::command::Command::PreAll { rank: 0 },
+        }
+    };
 }
 
-pub fn refresh(cycle: u64) -> Entry {
-    Entry {
-        cycle,
-        command: Command::Refresh { rank: 0 },
-    }
+pub(super) use pre_all;
+
+/// The REF of a cycle.
+macro_rules! refresh {
+    ($cycle:expr) => {
+        $crate::command::Entry {
+            cycle: $cycle,
+            command: $crate::command::Command::Refresh { rank: 0 },
+        }
+    };
 }
+
+pub(super) use refresh;

@@ -3,8 +3,10 @@ use super::sample::{act, pre, pre_all, rd, refresh, wr};
 use crate::command::{Command, Entry};
 use crate::rule::Rule;
 use crate::text::{TraceError, write_trace};
+use std::alloc::Global;
 use std::io;
 use std::io::{ErrorKind, Write};
+use std::process::Abort;
 use std::test::Fail;
 
 pub const WRITE_THEN_READ: &[u8] = b"cycle,cmd,rank,group,bank,row,col
@@ -23,38 +25,49 @@ const EACH_COMMAND: &[u8] = b"cycle,cmd,rank,group,bank,row,col
 4611686018427387904,END,,,,,
 ";
 
-#[test]
-fn write_then_read(rt: HostRuntime) -> Result<(), Fail> {
-    let entries = [act(0, 0, 0, 0), wr(4, 0, 0, 0), rd(15, 0, 0, 0)];
-    let mut text = Vec::new(rt.alloc());
-    write_trace(rt.alloc(), &entries, 24, &mut text)?;
-    assert_eq!(rt; text.as_slice(), WRITE_THEN_READ);
+const WRITE_AND_READ: &[Entry] = &[act!(0, 0, 0, 0), wr!(4, 0, 0, 0), rd!(15, 0, 0, 0)];
+
+const LAST_LINE: Entry = Entry {
+    cycle: 5,
+    command: Command::Rd {
+        rank: 0,
+        group: 3,
+        bank: 2,
+        row: 15,
+        line: 7,
+    },
+};
+
+const COMMANDS: &[Entry] = &[
+    act!(1, 3, 2, 15),
+    LAST_LINE,
+    pre!(u64::MAX, 1, 3),
+    pre_all!(7),
+    refresh!(8),
+];
+
+/// That the trace of these entries and this end has this text.
+fn writes(
+    rt: &impl Abort,
+    alloc: Global,
+    entries: &[Entry],
+    end: u64,
+    wanted: &[u8],
+) -> Result<(), Fail> {
+    let mut text = Vec::new(alloc);
+    write_trace(alloc, entries, end, &mut text)?;
+    assert_eq!(rt; text.as_slice(), wanted);
     Ok(())
 }
 
 #[test]
+fn write_then_read(rt: HostRuntime) -> Result<(), Fail> {
+    writes(&rt, rt.alloc(), WRITE_AND_READ, 24, WRITE_THEN_READ)
+}
+
+#[test]
 fn each_command(rt: HostRuntime) -> Result<(), Fail> {
-    let last_line = Entry {
-        cycle: 5,
-        command: Command::Rd {
-            rank: 0,
-            group: 3,
-            bank: 2,
-            row: 15,
-            line: 7,
-        },
-    };
-    let entries = [
-        act(1, 3, 2, 15),
-        last_line,
-        pre(u64::MAX, 1, 3),
-        pre_all(7),
-        refresh(8),
-    ];
-    let mut text = Vec::new(rt.alloc());
-    write_trace(rt.alloc(), &entries, 1 << 62, &mut text)?;
-    assert_eq!(rt; text.as_slice(), EACH_COMMAND);
-    Ok(())
+    writes(&rt, rt.alloc(), COMMANDS, 1 << 62, EACH_COMMAND)
 }
 
 /// A writer that takes at most 16 bytes at a time, and fails where no call is left.
@@ -89,25 +102,24 @@ impl Write for Failing {
     }
 }
 
+/// Writes to a writer of so many calls, which takes a part of the text.
+fn write_in(rt: &impl Abort, alloc: Global, calls: u32, wanted: Result<(), TraceError>) {
+    let mut writer = Failing {
+        text: Vec::new(alloc),
+        calls,
+    };
+    let result = write_trace(alloc, WRITE_AND_READ, 24, &mut writer);
+    assert_eq!(rt; result, wanted, "{calls} calls");
+    assert!(rt; WRITE_THEN_READ.starts_with(writer.text.as_slice()));
+}
+
 #[test]
-fn each_call_fails(rt: HostRuntime) -> Result<(), Fail> {
+fn each_call_fails(rt: HostRuntime) {
     // 92 bytes are written in 6 calls, and flushed by one more.
-    let entries = [act(0, 0, 0, 0), wr(4, 0, 0, 0), rd(15, 0, 0, 0)];
-    for calls in 0..8 {
-        let mut writer = Failing {
-            text: Vec::new(rt.alloc()),
-            calls,
-        };
-        let result = write_trace(rt.alloc(), &entries, 24, &mut writer);
-        let wanted = if calls < 7 {
-            Err(TraceError::Write)
-        } else {
-            Ok(())
-        };
-        assert_eq!(rt; result, wanted, "{calls} calls");
-        assert!(rt; WRITE_THEN_READ.starts_with(writer.text.as_slice()));
+    for calls in 0..7 {
+        write_in(&rt, rt.alloc(), calls, Err(TraceError::Write));
     }
-    Ok(())
+    write_in(&rt, rt.alloc(), 7, Ok(()));
 }
 
 #[test]
