@@ -7,6 +7,7 @@ use crate::text::{TraceError, write_trace};
 use std::alloc::{AllocError, Global};
 use std::io;
 use std::io::{ErrorKind, Read};
+use std::process::Abort;
 use std::test::Fail;
 
 const HEADER: &[u8] = b"cycle,cmd,rank,group,bank,row,col\n";
@@ -98,6 +99,11 @@ fn spellings(rt: HostRuntime) -> Result<(), Fail> {
     Ok(())
 }
 
+fn is_no_record(rt: &impl Abort, alloc: Global, record: &[u8]) {
+    let end = end_of_parts(alloc, &[HEADER, record, b"\n", END]);
+    assert_eq!(rt; end, Err(TraceError::Row { line: 2 }), "{record:?}");
+}
+
 const NO_RECORDS: &[&str] = &[
     "000000000000000000007,ACT,0,3,2,15,",
     "4611686018427387905,REF,0,,,,",
@@ -131,13 +137,10 @@ const NO_RECORDS: &[&str] = &[
 
 #[test]
 fn records_that_are_none(rt: HostRuntime) {
-    let none = Err(TraceError::Row { line: 2 });
     for record in NO_RECORDS {
-        let end = end_of_parts(rt.alloc(), &[HEADER, record.as_bytes(), b"\n", END]);
-        assert_eq!(rt; end, none, "{record}");
+        is_no_record(&rt, rt.alloc(), record.as_bytes());
     }
-    let no_text = end_of_parts(rt.alloc(), &[HEADER, b"\xff,REF,0,,,,\n", END]);
-    assert_eq!(rt; no_text, none);
+    is_no_record(&rt, rt.alloc(), b"\xff,REF,0,,,,");
 }
 
 /// What stands behind END at cycle 9, and what the text is read as.
@@ -157,7 +160,15 @@ fn behind_end(rt: HostRuntime) {
 }
 
 /// A text, and what it is read as.
-const HEADERS: &[(&str, Result<u64, TraceError>)] = &[
+type Case = (&'static str, Result<u64, TraceError>);
+
+fn check(rt: &impl Abort, alloc: Global, cases: &[Case]) {
+    for (text, wanted) in cases {
+        assert_eq!(rt; end_of(alloc, text.as_bytes()), *wanted, "{text}");
+    }
+}
+
+const HEADERS: &[Case] = &[
     ("", Err(TraceError::Header)),
     ("9,END,,,,,\n", Err(TraceError::Header)),
     (
@@ -187,9 +198,7 @@ const HEADERS: &[(&str, Result<u64, TraceError>)] = &[
 
 #[test]
 fn headers(rt: HostRuntime) {
-    for (text, wanted) in HEADERS {
-        assert_eq!(rt; end_of(rt.alloc(), text.as_bytes()), *wanted, "{text}");
-    }
+    check(&rt, rt.alloc(), HEADERS);
 }
 
 /// What so many refreshes are read as, and what stands behind them.
@@ -246,22 +255,19 @@ impl Read for Failing<'_> {
 }
 
 /// What the text is read as in so many calls.
-fn end_in(alloc: Global, calls: u32) -> Result<u64, TraceError> {
-    let text = WRITE_THEN_READ;
+fn end_in(alloc: Global, text: &[u8], calls: u32) -> Result<u64, TraceError> {
     end_of(alloc, Failing { text, calls })
 }
 
 #[test]
 fn each_read_fails(rt: HostRuntime) {
     // 92 bytes are read in 12 calls, and their end by one more.
+    let text = WRITE_THEN_READ;
     for calls in 0..13 {
-        assert_eq!(rt;
-            end_in(rt.alloc(), calls),
-            Err(TraceError::Read),
-            "{calls} calls"
-        );
+        let end = end_in(rt.alloc(), text, calls);
+        assert_eq!(rt; end, Err(TraceError::Read), "{calls} calls");
     }
-    assert_eq!(rt; end_in(rt.alloc(), 16), Ok(24));
+    assert_eq!(rt; end_in(rt.alloc(), text, 16), Ok(24));
 }
 
 /// A reader that gives the header and then refreshes without end, and fails once it gave 900,000 bytes: 113,522 more than

@@ -102,24 +102,31 @@ impl Write for Failing {
     }
 }
 
-/// Writes to a writer of so many calls, which takes a part of the text.
-fn write_in(rt: &impl Abort, alloc: Global, calls: u32, wanted: Result<(), TraceError>) {
-    let mut writer = Failing {
-        text: Vec::new(alloc),
-        calls,
-    };
+/// What writing to a writer gives, which then has a part of this text.
+fn write_part(
+    rt: &impl Abort,
+    alloc: Global,
+    mut writer: Failing,
+    text: &[u8],
+) -> Result<(), TraceError> {
     let result = write_trace(alloc, WRITE_AND_READ, 24, &mut writer);
-    assert_eq!(rt; result, wanted, "{calls} calls");
-    assert!(rt; WRITE_THEN_READ.starts_with(writer.text.as_slice()));
+    assert!(rt; text.starts_with(writer.text.as_slice()));
+    result
 }
 
 #[test]
 fn each_call_fails(rt: HostRuntime) {
     // 92 bytes are written in 6 calls, and flushed by one more.
-    for calls in 0..7 {
-        write_in(&rt, rt.alloc(), calls, Err(TraceError::Write));
+    for calls in 0..8 {
+        let text = Vec::new(rt.alloc());
+        let result = write_part(&rt, rt.alloc(), Failing { text, calls }, WRITE_THEN_READ);
+        let wanted = if calls < 7 {
+            Err(TraceError::Write)
+        } else {
+            Ok(())
+        };
+        assert_eq!(rt; result, wanted, "{calls} calls");
     }
-    write_in(&rt, rt.alloc(), 7, Ok(()));
 }
 
 #[test]
