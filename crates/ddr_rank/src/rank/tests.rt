@@ -1,5 +1,6 @@
 //! What a rank answers one clock before a rule is kept, and from then on; each bound is worked out by hand.
-ghost use Rattle.std.specs.Prelude.{◌≡◌, IfOk};
+ghost use Rattle.std.specs.Prelude.{◌≡◌, IfOk, IsTrue};
+ghost use Rattle.ddr_trace.specs.Rules.{is_in};
 
 use crate::rank::Rank;
 use ddr_timing::config::Config;
@@ -63,6 +64,26 @@ impl Step {
     }
 }
 
+fn profile_s(alloc: Global) -> Result<Config, Fail> {
+    Ok(Config::read(alloc, PROFILE_S)?)
+}
+
+/// That a command is one of the geometry.
+fn is_of(rt: &impl Abort, config: &Config, command: Command)
+    ensures { IsTrue (is_in config.now.geometry command) }
+{
+    assert!(rt; command.is_in(&config.geometry));
+}
+
+/// That the rank says so of a command of the geometry.
+fn tells(rt: &impl Abort, rank: &Rank, cycle: u64, command: Command, rule: Option<Rule>)
+    requires { IsTrue (is_in rank.now.config.geometry command) }
+{
+    let fault = rank.fault(cycle, command);
+    assert_eq!(rt; fault, rule, "{command:?} at {cycle}");
+    assert_eq!(rt; rank.may(cycle, command), fault.is_none(), "at {cycle}");
+}
+
 /// Issues a command of the geometry, which the rank allows.
 fn issue(rt: &impl Abort, config: &Config, rank: &mut Rank, step: Step) -> Result<(), Fail>
     requires { rank.old.config ≡ config.now }
@@ -70,8 +91,8 @@ fn issue(rt: &impl Abort, config: &Config, rank: &mut Rank, step: Step) -> Resul
 {
     let cycle = step.cycle();
     let command = step.command();
-    assert!(rt; command.is_in(&config.geometry));
-    assert_eq!(rt; rank.fault(cycle, command), None, "at {cycle}");
+    is_of(rt, config, command);
+    tells(rt, rank, cycle, command, None);
     rank.reserve()?;
     rank.issue(cycle, command);
     Ok(())
@@ -88,23 +109,6 @@ fn issued(rt: &impl Abort, alloc: Global, config: &Config, steps: &[Step]) -> Re
     Ok(rank)
 }
 
-/// That the rank says so of a command of the geometry.
-fn tells(
-    rt: &impl Abort,
-    config: &Config,
-    rank: &Rank,
-    cycle: u64,
-    command: Command,
-    rule: Option<Rule>,
-)
-    requires { rank.now.config ≡ config.now }
-{
-    assert!(rt; command.is_in(&config.geometry));
-    let fault = rank.fault(cycle, command);
-    assert_eq!(rt; fault, rule, "{command:?} at {cycle}");
-    assert_eq!(rt; rank.may(cycle, command), fault.is_none(), "at {cycle}");
-}
-
 /// Commands, the next one with its cycle, and the rule that it breaks until just before that cycle. From then on it
 /// breaks none.
 type Bound = (&'static [Step], Step, Rule);
@@ -115,8 +119,9 @@ fn bound(rt: &impl Abort, config: &Config, rank: &Rank, next: Step, rule: Rule)
     let cycle = next.cycle();
     let command = next.command();
     assert!(rt; 0 < cycle);
-    tells(rt, config, rank, cycle - 1, command, Some(rule));
-    tells(rt, config, rank, cycle, command, None);
+    is_of(rt, config, command);
+    tells(rt, rank, cycle - 1, command, Some(rule));
+    tells(rt, rank, cycle, command, None);
 }
 
 fn bounds(rt: &impl Abort, alloc: Global, config: &Config, cases: &[Bound]) -> Result<(), Fail> {
@@ -159,7 +164,7 @@ const TWO_ROWS: &[Bound] = &[
 
 #[test]
 fn reads_of_two_rows_of_a_bank(rt: HostRuntime) -> Result<(), Fail> {
-    let config = Config::read(rt.alloc(), PROFILE_S)?;
+    let config = profile_s(rt.alloc())?;
     bounds(&rt, rt.alloc(), &config, TWO_ROWS)
 }
 
@@ -200,7 +205,7 @@ const ACTIVATIONS: &[Bound] = &[
 
 #[test]
 fn five_activations(rt: HostRuntime) -> Result<(), Fail> {
-    let config = Config::read(rt.alloc(), PROFILE_S)?;
+    let config = profile_s(rt.alloc())?;
     bounds(&rt, rt.alloc(), &config, ACTIVATIONS)
 }
 
@@ -209,7 +214,25 @@ const ACTIVE: &[Step] = &[Step::Act(0, 1, 2, 3)];
 const IDLE_AGAIN: &[Step] = &[Step::Act(0, 1, 2, 3), Step::PreAll(50)];
 
 /// Commands, the next one, and the rule that it breaks.
-const STATES: [(&[Step], Step, Option<Rule>); 8] = [
+type State = (&'static [Step], Step, Option<Rule>);
+
+fn state(rt: &impl Abort, config: &Config, rank: &Rank, next: Step, rule: Option<Rule>)
+    requires { rank.now.config ≡ config.now }
+{
+    let command = next.command();
+    is_of(rt, config, command);
+    tells(rt, rank, next.cycle(), command, rule);
+}
+
+fn states(rt: &impl Abort, alloc: Global, config: &Config, cases: &[State]) -> Result<(), Fail> {
+    for (steps, next, rule) in cases {
+        let rank = issued(rt, alloc, config, steps)?;
+        state(rt, config, &rank, *next, *rule);
+    }
+    Ok(())
+}
+
+const STATES: &[State] = &[
     (&[], Step::Rd(0, 0, 0, 0), Some(Rule::State)),
     (&[], Step::Refresh(0), None),
     (ACTIVE, Step::Act(50, 1, 2, 4), Some(Rule::State)),
@@ -222,16 +245,27 @@ const STATES: [(&[Step], Step, Option<Rule>); 8] = [
 
 #[test]
 fn state_and_row(rt: HostRuntime) -> Result<(), Fail> {
-    let config = Config::read(rt.alloc(), PROFILE_S)?;
-    for (steps, next, rule) in STATES {
-        let rank = issued(&rt, rt.alloc(), &config, steps)?;
-        tells(&rt, &config, &rank, next.cycle(), next.command(), rule);
+    let config = profile_s(rt.alloc())?;
+    states(&rt, rt.alloc(), &config, STATES)
+}
+
+/// Commands, the group and the bank that are asked for, and the open row.
+type Row = (&'static [Step], u32, u32, Option<u32>);
+
+fn row_of(rt: &impl Abort, rank: &Rank, group: u32, bank: u32, row: Option<u32>) {
+    let found = rank.open_row(group, bank);
+    assert_eq!(rt; found, row, "of {group} and {bank}");
+}
+
+fn rows(rt: &impl Abort, alloc: Global, config: &Config, cases: &[Row]) -> Result<(), Fail> {
+    for (steps, group, bank, row) in cases {
+        let rank = issued(rt, alloc, config, steps)?;
+        row_of(rt, &rank, *group, *bank, *row);
     }
     Ok(())
 }
 
-/// Commands, the group and the bank that are asked for, and the open row.
-const ROWS: [(&[Step], u32, u32, Option<u32>); 7] = [
+const ROWS: &[Row] = &[
     (READ_AGAIN, 0, 0, Some(1)),
     (READ_AGAIN, 0, 1, None),
     (READ_AGAIN, 4, 0, None),
@@ -243,12 +277,8 @@ const ROWS: [(&[Step], u32, u32, Option<u32>); 7] = [
 
 #[test]
 fn open_rows(rt: HostRuntime) -> Result<(), Fail> {
-    let config = Config::read(rt.alloc(), PROFILE_S)?;
-    for (steps, group, bank, row) in ROWS {
-        let rank = issued(&rt, rt.alloc(), &config, steps)?;
-        assert_eq!(rt; rank.open_row(group, bank), row, "of {group} and {bank}");
-    }
-    Ok(())
+    let config = profile_s(rt.alloc())?;
+    rows(&rt, rt.alloc(), &config, ROWS)
 }
 
 const OPENED: &[Step] = &[Step::Act(0, 0, 0, 0)];
@@ -277,24 +307,23 @@ const ONE_BANK: &[Bound] = &[
 
 #[test]
 fn distances_of_one_bank(rt: HostRuntime) -> Result<(), Fail> {
-    let config = Config::read(rt.alloc(), PROFILE_S)?;
+    let config = profile_s(rt.alloc())?;
     bounds(&rt, rt.alloc(), &config, ONE_BANK)
 }
 
-/// RC of more, and of less, than RAS + RP.
-const CYCLES: [(u32, Bound); 2] = [
-    (20, (CLOSED_AT_10, Step::Act(20, 0, 0, 1), Rule::Rc)),
-    (12, (CLOSED_AT_10, Step::Act(14, 0, 0, 1), Rule::Rp)),
-];
+/// With RC of 20, which is more than RAS + RP.
+const LONGER_CYCLE: &[Bound] = &[(CLOSED_AT_10, Step::Act(20, 0, 0, 1), Rule::Rc)];
+
+/// With RC of 12, which is less than RAS + RP.
+const SHORTER_CYCLE: &[Bound] = &[(CLOSED_AT_10, Step::Act(14, 0, 0, 1), Rule::Rp)];
 
 #[test]
 fn another_cycle_of_a_row(rt: HostRuntime) -> Result<(), Fail> {
-    let mut config = Config::read(rt.alloc(), PROFILE_S)?;
-    for (rc, case) in CYCLES {
-        config.timing.rc = rc;
-        bounds(&rt, rt.alloc(), &config, &[case])?;
-    }
-    Ok(())
+    let mut config = profile_s(rt.alloc())?;
+    config.timing.rc = 20;
+    bounds(&rt, rt.alloc(), &config, LONGER_CYCLE)?;
+    config.timing.rc = 12;
+    bounds(&rt, rt.alloc(), &config, SHORTER_CYCLE)
 }
 
 const TWO_OPENED: &[Bound] = &[
@@ -317,7 +346,7 @@ const FAR_APART: &[Bound] = &[
 
 #[test]
 fn distances_of_activations(rt: HostRuntime) -> Result<(), Fail> {
-    let mut config = Config::read(rt.alloc(), PROFILE_S)?;
+    let mut config = profile_s(rt.alloc())?;
     bounds(&rt, rt.alloc(), &config, TWO_OPENED)?;
     assert_eq!(rt; config.timing.rrd_s, 2);
     config.timing.rrd_l = 30;
@@ -360,7 +389,7 @@ const OWN_GROUP_SOONER: &[Bound] = &[
 
 #[test]
 fn distances_of_columns(rt: HostRuntime) -> Result<(), Fail> {
-    let mut config = Config::read(rt.alloc(), PROFILE_S)?;
+    let mut config = profile_s(rt.alloc())?;
     bounds(&rt, rt.alloc(), &config, COLUMNS)?;
     config.timing.wtr_l = 1;
     config.timing.wtr_s = 6;
@@ -384,6 +413,6 @@ const REFRESHES: &[Bound] = &[
 
 #[test]
 fn distances_of_refresh(rt: HostRuntime) -> Result<(), Fail> {
-    let config = Config::read(rt.alloc(), PROFILE_S)?;
+    let config = profile_s(rt.alloc())?;
     bounds(&rt, rt.alloc(), &config, REFRESHES)
 }
