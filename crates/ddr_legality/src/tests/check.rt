@@ -180,9 +180,9 @@ impl Chance {
 }
 
 fn last_cycle(entries: &[Entry]) -> u64 {
-    match entries.last() {
-        Some(entry) => entry.cycle,
-        None => 0,
+    match entries {
+        [.., last] => last.cycle,
+        [] => 0,
     }
 }
 

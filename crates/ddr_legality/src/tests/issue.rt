@@ -41,7 +41,10 @@ fn issue(rt: &impl Abort, bus: &mut Legality, step: Step) -> Result<(), Fail> {
 
 /// The entries so far, and this command in the cycle that comes next.
 fn longer(alloc: Global, bus: &Legality, command: Command) -> Result<Vec<Entry>, AllocError> {
-    let mut entries = bus.entries().to_vec(alloc)?;
+    let mut entries = Vec::new(alloc);
+    for entry in bus.entries() {
+        entries.push(*entry)?;
+    }
     let cycle = bus.now();
     entries.push(Entry { cycle, command })?;
     Ok(entries)
@@ -83,27 +86,25 @@ fn push_commands(all: &mut Vec<Command>, steps: &[Step]) -> Result<(), AllocErro
     Ok(())
 }
 
-/// Every command on a bank, with rows 0 and 1.
-fn steps_of(group: u32, bank: u32) -> [Step; 7] {
+/// Every command on a row of a bank.
+fn steps_of(group: u32, bank: u32, row: u32) -> [Step; 3] {
     [
-        Step::Act(0, group, bank, 0),
-        Step::Rd(0, group, bank, 0),
-        Step::Wr(0, group, bank, 0),
-        Step::Act(0, group, bank, 1),
-        Step::Rd(0, group, bank, 1),
-        Step::Wr(0, group, bank, 1),
-        Step::Pre(0, group, bank),
+        Step::Act(0, group, bank, row),
+        Step::Rd(0, group, bank, row),
+        Step::Wr(0, group, bank, row),
     ]
 }
 
 /// The commands of the whole rank, and one outside the geometry.
 const OTHERS: &[Step] = &[Step::PreAll(0), Step::Refresh(0), Step::Act(0, 4, 0, 0)];
 
-/// Every command on these banks, those of the whole rank, and one outside the geometry.
+/// Every command on these banks, with rows 0 and 1, those of the whole rank, and one outside the geometry.
 fn commands(alloc: Global, banks: &[(u32, u32)]) -> Result<Vec<Command>, AllocError> {
     let mut all = Vec::new(alloc);
     for (group, bank) in banks {
-        push_commands(&mut all, &steps_of(*group, *bank))?;
+        push_commands(&mut all, &steps_of(*group, *bank, 0))?;
+        push_commands(&mut all, &steps_of(*group, *bank, 1))?;
+        all.push(Step::Pre(0, *group, *bank).command())?;
     }
     push_commands(&mut all, OTHERS)?;
     Ok(all)
