@@ -7,7 +7,7 @@ ghost use Rattle.ddr_arbiter.specs.Choice.{passes_at};
 use crate::choice::{Choice, choose};
 use crate::commands::command_of;
 use crate::policy::Policy;
-use Step::{Act, Cap, Chooses, Drain, Pre, PreAll, Rd, Refresh, Remove, Room};
+use Step::{Act, Admit, Cap, Chooses, Drain, Pre, PreAll, Rd, Refresh, Remove, Room};
 use ddr_address_map::place::Place;
 use ddr_address_map::request::{Echo, Kind, Req};
 use ddr_hazards::pending::Pending;
@@ -199,6 +199,8 @@ fn read(group: u32, bank: u32, row: u32, line: u32) -> Command {
 /// What happens to a scene, or is asked of it.
 #[derive(Clone, Copy)]
 enum Step {
+    /// A request is admitted in cycle 0: its kind, and the group, bank, row and line that it is of.
+    Admit(Kind, u32, u32, u32, u32),
     /// The scheduler's choice in a cycle.
     Chooses(u32, Choice),
     /// An ACT of a row: its cycle, group, bank and row.
@@ -221,15 +223,16 @@ enum Step {
 
 impl Scene {
     /// Takes the steps, in order.
-    fn play(&mut self, rt: &impl Abort, steps: &[Step]) -> Result<(), Fail> {
+    fn take_all(&mut self, rt: &impl Abort, alloc: Global, steps: &[Step]) -> Result<(), Fail> {
         for step in steps {
-            self.take(rt, *step)?;
+            self.take(rt, alloc, *step)?;
         }
         Ok(())
     }
 
-    fn take(&mut self, rt: &impl Abort, step: Step) -> Result<(), Fail> {
+    fn take(&mut self, rt: &impl Abort, alloc: Global, step: Step) -> Result<(), Fail> {
         match step {
+            Admit(kind, group, bank, row, line) => self.admit(alloc, kind, group, bank, row, line),
             Chooses(cycle, choice) => self.chooses(rt, cycle, choice),
             Act(cycle, group, bank, row) => self.issue(cycle, activate(group, bank, row)),
             Pre(cycle, group, bank) => self.issue(cycle, precharge(group, bank)),
@@ -266,268 +269,330 @@ impl Scene {
     }
 }
 
-/// A request of a scene: its kind, and the group, bank, row and line that it is of.
-type Asked = (Kind, u32, u32, u32, u32);
-
-/// A scene in which requests were admitted, in order.
-fn scene_of(alloc: Global, requests: &[Asked]) -> Result<Scene, Fail> {
+/// Takes the steps with nothing pending before.
+fn play(rt: &impl Abort, alloc: Global, steps: &[Step]) -> Result<(), Fail> {
     let mut scene = Scene::open(alloc)?;
-    for (kind, group, bank, row, line) in requests {
-        scene.admit(alloc, *kind, *group, *bank, *row, *line)?;
-    }
-    Ok(scene)
+    scene.take_all(rt, alloc, steps)
 }
+
+const ROW_HIT: &[Step] = &[
+    Admit(Kind::Read, 0, 0, 1, 0),
+    Admit(Kind::Read, 0, 0, 0, 1),
+    Act(0, 0, 0, 0),
+    Rd(4, 0, 0, 0, 0),
+    // CCD_L holds the read up to cycle 9, and the row that it wants stays open
+    Chooses(8, Choice::Nothing),
+    Chooses(9, Choice::Column { place: 1 }),
+    Rd(9, 0, 0, 0, 1),
+    Remove(1),
+    // RTP holds the PRE up to cycle 12
+    Chooses(11, Choice::Nothing),
+    Chooses(12, Choice::Pre { place: 0 }),
+    Pre(12, 0, 0),
+    // RP holds the ACT up to cycle 16, and RCD the read up to 20
+    Chooses(15, Choice::Nothing),
+    Chooses(16, Choice::Act { place: 0 }),
+    Act(16, 0, 0, 1),
+    Chooses(19, Choice::Nothing),
+    Chooses(20, Choice::Column { place: 0 }),
+];
 
 #[test]
 fn younger_row_hit_first(rt: HostRuntime) -> Result<(), Fail> {
-    let requests = [(Kind::Read, 0, 0, 1, 0), (Kind::Read, 0, 0, 0, 1)];
-    let mut scene = scene_of(rt.alloc(), &requests)?;
-    let steps = [
-        Act(0, 0, 0, 0),
-        Rd(4, 0, 0, 0, 0),
-        // CCD_L holds the read up to cycle 9, and the row that it wants stays open
-        Chooses(8, Choice::Nothing),
-        Chooses(9, Choice::Column { place: 1 }),
-        Rd(9, 0, 0, 0, 1),
-        Remove(1),
-        // RTP holds the PRE up to cycle 12
-        Chooses(11, Choice::Nothing),
-        Chooses(12, Choice::Pre { place: 0 }),
-        Pre(12, 0, 0),
-        // RP holds the ACT up to cycle 16, and RCD the read up to 20
-        Chooses(15, Choice::Nothing),
-        Chooses(16, Choice::Act { place: 0 }),
-        Act(16, 0, 0, 1),
-        Chooses(19, Choice::Nothing),
-        Chooses(20, Choice::Column { place: 0 }),
-    ];
-    scene.play(&rt, &steps)
+    play(&rt, rt.alloc(), ROW_HIT)
 }
+
+const CAPPED: &[Step] = &[
+    Admit(Kind::Read, 0, 0, 1, 0),
+    Admit(Kind::Read, 0, 0, 0, 1),
+    Act(0, 0, 0, 0),
+    Cap(10),
+    Chooses(9, Choice::Column { place: 1 }),
+    // the age is the cap, and RAS is over
+    Chooses(10, Choice::Pre { place: 0 }),
+    Cap(11),
+    Chooses(10, Choice::Column { place: 1 }),
+];
 
 #[test]
 fn oldest_alone_from_the_cap_on(rt: HostRuntime) -> Result<(), Fail> {
-    let requests = [(Kind::Read, 0, 0, 1, 0), (Kind::Read, 0, 0, 0, 1)];
-    let mut scene = scene_of(rt.alloc(), &requests)?;
-    let steps = [
-        Act(0, 0, 0, 0),
-        Cap(10),
-        Chooses(9, Choice::Column { place: 1 }),
-        // the age is the cap, and RAS is over
-        Chooses(10, Choice::Pre { place: 0 }),
-        Cap(11),
-        Chooses(10, Choice::Column { place: 1 }),
-    ];
-    scene.play(&rt, &steps)
+    play(&rt, rt.alloc(), CAPPED)
 }
+
+const CAP_OF_ONE: &[Step] = &[
+    Admit(Kind::Read, 0, 0, 0, 0),
+    Admit(Kind::Read, 0, 0, 1, 0),
+    Admit(Kind::Read, 0, 0, 0, 1),
+    Cap(1),
+    Chooses(0, Choice::Act { place: 0 }),
+    Act(0, 0, 0, 0),
+    Chooses(4, Choice::Column { place: 0 }),
+    Rd(4, 0, 0, 0, 0),
+    Remove(0),
+    // the younger row hit waits, and RAS holds the PRE up to cycle 10
+    Chooses(9, Choice::Nothing),
+    Chooses(10, Choice::Pre { place: 0 }),
+    Pre(10, 0, 0),
+    // RP and RC hold the ACT up to cycle 14
+    Chooses(13, Choice::Nothing),
+    Chooses(14, Choice::Act { place: 0 }),
+    Act(14, 0, 0, 1),
+    Chooses(18, Choice::Column { place: 0 }),
+    Rd(18, 0, 0, 1, 0),
+    Remove(0),
+    Chooses(23, Choice::Nothing),
+    Chooses(24, Choice::Pre { place: 0 }),
+    Pre(24, 0, 0),
+    Chooses(28, Choice::Act { place: 0 }),
+    Act(28, 0, 0, 0),
+    Chooses(31, Choice::Nothing),
+    Chooses(32, Choice::Column { place: 0 }),
+];
 
 #[test]
 fn every_row_is_opened_anew_with_a_cap_of_one(rt: HostRuntime) -> Result<(), Fail> {
-    let requests = [
-        (Kind::Read, 0, 0, 0, 0),
-        (Kind::Read, 0, 0, 1, 0),
-        (Kind::Read, 0, 0, 0, 1),
-    ];
-    let mut scene = scene_of(rt.alloc(), &requests)?;
-    let steps = [
-        Cap(1),
-        Chooses(0, Choice::Act { place: 0 }),
-        Act(0, 0, 0, 0),
-        Chooses(4, Choice::Column { place: 0 }),
-        Rd(4, 0, 0, 0, 0),
-        Remove(0),
-        // the younger row hit waits, and RAS holds the PRE up to cycle 10
-        Chooses(9, Choice::Nothing),
-        Chooses(10, Choice::Pre { place: 0 }),
-        Pre(10, 0, 0),
-        // RP and RC hold the ACT up to cycle 14
-        Chooses(13, Choice::Nothing),
-        Chooses(14, Choice::Act { place: 0 }),
-        Act(14, 0, 0, 1),
-        Chooses(18, Choice::Column { place: 0 }),
-        Rd(18, 0, 0, 1, 0),
-        Remove(0),
-        Chooses(23, Choice::Nothing),
-        Chooses(24, Choice::Pre { place: 0 }),
-        Pre(24, 0, 0),
-        Chooses(28, Choice::Act { place: 0 }),
-        Act(28, 0, 0, 0),
-        Chooses(31, Choice::Nothing),
-        Chooses(32, Choice::Column { place: 0 }),
-    ];
-    scene.play(&rt, &steps)
+    play(&rt, rt.alloc(), CAP_OF_ONE)
 }
+
+const WRITE_BEHIND_READ: &[Step] = &[
+    Admit(Kind::Read, 0, 0, 0, 0),
+    Admit(Kind::Write, 0, 0, 0, 0),
+    Drain(true),
+    Chooses(0, Choice::Act { place: 0 }),
+    Act(0, 0, 0, 0),
+    Chooses(4, Choice::Column { place: 0 }),
+    Rd(4, 0, 0, 0, 0),
+    Remove(0),
+    // RTW holds the write up to cycle 11
+    Chooses(10, Choice::Nothing),
+    Chooses(11, Choice::Column { place: 0 }),
+];
 
 #[test]
 fn write_waits_for_an_older_read_of_its_line(rt: HostRuntime) -> Result<(), Fail> {
-    let requests = [(Kind::Read, 0, 0, 0, 0), (Kind::Write, 0, 0, 0, 0)];
-    let mut scene = scene_of(rt.alloc(), &requests)?;
-    let steps = [
-        Drain(true),
-        Chooses(0, Choice::Act { place: 0 }),
-        Act(0, 0, 0, 0),
-        Chooses(4, Choice::Column { place: 0 }),
-        Rd(4, 0, 0, 0, 0),
-        Remove(0),
-        // RTW holds the write up to cycle 11
-        Chooses(10, Choice::Nothing),
-        Chooses(11, Choice::Column { place: 0 }),
-    ];
-    scene.play(&rt, &steps)
+    play(&rt, rt.alloc(), WRITE_BEHIND_READ)
 }
+
+const READ_BEHIND_WRITE: &[Step] = &[
+    Admit(Kind::Write, 0, 0, 0, 0),
+    Admit(Kind::Read, 0, 0, 0, 0),
+    Act(0, 0, 0, 0),
+    Chooses(4, Choice::Column { place: 0 }),
+];
 
 #[test]
 fn read_waits_for_an_older_write_of_its_line(rt: HostRuntime) -> Result<(), Fail> {
-    let requests = [(Kind::Write, 0, 0, 0, 0), (Kind::Read, 0, 0, 0, 0)];
-    let mut scene = scene_of(rt.alloc(), &requests)?;
-    let steps = [Act(0, 0, 0, 0), Chooses(4, Choice::Column { place: 0 })];
-    scene.play(&rt, &steps)
+    play(&rt, rt.alloc(), READ_BEHIND_WRITE)
 }
+
+const IDLE: &[Step] = &[Chooses(199, Choice::Nothing), Chooses(200, Choice::Refresh)];
 
 #[test]
 fn idle_rank_is_refreshed_when_one_is_due(rt: HostRuntime) -> Result<(), Fail> {
-    let mut scene = scene_of(rt.alloc(), &[])?;
-    let steps = [Chooses(199, Choice::Nothing), Chooses(200, Choice::Refresh)];
-    scene.play(&rt, &steps)
+    play(&rt, rt.alloc(), IDLE)
 }
+
+const PUT_OFF: &[Step] = &[
+    Admit(Kind::Read, 0, 0, 0, 0),
+    Act(0, 0, 0, 0),
+    Chooses(599, Choice::Column { place: 0 }),
+    Rd(599, 0, 0, 0, 0),
+    // RTP holds PREA up to cycle 602, and RP holds REF up to 606
+    Chooses(601, Choice::Nothing),
+    Chooses(602, Choice::PreAll),
+    PreAll(602),
+    Chooses(605, Choice::Nothing),
+    Chooses(606, Choice::Refresh),
+    Refresh(606),
+    // two are owed, so the read goes on as soon as RFC is over
+    Chooses(625, Choice::Nothing),
+    Chooses(626, Choice::Act { place: 0 }),
+    Act(626, 0, 0, 0),
+    Chooses(630, Choice::Column { place: 0 }),
+    Chooses(795, Choice::Column { place: 0 }),
+    Rd(795, 0, 0, 0, 0),
+    // the fourth falls due in cycle 800
+    Chooses(799, Choice::Nothing),
+    Chooses(800, Choice::PreAll),
+    PreAll(800),
+    Chooses(803, Choice::Nothing),
+    Chooses(804, Choice::Refresh),
+];
 
 #[test]
 fn refresh_is_put_off_twice_and_then_forced(rt: HostRuntime) -> Result<(), Fail> {
-    let mut scene = scene_of(rt.alloc(), &[(Kind::Read, 0, 0, 0, 0)])?;
-    let steps = [
-        Act(0, 0, 0, 0),
-        Chooses(599, Choice::Column { place: 0 }),
-        Rd(599, 0, 0, 0, 0),
-        // RTP holds PREA up to cycle 602, and RP holds REF up to 606
-        Chooses(601, Choice::Nothing),
-        Chooses(602, Choice::PreAll),
-        PreAll(602),
-        Chooses(605, Choice::Nothing),
-        Chooses(606, Choice::Refresh),
-        Refresh(606),
-        // two are owed, so the read goes on as soon as RFC is over
-        Chooses(625, Choice::Nothing),
-        Chooses(626, Choice::Act { place: 0 }),
-        Act(626, 0, 0, 0),
-        Chooses(630, Choice::Column { place: 0 }),
-        Chooses(795, Choice::Column { place: 0 }),
-        Rd(795, 0, 0, 0, 0),
-        // the fourth falls due in cycle 800
-        Chooses(799, Choice::Nothing),
-        Chooses(800, Choice::PreAll),
-        PreAll(800),
-        Chooses(803, Choice::Nothing),
-        Chooses(804, Choice::Refresh),
-    ];
-    scene.play(&rt, &steps)
+    play(&rt, rt.alloc(), PUT_OFF)
 }
+
+const READ_FIRST: &[Step] = &[
+    Admit(Kind::Write, 0, 0, 0, 0),
+    Admit(Kind::Read, 1, 0, 0, 0),
+    Chooses(0, Choice::Act { place: 1 }),
+    Drain(true),
+    Chooses(0, Choice::Act { place: 0 }),
+    Drain(false),
+    Act(0, 1, 0, 0),
+    Chooses(4, Choice::Column { place: 1 }),
+    Rd(4, 1, 0, 0, 0),
+    Remove(1),
+    // no read is left, so the write may be served
+    Chooses(5, Choice::Act { place: 0 }),
+    Act(5, 0, 0, 0),
+    // RTW holds it up to cycle 11
+    Chooses(10, Choice::Nothing),
+    Chooses(11, Choice::Column { place: 0 }),
+];
 
 #[test]
 fn read_goes_before_an_older_write_until_writes_drain(rt: HostRuntime) -> Result<(), Fail> {
-    let requests = [(Kind::Write, 0, 0, 0, 0), (Kind::Read, 1, 0, 0, 0)];
-    let mut scene = scene_of(rt.alloc(), &requests)?;
-    let steps = [
-        Chooses(0, Choice::Act { place: 1 }),
-        Drain(true),
-        Chooses(0, Choice::Act { place: 0 }),
-        Drain(false),
-        Act(0, 1, 0, 0),
-        Chooses(4, Choice::Column { place: 1 }),
-        Rd(4, 1, 0, 0, 0),
-        Remove(1),
-        // no read is left, so the write may be served
-        Chooses(5, Choice::Act { place: 0 }),
-        Act(5, 0, 0, 0),
-        // RTW holds it up to cycle 11
-        Chooses(10, Choice::Nothing),
-        Chooses(11, Choice::Column { place: 0 }),
-    ];
-    scene.play(&rt, &steps)
+    play(&rt, rt.alloc(), READ_FIRST)
 }
+
+/// Whether writes are drained, how many are pending, and whether they are drained next.
+const MODES: &[(bool, u32, bool)] = &[
+    (false, 5, false),
+    (false, 6, true),
+    (true, 3, true),
+    (true, 2, false),
+];
 
 #[test]
 fn writes_drain_between_the_marks(rt: HostRuntime) {
-    assert!(rt; !PROFILE_POLICY.next_mode(false, 5));
-    assert!(rt; PROFILE_POLICY.next_mode(false, 6));
-    assert!(rt; PROFILE_POLICY.next_mode(true, 3));
-    assert!(rt; !PROFILE_POLICY.next_mode(true, 2));
+    for (drain, writes, next) in MODES {
+        assert!(rt;
+            PROFILE_POLICY.next_mode(*drain, *writes) == *next,
+            "{drain} {writes}"
+        );
+    }
 }
+
+const NO_ROOM: &[Step] = &[
+    Admit(Kind::Read, 0, 0, 0, 0),
+    Admit(Kind::Read, 0, 0, 1, 0),
+    Admit(Kind::Read, 0, 0, 0, 1),
+    Act(0, 0, 0, 0),
+    // no PRE either, since a candidate wants the open row
+    Room(false),
+    Chooses(10, Choice::Nothing),
+    Room(true),
+    Chooses(10, Choice::Column { place: 0 }),
+];
 
 #[test]
 fn no_column_command_without_room(rt: HostRuntime) -> Result<(), Fail> {
-    let requests = [
-        (Kind::Read, 0, 0, 0, 0),
-        (Kind::Read, 0, 0, 1, 0),
-        (Kind::Read, 0, 0, 0, 1),
-    ];
-    let mut scene = scene_of(rt.alloc(), &requests)?;
-    let steps = [
-        Act(0, 0, 0, 0),
-        // no PRE either, since a candidate wants the open row
-        Room(false),
-        Chooses(10, Choice::Nothing),
-        Room(true),
-        Chooses(10, Choice::Column { place: 0 }),
-    ];
-    scene.play(&rt, &steps)
+    play(&rt, rt.alloc(), NO_ROOM)
 }
+
+const ACTIVATION_FIRST: &[Step] = &[
+    Admit(Kind::Read, 0, 0, 1, 0),
+    Admit(Kind::Read, 0, 1, 0, 0),
+    Act(0, 0, 0, 0),
+    Chooses(2, Choice::Nothing),
+    Chooses(3, Choice::Act { place: 1 }),
+    Chooses(10, Choice::Pre { place: 0 }),
+];
 
 #[test]
 fn activation_goes_before_an_older_precharge_that_waits(rt: HostRuntime) -> Result<(), Fail> {
-    let requests = [(Kind::Read, 0, 0, 1, 0), (Kind::Read, 0, 1, 0, 0)];
-    let mut scene = scene_of(rt.alloc(), &requests)?;
-    let steps = [
-        Act(0, 0, 0, 0),
-        Chooses(2, Choice::Nothing),
-        Chooses(3, Choice::Act { place: 1 }),
-        Chooses(10, Choice::Pre { place: 0 }),
-    ];
-    scene.play(&rt, &steps)
+    play(&rt, rt.alloc(), ACTIVATION_FIRST)
 }
+
+const UNWANTED_ROW: &[Step] = &[
+    Admit(Kind::Read, 0, 0, 1, 0),
+    Admit(Kind::Write, 0, 0, 0, 1),
+    Act(0, 0, 0, 0),
+    // a write wants the row, but reads are served
+    Chooses(10, Choice::Pre { place: 0 }),
+    Drain(true),
+    Chooses(10, Choice::Column { place: 1 }),
+];
 
 #[test]
 fn row_that_no_candidate_wants_is_closed(rt: HostRuntime) -> Result<(), Fail> {
-    let requests = [(Kind::Read, 0, 0, 1, 0), (Kind::Write, 0, 0, 0, 1)];
-    let mut scene = scene_of(rt.alloc(), &requests)?;
-    let steps = [
-        Act(0, 0, 0, 0),
-        // a write wants the row, but reads are served
-        Chooses(10, Choice::Pre { place: 0 }),
-        Drain(true),
-        Chooses(10, Choice::Column { place: 1 }),
-    ];
-    scene.play(&rt, &steps)
+    play(&rt, rt.alloc(), UNWANTED_ROW)
 }
 
-// The older request is a read in bank 2 of group 1, the younger one a write in bank 0 of group 3; each names its
-// own DRAM row and line.
+/// A read in bank 2 of group 1, and a younger write in bank 0 of group 3; each names its own DRAM row and line.
+const READ_AND_WRITE: &[Step] = &[
+    Admit(Kind::Read, 1, 2, 7, 5),
+    Admit(Kind::Write, 3, 0, 9, 6),
+];
+
+/// Each choice of those two, and its command.
+const COMMANDS: &[(Choice, Option<Command>)] = &[
+    (Choice::Nothing, None),
+    (Choice::Refresh, Some(Command::Refresh { rank: 0 })),
+    (Choice::PreAll, Some(Command::PreAll { rank: 0 })),
+    (
+        Choice::Act { place: 0 },
+        Some(Command::Act {
+            rank: 0,
+            group: 1,
+            bank: 2,
+            row: 7,
+        }),
+    ),
+    (
+        Choice::Act { place: 1 },
+        Some(Command::Act {
+            rank: 0,
+            group: 3,
+            bank: 0,
+            row: 9,
+        }),
+    ),
+    (
+        Choice::Pre { place: 0 },
+        Some(Command::Pre {
+            rank: 0,
+            group: 1,
+            bank: 2,
+        }),
+    ),
+    (
+        Choice::Pre { place: 1 },
+        Some(Command::Pre {
+            rank: 0,
+            group: 3,
+            bank: 0,
+        }),
+    ),
+    (
+        Choice::Column { place: 0 },
+        Some(Command::Rd {
+            rank: 0,
+            group: 1,
+            bank: 2,
+            row: 7,
+            line: 5,
+        }),
+    ),
+    (
+        Choice::Column { place: 1 },
+        Some(Command::Wr {
+            rank: 0,
+            group: 3,
+            bank: 0,
+            row: 9,
+            line: 6,
+        }),
+    ),
+    // no request is pending there
+    (Choice::Act { place: 2 }, None),
+    (Choice::Pre { place: 2 }, None),
+    (Choice::Column { place: 2 }, None),
+];
+
+fn check_commands(rt: &impl Abort, pending: &Pending) {
+    for (choice, expected) in COMMANDS {
+        assert_eq!(rt; command_of(pending, *choice), *expected, "{choice:?}");
+    }
+}
+
 #[test]
 fn command_of_each_choice(rt: HostRuntime) -> Result<(), Fail> {
-    let requests = [(Kind::Read, 1, 2, 7, 5), (Kind::Write, 3, 0, 9, 6)];
-    let scene = scene_of(rt.alloc(), &requests)?;
-    let write = Command::Wr {
-        rank: 0,
-        group: 3,
-        bank: 0,
-        row: 9,
-        line: 6,
-    };
-    let rows = [
-        (Choice::Nothing, None),
-        (Choice::Refresh, Some(Command::Refresh { rank: 0 })),
-        (Choice::PreAll, Some(Command::PreAll { rank: 0 })),
-        (Choice::Act { place: 0 }, Some(activate(1, 2, 7))),
-        (Choice::Act { place: 1 }, Some(activate(3, 0, 9))),
-        (Choice::Pre { place: 0 }, Some(precharge(1, 2))),
-        (Choice::Pre { place: 1 }, Some(precharge(3, 0))),
-        (Choice::Column { place: 0 }, Some(read(1, 2, 7, 5))),
-        (Choice::Column { place: 1 }, Some(write)),
-        // no request is pending there
-        (Choice::Act { place: 2 }, None),
-        (Choice::Pre { place: 2 }, None),
-        (Choice::Column { place: 2 }, None),
-    ];
-    for (choice, expected) in rows {
-        assert_eq!(rt; command_of(&scene.pending, choice), expected);
-    }
+    let mut scene = Scene::open(rt.alloc())?;
+    scene.take_all(&rt, rt.alloc(), READ_AND_WRITE)?;
+    check_commands(&rt, &scene.pending);
     Ok(())
 }
