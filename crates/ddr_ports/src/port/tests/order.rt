@@ -1,67 +1,91 @@
 //! Lines that come back in every order of a window of four.
-use super::{done, open, prepared};
+use super::{Asked, ask, fill, lends, open};
 use crate::port::PortCore;
-use crate::request::Request;
-use ddr_address_map::request::Req;
+use crate::refusal::PortError;
+use ddr_address_map::request::{Kind, Line};
 use std::alloc::Global;
 use std::ops::Range;
 use std::process::Abort;
 use std::test::Fail;
 
-/// Each order of four.
-const ORDERS: [[usize; 4]; 24] = [
-    [0, 1, 2, 3],
-    [0, 1, 3, 2],
-    [0, 2, 1, 3],
-    [0, 2, 3, 1],
-    [0, 3, 1, 2],
-    [0, 3, 2, 1],
-    [1, 0, 2, 3],
-    [1, 0, 3, 2],
-    [1, 2, 0, 3],
-    [1, 2, 3, 0],
-    [1, 3, 0, 2],
-    [1, 3, 2, 0],
-    [2, 0, 1, 3],
-    [2, 0, 3, 1],
-    [2, 1, 0, 3],
-    [2, 1, 3, 0],
-    [2, 3, 0, 1],
-    [2, 3, 1, 0],
-    [3, 0, 1, 2],
-    [3, 0, 2, 1],
-    [3, 1, 0, 2],
-    [3, 1, 2, 0],
-    [3, 2, 0, 1],
-    [3, 2, 1, 0],
+/// Each order of four: the place of each line that comes back, and how many replies are ready then.
+const ORDERS: &[[(usize, usize); 4]] = &[
+    [(0, 1), (1, 2), (2, 3), (3, 4)],
+    [(0, 1), (1, 2), (3, 2), (2, 4)],
+    [(0, 1), (2, 1), (1, 3), (3, 4)],
+    [(0, 1), (2, 1), (3, 1), (1, 4)],
+    [(0, 1), (3, 1), (1, 2), (2, 4)],
+    [(0, 1), (3, 1), (2, 1), (1, 4)],
+    [(1, 0), (0, 2), (2, 3), (3, 4)],
+    [(1, 0), (0, 2), (3, 2), (2, 4)],
+    [(1, 0), (2, 0), (0, 3), (3, 4)],
+    [(1, 0), (2, 0), (3, 0), (0, 4)],
+    [(1, 0), (3, 0), (0, 2), (2, 4)],
+    [(1, 0), (3, 0), (2, 0), (0, 4)],
+    [(2, 0), (0, 1), (1, 3), (3, 4)],
+    [(2, 0), (0, 1), (3, 1), (1, 4)],
+    [(2, 0), (1, 0), (0, 3), (3, 4)],
+    [(2, 0), (1, 0), (3, 0), (0, 4)],
+    [(2, 0), (3, 0), (0, 1), (1, 4)],
+    [(2, 0), (3, 0), (1, 0), (0, 4)],
+    [(3, 0), (0, 1), (1, 2), (2, 4)],
+    [(3, 0), (0, 1), (2, 1), (1, 4)],
+    [(3, 0), (1, 0), (0, 2), (2, 4)],
+    [(3, 0), (1, 0), (2, 0), (0, 4)],
+    [(3, 0), (2, 0), (0, 1), (1, 4)],
+    [(3, 0), (2, 0), (1, 0), (0, 4)],
 ];
 
-/// Four reads, as far as their lines haven't come back.
-fn prepare_four(alloc: Global, port: &mut PortCore) -> Result<Vec<Option<Req>>, Fail> {
-    let mut waiting = Vec::new(alloc);
-    for _ in 0..4 {
-        waiting.push(Some(prepared(port, Request::read(0, 8))?))?;
+/// The numbers of four reads of eight bytes.
+fn ask_four(port: &mut PortCore) -> Result<[u64; 4], PortError> {
+    let mut numbers = [0; 4];
+    for number in &mut numbers {
+        *number = ask(port, Asked::Read(0, 8))?;
     }
-    Ok(waiting)
+    Ok(numbers)
 }
 
-/// Brings the line of the read at this place back, with its number in its first bytes.
-fn complete(port: &mut PortCore, waiting: &mut Vec<Option<Req>>, place: usize) -> Result<(), Fail> {
-    let slot = waiting.get_mut(place).ok_or("no such read")?;
-    let mut request = slot.take().ok_or("came back before")?;
-    let number = request.number.to_le_bytes();
+/// A line with a number in its first bytes.
+fn line_of(number: u64) -> Line {
     let mut line = [0; 64];
-    line[..8].copy_from_slice(&number);
-    *request.line = line;
-    Ok(port.fill(done(request)).ok().ok_or("stray")?)
+    line[..8].copy_from_slice(&number.to_le_bytes());
+    line
+}
+
+/// Brings the line of a read back, with its number in its first bytes.
+fn complete(alloc: Global, port: &mut PortCore, number: u64) -> Result<(), Fail> {
+    let filled = fill(alloc, port, number, (Kind::Read, 0, 8), &line_of(number))?;
+    Ok(filled.ok().ok_or("stray")?)
+}
+
+/// Four reads, whose lines come back in an order.
+fn complete_four(
+    rt: &impl Abort,
+    alloc: Global,
+    port: &mut PortCore,
+    order: &[(usize, usize); 4],
+) -> Result<(), Fail> {
+    let numbers = ask_four(port)?;
+    for (place, ready) in order {
+        let number = numbers.get(*place).ok_or("no such read")?;
+        complete(alloc, port, *number)?;
+        assert!(rt; port.ready() == *ready, "{order:?}");
+        assert!(rt; port.nth(*ready).is_none(), "{order:?}");
+    }
+    Ok(())
+}
+
+/// The number of the oldest reply.
+fn front_number(port: &PortCore) -> Option<u64> {
+    Some(port.front()?.number)
 }
 
 /// Takes four replies, whose numbers are the next ones.
 fn take_four(rt: &impl Abort, port: &mut PortCore, numbers: &mut Range<u64>) -> Result<(), Fail> {
     for _ in 0..4 {
-        let reply = port.front().ok_or("no reply")?;
-        assert_eq!(rt; Some(reply.number), numbers.next());
-        assert_eq!(rt; reply.bytes, reply.number.to_le_bytes().as_slice());
+        let number = front_number(port).ok_or("no reply")?;
+        assert!(rt; Some(number) == numbers.next());
+        assert!(rt; lends(port, &number.to_le_bytes()));
         let _ = port.release();
     }
     Ok(())
@@ -73,15 +97,9 @@ fn gives_replies_in_the_order_of_their_numbers(rt: HostRuntime) -> Result<(), Fa
     let mut port = open(rt.alloc(), 4, 0)?;
     let mut numbers = 0..96;
     for order in ORDERS {
-        let mut waiting = prepare_four(rt.alloc(), &mut port)?;
-        for place in order {
-            complete(&mut port, &mut waiting, place)?;
-            let ready = waiting.iter().take_while(|w| w.is_none()).count();
-            assert_eq!(rt; port.ready(), ready, "{order:?}");
-            assert!(rt; port.nth(ready).is_none());
-        }
+        complete_four(&rt, rt.alloc(), &mut port, order)?;
         take_four(&rt, &mut port, &mut numbers)?;
     }
-    assert_eq!(rt; numbers.next(), None);
+    assert!(rt; numbers.next().is_none());
     Ok(())
 }
