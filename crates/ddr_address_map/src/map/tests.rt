@@ -4,24 +4,27 @@ use super::*;
 use ddr_timing::config::Config;
 use ddr_timing::profile::PROFILE_S;
 use std::alloc::{AllocError, Global};
+use std::process::Abort;
 use std::test::Fail;
 
 /// The words of the address digits.
 const WORDS: [&str; 5] = ["channel", "group", "bank", "column", "row"];
 
-/// The map of profile S with other lines: each pair is a key and what stands for its line.
-fn map_with(alloc: Global, lines: &[(&str, &str)]) -> Result<Map, Fail> {
+/// Profile S with other lines: each pair is a key and what stands for its line.
+fn changed(alloc: Global, lines: &[(&str, &str)]) -> Result<String, AllocError> {
     let mut text = String::new(alloc);
     for line in PROFILE_S.lines() {
         push_line(&mut text, line, lines)?;
         text.push('\n')?;
     }
-    let config = Config::read(alloc, text.as_str())?;
-    Ok(Map::new(&config))
+    Ok(text)
 }
 
 fn push_line(text: &mut String, line: &str, lines: &[(&str, &str)]) -> Result<(), AllocError> {
-    let name = line.split_once(' ').map_or(line, |(name, _)| name);
+    let name = match line.split_once(' ') {
+        Some((name, _)) => name,
+        None => line,
+    };
     for (key, other) in lines {
         if name == *key {
             return text.push_str(other);
@@ -30,8 +33,26 @@ fn push_line(text: &mut String, line: &str, lines: &[(&str, &str)]) -> Result<()
     text.push_str(line)
 }
 
-/// A place, its parts in the order of the program's text: channel, group, bank, row, line, offset.
-fn at(parts: [u32; 6]) -> Place {
+/// The map that a text gives, where it is accepted.
+fn map_of(alloc: Global, text: Result<String, AllocError>) -> Option<Map> {
+    match text {
+        Ok(text) => match Config::read(alloc, text.as_str()) {
+            Ok(config) => Some(Map::new(&config)),
+            Err(_) => None,
+        },
+        Err(_) => None,
+    }
+}
+
+/// The map of profile S with other lines.
+fn map_with(alloc: Global, lines: &[(&str, &str)]) -> Result<Map, Fail> {
+    Ok(map_of(alloc, changed(alloc, lines)).ok_or("refused")?)
+}
+
+/// The parts of a place in the order of the program's text: channel, group, bank, row, line, offset.
+type Parts = [u32; 6];
+
+fn at(parts: Parts) -> Place {
     let [channel, group, bank, row, line, offset] = parts;
     Place {
         channel,
@@ -43,95 +64,145 @@ fn at(parts: [u32; 6]) -> Place {
     }
 }
 
-// In profile S an address is 64 * line + 512 * group + 2048 * bank + 8192 * row + 131072 * channel + offset.
+/// That each address has its place, or none.
+fn check_places(rt: &impl Abort, map: &Map, places: &[(u64, Option<Parts>)]) {
+    for (addr, parts) in places {
+        assert!(rt; map.place(*addr) == parts.map(at), "at {addr}");
+    }
+}
+
+/// That each place has its address, or none.
+fn check_addresses(rt: &impl Abort, map: &Map, addresses: &[(Parts, Option<u64>)]) {
+    for (parts, addr) in addresses {
+        assert!(rt; map.address(at(*parts)) == *addr, "at {parts:?}");
+    }
+}
+
+/// The map of profile S with other lines gives these places and these addresses.
+fn check_map(
+    rt: &impl Abort,
+    alloc: Global,
+    lines: &[(&str, &str)],
+    places: &[(u64, Option<Parts>)],
+    addresses: &[(Parts, Option<u64>)],
+) -> Result<(), Fail> {
+    let map = map_with(alloc, lines)?;
+    check_places(rt, &map, places);
+    check_addresses(rt, &map, addresses);
+    Ok(())
+}
+
+/// In profile S an address is 64 * line + 512 * group + 2048 * bank + 8192 * row + 131072 * channel + offset.
+const PLACES_OF_S: &[(u64, Option<Parts>)] = &[
+    (0, Some([0, 0, 0, 0, 0, 0])),
+    (100_000, Some([0, 3, 0, 12, 2, 32])),
+    (262_143, Some([1, 3, 3, 15, 7, 63])),
+    (262_144, None),
+    (u64::MAX, None),
+];
+
+const ADDRESSES_OF_S: &[(Parts, Option<u64>)] = &[
+    ([0, 3, 0, 12, 2, 32], Some(100_000)),
+    ([1, 3, 3, 15, 7, 63], Some(262_143)),
+];
+
 #[test]
 fn maps_the_addresses_of_profile_s(rt: HostRuntime) -> Result<(), Fail> {
-    let map = map_with(rt.alloc(), &[])?;
-    assert_eq!(rt; map.place(0), Some(at([0, 0, 0, 0, 0, 0])));
-    assert_eq!(rt; map.place(100_000), Some(at([0, 3, 0, 12, 2, 32])));
-    assert_eq!(rt; map.place(262_143), Some(at([1, 3, 3, 15, 7, 63])));
-    assert_eq!(rt; map.place(262_144), None);
-    assert_eq!(rt; map.place(u64::MAX), None);
-    assert_eq!(rt; map.address(at([0, 3, 0, 12, 2, 32])), Some(100_000));
-    assert_eq!(rt; map.address(at([1, 3, 3, 15, 7, 63])), Some(262_143));
-    Ok(())
+    check_map(&rt, rt.alloc(), &[], PLACES_OF_S, ADDRESSES_OF_S)
 }
 
-// The row is the one numbered 13, which is 1 mod 4, so bank digit 0 is bank 1, and bank digit 3 is bank 2.
+const SWAPPED: &[(&str, &str)] = &[("bank_xor", "bank_xor = true")];
+
+/// The row is the one numbered 13, which is 1 mod 4, so bank digit 0 is bank 1, and bank digit 3 is bank 2.
+const SWAPPED_PLACES: &[(u64, Option<Parts>)] = &[
+    (106_496, Some([0, 0, 1, 13, 0, 0])),
+    (112_640, Some([0, 0, 2, 13, 0, 0])),
+];
+
+const SWAPPED_ADDRESSES: &[(Parts, Option<u64>)] = &[
+    ([0, 0, 1, 13, 0, 0], Some(106_496)),
+    ([0, 0, 2, 13, 0, 0], Some(112_640)),
+];
+
 #[test]
 fn swaps_the_banks_by_the_row(rt: HostRuntime) -> Result<(), Fail> {
-    let map = map_with(rt.alloc(), &[("bank_xor", "bank_xor = true")])?;
-    assert_eq!(rt; map.place(106_496), Some(at([0, 0, 1, 13, 0, 0])));
-    assert_eq!(rt; map.address(at([0, 0, 1, 13, 0, 0])), Some(106_496));
-    assert_eq!(rt; map.place(112_640), Some(at([0, 0, 2, 13, 0, 0])));
-    assert_eq!(rt; map.address(at([0, 0, 2, 13, 0, 0])), Some(112_640));
-    Ok(())
+    check_map(&rt, rt.alloc(), SWAPPED, SWAPPED_PLACES, SWAPPED_ADDRESSES)
 }
 
-// Each part in turn is at its size.
+/// Each part in turn is at its size.
+const OUTSIDE: &[(Parts, Option<u64>)] = &[
+    ([2, 3, 3, 15, 7, 63], None),
+    ([1, 4, 3, 15, 7, 63], None),
+    ([1, 3, 4, 15, 7, 63], None),
+    ([1, 3, 3, 16, 7, 63], None),
+    ([1, 3, 3, 15, 8, 63], None),
+    ([1, 3, 3, 15, 7, 64], None),
+];
+
 #[test]
 fn refuses_places_out_of_range(rt: HostRuntime) -> Result<(), Fail> {
-    let map = map_with(rt.alloc(), &[])?;
-    let outside = [
-        [2, 3, 3, 15, 7, 63],
-        [1, 4, 3, 15, 7, 63],
-        [1, 3, 4, 15, 7, 63],
-        [1, 3, 3, 16, 7, 63],
-        [1, 3, 3, 15, 8, 63],
-        [1, 3, 3, 15, 7, 64],
-    ];
-    for parts in outside {
-        assert_eq!(rt; map.address(at(parts)), None, "at {parts:?}");
-    }
-    Ok(())
+    check_map(&rt, rt.alloc(), &[], &[], OUTSIDE)
 }
 
-// The place has the numbers 1 for its channel, 2 for its group, 3 for its bank, 5 for its row, 6 for its line
-// and 7 for its offset. By the order "channel group bank column row" the weights are 64 for the channel, 128, 512, 2048 and 16384; by "row column bank group
-// channel" 64 for the row, 1024, 8192, 32768 and 131072; by "bank row channel column group" 64 for the
-// bank, 256, 4096, 8192 and 65536.
+/// The numbers 1 for the channel, 2 for the group, 3 for the bank, 5 for the row, 6 for the line and 7 for the
+/// offset.
+const COUNTED: Parts = [1, 2, 3, 5, 6, 7];
+
+/// The address of that place by each order. By "channel group bank column row" the weights are 64 for the channel,
+/// 128, 512, 2048 and 16384; by "row column bank group channel" 64 for the row, 1024, 8192, 32768 and 131072; by
+/// "bank row channel column group" 64 for the bank, 256, 4096, 8192 and 65536.
+const ORDERS: &[(&str, u64)] = &[
+    ("map = \"column group bank row channel\"", 179_591),
+    ("map = \"channel group bank column row\"", 96_071),
+    ("map = \"row column bank group channel\"", 227_655),
+    ("map = \"bank row channel column group\"", 185_799),
+];
+
+fn check_counted(rt: &impl Abort, alloc: Global, order: &str, addr: u64) -> Result<(), Fail> {
+    let places = [(addr, Some(COUNTED))];
+    let addresses = [(COUNTED, Some(addr))];
+    check_map(rt, alloc, &[("map", order)], &places, &addresses)
+}
+
 #[test]
 fn follows_the_order_of_the_words(rt: HostRuntime) -> Result<(), Fail> {
-    let orders = [
-        ("map = \"column group bank row channel\"", 179_591),
-        ("map = \"channel group bank column row\"", 96_071),
-        ("map = \"row column bank group channel\"", 227_655),
-        ("map = \"bank row channel column group\"", 185_799),
-    ];
-    let place = at([1, 2, 3, 5, 6, 7]);
-    for (order, addr) in orders {
-        let map = map_with(rt.alloc(), &[("map", order)])?;
-        assert_eq!(rt; map.place(addr), Some(place), "{order}");
-        assert_eq!(rt; map.address(place), Some(addr), "{order}");
+    for (order, addr) in ORDERS {
+        check_counted(&rt, rt.alloc(), order, *addr)?;
     }
     Ok(())
 }
 
-// 131072 rows of 128 lines, 4 banks, 4 groups and 4 channels are 2^36 bytes.
+/// 131072 rows of 128 lines, 4 banks, 4 groups and 4 channels are 2^36 bytes.
+const LARGEST: &[(&str, &str)] = &[
+    ("channels", "channels = 4"),
+    ("rows", "rows = 131072"),
+    ("columns", "columns = 1024"),
+];
+
+const LAST_PLACES: &[(u64, Option<Parts>)] = &[
+    (68_719_476_735, Some([3, 3, 3, 131_071, 127, 63])),
+    (68_719_476_736, None),
+];
+
+const LAST_ADDRESS: &[(Parts, Option<u64>)] = &[(
+    [3, 3, 3, 131_071, 127, 63],
+    Some(68_719_476_735),
+)];
+
 #[test]
 fn maps_the_largest_memory(rt: HostRuntime) -> Result<(), Fail> {
-    let largest = [
-        ("channels", "channels = 4"),
-        ("rows", "rows = 131072"),
-        ("columns", "columns = 1024"),
-    ];
-    let map = map_with(rt.alloc(), &largest)?;
-    let last = at([3, 3, 3, 131_071, 127, 63]);
-    assert_eq!(rt; map.place(68_719_476_735), Some(last));
-    assert_eq!(rt; map.address(last), Some(68_719_476_735));
-    assert_eq!(rt; map.place(68_719_476_736), None);
-    Ok(())
+    check_map(&rt, rt.alloc(), LARGEST, LAST_PLACES, LAST_ADDRESS)
 }
 
 /// Five of the words, the k-th by the k-th digit of a number to the base 5.
 fn words_by(number: usize) -> [&'static str; 5] {
-    [
-        WORDS[number % 5],
-        WORDS[number / 5 % 5],
-        WORDS[number / 25 % 5],
-        WORDS[number / 125 % 5],
-        WORDS[number / 625 % 5],
-    ]
+    let mut words = [""; 5];
+    let mut rest = number;
+    for word in &mut words {
+        *word = WORDS[rest % 5];
+        rest /= 5;
+    }
+    words
 }
 
 /// Whether addresses from all over the memory of profile S have places that give them back.
@@ -146,24 +217,35 @@ fn is_there_and_back(map: &Map) -> bool {
     true
 }
 
+/// Whether each of the words is among these.
+fn is_an_order(words: &[&str; 5]) -> bool {
+    WORDS.iter().all(|word| words.contains(word))
+}
+
+/// The line of a configuration that names an order.
+fn line_of(alloc: Global, words: [&str; 5]) -> Result<String, AllocError> {
+    let [first, second, third, fourth, fifth] = words;
+    format!(in alloc; "map = \"{first} {second} {third} {fourth} {fifth}\"")
+}
+
+/// That the map of an order goes there and back, and ends where profile S does.
+fn check_order(rt: &impl Abort, alloc: Global, line: &str) -> Result<(), Fail> {
+    let map = map_with(alloc, &[("map", line)])?;
+    assert!(rt; is_there_and_back(&map), "{line}");
+    let last = Some(at([1, 3, 3, 15, 7, 63]));
+    assert!(rt; map.place(262_143) == last, "{line}");
+    assert!(rt; map.place(262_144).is_none(), "{line}");
+    Ok(())
+}
+
 #[test]
 fn goes_there_and_back_by_every_order(rt: HostRuntime) -> Result<(), Fail> {
     let mut orders = 0_u32;
     for number in 0..3125 {
         let words = words_by(number);
-        if WORDS.iter().all(|word| words.contains(word)) {
-            let [first, second, third, fourth, fifth] = words;
-            let line = format!(in rt.alloc();
-                "map = \"{first} {second} {third} {fourth} {fifth}\""
-            )?;
-            let map = map_with(rt.alloc(), &[("map", line.as_str())])?;
-            assert!(rt; is_there_and_back(&map), "{line}");
-            assert_eq!(rt;
-                map.place(262_143),
-                Some(at([1, 3, 3, 15, 7, 63])),
-                "{line}"
-            );
-            assert_eq!(rt; map.place(262_144), None, "{line}");
+        if is_an_order(&words) {
+            let line = line_of(rt.alloc(), words)?;
+            check_order(&rt, rt.alloc(), line.as_str())?;
             assert!(rt; orders < 120);
             orders += 1;
         }
