@@ -7,7 +7,7 @@ ghost use Rattle.ddr_arbiter.specs.Choice.{passes_at};
 use crate::choice::{Choice, choose};
 use crate::commands::command_of;
 use crate::policy::Policy;
-use Step::{Act, Admit, Cap, Chooses, Drain, Pre, PreAll, Rd, Refresh, Remove, Room};
+use Step::{Act, Admit, Cap, Chooses, Drain, Pre, PreAll, Rd, Refresh, Remove, Room, Stands};
 use ddr_address_map::place::Place;
 use ddr_address_map::request::{Echo, Kind, Req};
 use ddr_hazards::pending::Pending;
@@ -219,6 +219,17 @@ enum Step {
     Room(bool),
     /// The age cap from here on.
     Cap(u32),
+    /// The command that a choice stands for, if any.
+    Stands(Choice, Option<Command>),
+}
+
+fn check_choice(rt: &impl Abort, cycle: u32, found: Choice, expected: Choice) {
+    assert_eq!(rt; found, expected, "at {cycle}");
+}
+
+/// That a choice stands for this command.
+fn check_command(rt: &impl Abort, pending: &Pending, choice: Choice, expected: Option<Command>) {
+    assert_eq!(rt; command_of(pending, choice), expected, "{choice:?}");
 }
 
 impl Scene {
@@ -252,12 +263,17 @@ impl Scene {
                 self.policy.cap = cap;
                 Ok(())
             }
+            Stands(choice, command) => {
+                check_command(rt, &self.pending, choice, command);
+                Ok(())
+            }
         }
     }
 
     /// That the scheduler chooses so in a cycle.
     fn chooses(&mut self, rt: &impl Abort, cycle: u32, choice: Choice) -> Result<(), Fail> {
-        assert_eq!(rt; self.choice(cycle)?, choice, "at {cycle}");
+        let found = self.choice(cycle)?;
+        check_choice(rt, cycle, found, choice);
         Ok(())
     }
 
@@ -513,17 +529,13 @@ fn row_that_no_candidate_wants_is_closed(rt: HostRuntime) -> Result<(), Fail> {
 }
 
 /// A read in bank 2 of group 1, and a younger write in bank 0 of group 3; each names its own DRAM row and line.
-const READ_AND_WRITE: &[Step] = &[
+const COMMANDS: &[Step] = &[
     Admit(Kind::Read, 1, 2, 7, 5),
     Admit(Kind::Write, 3, 0, 9, 6),
-];
-
-/// Each choice of those two, and its command.
-const COMMANDS: &[(Choice, Option<Command>)] = &[
-    (Choice::Nothing, None),
-    (Choice::Refresh, Some(Command::Refresh { rank: 0 })),
-    (Choice::PreAll, Some(Command::PreAll { rank: 0 })),
-    (
+    Stands(Choice::Nothing, None),
+    Stands(Choice::Refresh, Some(Command::Refresh { rank: 0 })),
+    Stands(Choice::PreAll, Some(Command::PreAll { rank: 0 })),
+    Stands(
         Choice::Act { place: 0 },
         Some(Command::Act {
             rank: 0,
@@ -532,7 +544,7 @@ const COMMANDS: &[(Choice, Option<Command>)] = &[
             row: 7,
         }),
     ),
-    (
+    Stands(
         Choice::Act { place: 1 },
         Some(Command::Act {
             rank: 0,
@@ -541,7 +553,7 @@ const COMMANDS: &[(Choice, Option<Command>)] = &[
             row: 9,
         }),
     ),
-    (
+    Stands(
         Choice::Pre { place: 0 },
         Some(Command::Pre {
             rank: 0,
@@ -549,7 +561,7 @@ const COMMANDS: &[(Choice, Option<Command>)] = &[
             bank: 2,
         }),
     ),
-    (
+    Stands(
         Choice::Pre { place: 1 },
         Some(Command::Pre {
             rank: 0,
@@ -557,7 +569,7 @@ const COMMANDS: &[(Choice, Option<Command>)] = &[
             bank: 0,
         }),
     ),
-    (
+    Stands(
         Choice::Column { place: 0 },
         Some(Command::Rd {
             rank: 0,
@@ -567,7 +579,7 @@ const COMMANDS: &[(Choice, Option<Command>)] = &[
             line: 5,
         }),
     ),
-    (
+    Stands(
         Choice::Column { place: 1 },
         Some(Command::Wr {
             rank: 0,
@@ -578,21 +590,12 @@ const COMMANDS: &[(Choice, Option<Command>)] = &[
         }),
     ),
     // no request is pending there
-    (Choice::Act { place: 2 }, None),
-    (Choice::Pre { place: 2 }, None),
-    (Choice::Column { place: 2 }, None),
+    Stands(Choice::Act { place: 2 }, None),
+    Stands(Choice::Pre { place: 2 }, None),
+    Stands(Choice::Column { place: 2 }, None),
 ];
-
-fn check_commands(rt: &impl Abort, pending: &Pending) {
-    for (choice, expected) in COMMANDS {
-        assert_eq!(rt; command_of(pending, *choice), *expected, "{choice:?}");
-    }
-}
 
 #[test]
 fn command_of_each_choice(rt: HostRuntime) -> Result<(), Fail> {
-    let mut scene = Scene::open(rt.alloc())?;
-    scene.take_all(&rt, rt.alloc(), READ_AND_WRITE)?;
-    check_commands(&rt, &scene.pending);
-    Ok(())
+    play(&rt, rt.alloc(), COMMANDS)
 }
