@@ -165,6 +165,3 @@ fn with_digit(place: Place, digit: Digit, value: u32) -> Place
         },
     }
 }
-
-#[cfg(test)]
-mod tests;

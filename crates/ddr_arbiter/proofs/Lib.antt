@@ -1,4 +1,3 @@
-pub mod AdmittedLemmas
 pub mod ChoiceLemmas
 pub mod CommandLemmas
 pub mod LawLemmas

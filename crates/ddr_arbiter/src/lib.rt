@@ -12,6 +12,4 @@ pub mod choice;
 pub mod commands;
 pub mod policy;
 mod refresh;
-#[cfg(test)]
-mod tests;
 mod wanted;

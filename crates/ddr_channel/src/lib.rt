@@ -11,6 +11,4 @@ mod bus;
 pub mod channel;
 pub mod promise;
 mod queue;
-#[cfg(test)]
-mod tests;
 mod transfer;

@@ -186,6 +186,3 @@ fn unblock_next(entries: &mut ArrayVec<Option<Entry>, CAPACITY>, from: usize, ta
         unblock_first(behind, taken.waiting.request.place);
     }
 }
-
-#[cfg(test)]
-mod tests;

@@ -10,5 +10,3 @@ pub mod checker;
 mod issued;
 pub mod legality;
 mod refreshes;
-#[cfg(test)]
-mod tests;

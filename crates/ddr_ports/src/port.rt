@@ -206,6 +206,3 @@ impl PortCore {
         Ok(())
     }
 }
-
-#[cfg(test)]
-mod tests;

@@ -211,6 +211,3 @@ fn number(group: u32, bank: u32) -> usize
 {
     group as usize * GROUP_BANKS as usize + bank as usize
 }
-
-#[cfg(test)]
-mod tests;

@@ -94,6 +94,3 @@ impl Debt {
         self.issued += 1;
     }
 }
-
-#[cfg(test)]
-mod tests;

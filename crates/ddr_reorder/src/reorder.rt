@@ -197,6 +197,3 @@ impl Reorder {
         self.slots.len()
     }
 }
-
-#[cfg(test)]
-mod tests;

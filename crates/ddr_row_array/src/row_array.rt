@@ -205,6 +205,3 @@ impl RowArray {
         }
     }
 }
-
-#[cfg(test)]
-mod tests;

@@ -44,6 +44,3 @@ impl Config {
         })
     }
 }
-
-#[cfg(test)]
-mod tests;

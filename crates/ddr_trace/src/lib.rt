@@ -16,8 +16,6 @@ pub mod reader;
 pub mod refresh;
 pub mod rule;
 mod spacing;
-#[cfg(test)]
-mod tests;
 pub mod text;
 pub mod trace;
 mod window;

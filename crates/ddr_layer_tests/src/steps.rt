@@ -1,0 +1,72 @@
+//! Commands of rank 0 as the tests of `rank`, `legality` and `channel` write them.
+use ddr_trace::command::{Command, Entry};
+use std::alloc::{AllocError, Global};
+
+/// A command of rank 0, with its cycle and then the group, the bank, the row and the line that it names.
+#[derive(Clone, Copy)]
+pub enum Step {
+    Act(u64, u32, u32, u32),
+    Rd(u64, u32, u32, u32, u32),
+    Wr(u64, u32, u32, u32, u32),
+    Pre(u64, u32, u32),
+    PreAll(u64),
+    Refresh(u64),
+}
+
+impl Step {
+    pub fn cycle(self) -> u64 {
+        match self {
+            Step::Act(cycle, ..)
+            | Step::Rd(cycle, ..)
+            | Step::Wr(cycle, ..)
+            | Step::Pre(cycle, ..)
+            | Step::PreAll(cycle)
+            | Step::Refresh(cycle) => cycle,
+        }
+    }
+
+    pub fn command(self) -> Command {
+        let rank = 0;
+        match self {
+            Step::Act(_, group, bank, row) => Command::Act {
+                rank,
+                group,
+                bank,
+                row,
+            },
+            Step::Rd(_, group, bank, row, line) => Command::Rd {
+                rank,
+                group,
+                bank,
+                row,
+                line,
+            },
+            Step::Wr(_, group, bank, row, line) => Command::Wr {
+                rank,
+                group,
+                bank,
+                row,
+                line,
+            },
+            Step::Pre(_, group, bank) => Command::Pre { rank, group, bank },
+            Step::PreAll(_) => Command::PreAll { rank },
+            Step::Refresh(_) => Command::Refresh { rank },
+        }
+    }
+
+    pub fn entry(self) -> Entry {
+        Entry {
+            cycle: self.cycle(),
+            command: self.command(),
+        }
+    }
+}
+
+/// The entries of these steps, in order.
+pub fn entries_of(alloc: Global, steps: &[Step]) -> Result<Vec<Entry>, AllocError> {
+    let mut entries = Vec::new(alloc);
+    for step in steps {
+        entries.push(step.entry())?;
+    }
+    Ok(entries)
+}
