@@ -7,6 +7,7 @@
 ghost use Rattle.std.specs.Prelude.{◌+◌, ◌<◌, ◌≤◌};
 
 use super::with_lines;
+use crate::chance::Chance;
 use ddr_address_map::request::Line;
 use ddr_run::run::run;
 use ddr_timing::profile::PROFILE_S;
@@ -34,41 +35,14 @@ const MOST: usize = 31;
 
 const ZEROS: Line = [0; 64];
 
-/// Numbers that look like chance: a linear congruential generator of 64 bits, with the constants of Knuth's MMIX.
-#[derive(Drop)]
-struct Chance(u64);
-
 impl Chance {
-    fn next(&mut self) -> u64 {
-        self.0 = self
-            .0
-            .wrapping_mul(6364136223846793005)
-            .wrapping_add(1442695040888963407);
-        self.0 ^ (self.0 >> 32)
-    }
-
-    fn below(&mut self, bound: usize) -> usize
-        requires { 0 < bound }
-        ensures { result < bound }
-    {
-        ((self.next() >> 16) % bound as u64) as usize
-    }
-
     /// Where some bytes of a line begin, and where they end.
     fn span(&mut self) -> (usize, usize)
         ensures { (result.0 < result.1) × (result.1 ≤ 64) }
     {
-        let first = self.below(64);
-        let count = self.below(64 - first);
+        let first = self.below(64) as usize;
+        let count = self.below(64 - first as u64) as usize;
         (first, first + count + 1)
-    }
-
-    fn line(&mut self) -> Line {
-        let mut line = ZEROS;
-        for byte in line.iter_mut() {
-            *byte = self.below(256) as u8;
-        }
-        line
     }
 
     /// The bytes that a write changes.
@@ -253,7 +227,7 @@ impl Script {
     /// A script of no requests yet.
     fn empty(alloc: Global, seed: u64) -> Result<Script, AllocError> {
         Ok(Script {
-            chance: Chance(seed),
+            chance: Chance::new(seed),
             asks: Vec::new(alloc),
             writes: vec![in alloc; [[None; MOST]; PORTS]; SHARED]?,
         })
@@ -270,7 +244,7 @@ impl Script {
     /// Adds the requests of a port.
     fn ask_for(&mut self, port: usize) -> Result<(), AllocError> {
         for number in 0..ASKS {
-            let place = self.chance.below(LINES);
+            let place = self.chance.below(LINES as u64) as usize;
             let what = self.what(port, place);
             self.asks.push(Ask {
                 port,

@@ -3,6 +3,7 @@
 ghost use Rattle.std.specs.Prelude.{◌<◌, ◌≤◌};
 
 use super::*;
+use crate::chance::Chance;
 use ddr_reorder::reply::Reply;
 use ddr_trace::checker;
 
@@ -17,26 +18,7 @@ const NUMBER: u64 = 5;
 /// The lines among which the requests fall: 16 of each channel.
 const LINES: usize = 64;
 
-/// Numbers that look like chance: a linear congruential generator of 64 bits, with the constants of Knuth's MMIX.
-#[derive(Drop)]
-struct Chance(u64);
-
 impl Chance {
-    fn next(&mut self) -> u64 {
-        self.0 = self
-            .0
-            .wrapping_mul(6364136223846793005)
-            .wrapping_add(1442695040888963407);
-        self.0 ^ (self.0 >> 32)
-    }
-
-    fn below(&mut self, bound: u64) -> u64
-        requires { 0 < bound }
-        ensures { result < bound }
-    {
-        (self.next() >> 16) % bound
-    }
-
     /// A part of a line: where it begins and where it ends.
     fn part(&mut self) -> (usize, usize)
         ensures order { result.0 ≤ result.1 }
@@ -44,15 +26,6 @@ impl Chance {
     {
         let start = self.below(64) as usize;
         (start, start + self.below(65 - start as u64) as usize)
-    }
-
-    /// The bytes of a line.
-    fn line(&mut self) -> [u8; 64] {
-        let mut line = [0u8; 64];
-        for byte in line.iter_mut() {
-            *byte = self.below(256) as u8;
-        }
-        line
     }
 }
 
@@ -370,7 +343,7 @@ impl Run {
         Ok(Run {
             world: World::open_at(alloc, &config, CYCLE, NUMBER)?,
             flat: Flat::open(alloc, config)?,
-            chance: Chance(1),
+            chance: Chance::new(1),
             refused: 0,
         })
     }
