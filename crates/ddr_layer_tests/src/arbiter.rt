@@ -1,9 +1,9 @@
 //! The choices of cycles in profile S, worked out by hand. `drain` is off and there is room, and the marks and
 //! the cap are the profile's, where a test says nothing else.
-ghost use Rattle.std.specs.Prelude.{◌≡◌, ◌+◌, ◌≤◌, nat_le, All, IsTrue};
-ghost use Rattle.ddr_timing.specs.declared.units.TheConstants.{CLOCK_STOP};
+ghost use Rattle.std.specs.Prelude.{◌≡◌, ◌≤◌, nat_le, All, IsTrue};
 ghost use Rattle.ddr_arbiter.specs.Choice.{passes_at};
 
+use crate::refresh::tick_times;
 use Step::{Act, Admit, Cap, Chooses, Drain, Pre, PreAll, Rd, Refresh, Remove, Room, Stands};
 use ddr_address_map::place::Place;
 use ddr_address_map::request::{Echo, Kind, Req};
@@ -135,16 +135,6 @@ impl Scene {
             self.drain,
             self.room,
         ))
-    }
-}
-
-/// Ticks so often.
-fn tick_times(debt: &mut Debt, times: u64)
-    requires { debt.old.ticks + times ≤ CLOCK_STOP }
-    ensures { debt.new ≡ record debt.old { ticks = debt.old.ticks + times } }
-{
-    for _tick in 0..times {
-        debt.tick();
     }
 }
 

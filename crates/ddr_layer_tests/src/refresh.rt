@@ -8,7 +8,7 @@ use ddr_timing::profile::PROFILE_S;
 use std::test::Fail;
 
 /// Ticks so often.
-fn tick_times(debt: &mut Debt, times: u64)
+pub fn tick_times(debt: &mut Debt, times: u64)
     requires { debt.old.ticks + times ≤ CLOCK_STOP }
     ensures { debt.new ≡ record debt.old { ticks = debt.old.ticks + times } }
 {
