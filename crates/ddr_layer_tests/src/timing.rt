@@ -1,6 +1,6 @@
 //! What the contract of `Config::read` means at worked texts. Ranges, relations and values are written
 //! out here by hand, from the table that a configuration follows.
-use crate::sample::changed;
+use crate::sample::{changed, with_lines};
 use ddr_timing::config::Config;
 use ddr_timing::error::ConfigError;
 use ddr_timing::geometry::Digit;
@@ -10,10 +10,20 @@ use std::alloc::{AllocError, Global};
 use std::test::Fail;
 
 mod refusals;
+mod second;
 
 /// Why profile S with these lines is refused, if it is.
 fn refusal(alloc: Global, lines: &[(&str, &str)]) -> Result<Option<ConfigError>, AllocError> {
-    let text = changed(alloc, lines)?;
+    refusal_with(alloc, PROFILE_S, lines)
+}
+
+/// Why a profile with these lines is refused, if it is.
+fn refusal_with(
+    alloc: Global,
+    profile: &str,
+    lines: &[(&str, &str)],
+) -> Result<Option<ConfigError>, AllocError> {
+    let text = with_lines(alloc, profile, lines)?;
     match Config::read(alloc, text.as_str()) {
         Ok(_) => Ok(None),
         Err(ConfigError::OutOfMemory) => Err(AllocError),
@@ -30,7 +40,7 @@ fn reads_the_timing_of_profile_s(rt: HostRuntime) -> Result<(), Fail> {
     assert_eq!(rt; columns, [4, 3, 4, 4, 5, 2, 4, 7]);
     let rows = [t.rp, t.ras, t.rc, t.rrd_s, t.rrd_l, t.faw, t.wr, t.rtp];
     assert_eq!(rt; rows, [4, 10, 14, 2, 3, 12, 5, 3]);
-    assert_eq!(rt; [t.rfc, t.refi, t.postpone], [20, 200, 2]);
+    assert_eq!(rt; [t.rfc, t.refi, t.postpone, t.rtrs], [20, 200, 2, 1]);
     Ok(())
 }
 
@@ -39,8 +49,8 @@ fn reads_the_shape_and_the_limits_of_profile_s(rt: HostRuntime) -> Result<(), Fa
     let config = Config::read(rt.alloc(), PROFILE_S)?;
     let g = config.geometry;
     assert_eq!(rt;
-        [g.version, g.channels, g.groups, g.rows, g.columns],
-        [1, 2, 4, 16, 64]
+        [g.version, g.channels, g.ranks, g.groups, g.rows, g.columns],
+        [1, 2, 1, 4, 16, 64]
     );
     let order = [
         Digit::Column,
@@ -48,6 +58,7 @@ fn reads_the_shape_and_the_limits_of_profile_s(rt: HostRuntime) -> Result<(), Fa
         Digit::Bank,
         Digit::Row,
         Digit::Channel,
+        Digit::Rank,
     ];
     assert_eq!(rt; g.map, order);
     assert!(rt; !g.bank_xor);
@@ -57,6 +68,7 @@ fn reads_the_shape_and_the_limits_of_profile_s(rt: HostRuntime) -> Result<(), Fa
         [2, 4, 8, 8, 8]
     );
     assert_eq!(rt; [l.done, l.low, l.high, l.cap], [8, 2, 6, 1000]);
+    assert!(rt; !l.closed);
     Ok(())
 }
 
@@ -121,14 +133,15 @@ fn takes_keys_and_values_in_any_spelling(rt: HostRuntime) -> Result<(), Fail> {
         Digit::Bank,
         Digit::Group,
         Digit::Channel,
+        Digit::Rank,
     ];
     assert_eq!(rt; config.geometry.map, order);
     Ok(())
 }
 
-/// The keys that take integers, each with the least and the greatest that it takes.
-const RANGES: [(&str, Key, u32, u32); 32] = [
-    ("version", Key::Version, 1, 1),
+/// The keys of version 1 that take integers, each with the least and the greatest that it takes. The version
+/// itself is not among them: it says by which keys a text is checked.
+const RANGES: [(&str, Key, u32, u32); 31] = [
     ("channels", Key::Channels, 1, 4),
     ("ports", Key::Ports, 1, 8),
     ("window", Key::Window, 1, 64),

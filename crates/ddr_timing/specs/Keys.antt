@@ -1,15 +1,27 @@
 -- The keys of a configuration's text, in the order in which faults are answered, each with its spelling and the values that it takes.
-use Rattle.std.specs.Prelude.{codes, ℕ, List, [], ◌∷◌}
+use Rattle.std.specs.Prelude.{codes, ℕ, List, [], ◌∷◌, ◌++◌, Bool, true, ◌==◌, if◌then◌else◌}
 use Rattle.ddr_timing.specs.declared.key.Key.{Key}
-use Rattle.ddr_timing.specs.declared.key.Key.TheVariants.{Version, Channels, Ports, Window, Intake, Reads, Writes, Done, Low, High, Cap, Groups, Rows, Columns, Map, BankXor, Cl, Cwl, Rcd, Rp, Ras, Rc, RrdS, RrdL, Faw, CcdS, CcdL, WtrS, WtrL, Wr, Rtp, Rtw, Rfc, Refi, Postpone}
+use Rattle.ddr_timing.specs.declared.key.Key.TheVariants.{Version, Channels, Ports, Window, Intake, Reads, Writes, Done, Low, High, Cap, Groups, Rows, Columns, Map, BankXor, Cl, Cwl, Rcd, Rp, Ras, Rc, RrdS, RrdL, Faw, CcdS, CcdL, WtrS, WtrL, Wr, Rtp, Rtw, Rfc, Refi, Postpone, Closed, Ranks, Rtrs}
 use Rattle.ddr_timing.specs.declared.key.Domain.{Domain}
 use Rattle.ddr_timing.specs.declared.key.Domain.TheVariants.{Within, PowerOfTwo, TwoOrFour, Order, Flag}
 
-unfoldable pub keys : List Key
-keys =
+-- the keys of version 1
+unfoldable pub first_keys : List Key
+first_keys =
     Version ∷ Channels ∷ Ports ∷ Window ∷ Intake ∷ Reads ∷ Writes ∷ Done ∷ Low ∷ High ∷ Cap ∷
     Groups ∷ Rows ∷ Columns ∷ Map ∷ BankXor ∷ Cl ∷ Cwl ∷ Rcd ∷ Rp ∷ Ras ∷ Rc ∷ RrdS ∷ RrdL ∷
     Faw ∷ CcdS ∷ CcdL ∷ WtrS ∷ WtrL ∷ Wr ∷ Rtp ∷ Rtw ∷ Rfc ∷ Refi ∷ Postpone ∷ []
+
+-- the keys of a version, of which there are two: the second has three more
+unfoldable pub keys : ℕ → List Key
+keys version = if version == 2 then first_keys ++ Closed ∷ Ranks ∷ Rtrs ∷ [] else first_keys
+
+-- the version has the key
+abbrev pub has_key : ℕ → Key → Bool
+has_key version Closed = version == 2
+has_key version Ranks = version == 2
+has_key version Rtrs = version == 2
+has_key version _ = true
 
 -- the key as the text spells it
 abbrev pub name_of : Key → List ℕ
@@ -48,10 +60,13 @@ name_of Rtw = codes "rtw"
 name_of Rfc = codes "rfc"
 name_of Refi = codes "refi"
 name_of Postpone = codes "postpone"
+name_of Closed = codes "closed"
+name_of Ranks = codes "ranks"
+name_of Rtrs = codes "rtrs"
 
 -- the values that the key takes
 abbrev pub domain_of : Key → Domain
-domain_of Version = Within 1 1
+domain_of Version = Within 1 2
 domain_of Channels = Within 1 4
 domain_of Ports = Within 1 8
 domain_of Window = Within 1 64
@@ -86,3 +101,6 @@ domain_of Rtw = Within 1 65535
 domain_of Rfc = Within 1 65535
 domain_of Refi = Within 1 65535
 domain_of Postpone = Within 0 7
+domain_of Closed = Flag
+domain_of Ranks = Within 1 2
+domain_of Rtrs = Within 1 65535

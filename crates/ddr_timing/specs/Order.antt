@@ -1,9 +1,9 @@
 -- The order of the address digits, and the text that lists it.
-use Rattle.std.specs.Prelude.{codes, ℕ, List, [], ◌∷◌, Bool, true, false, ◌&&◌, count_by, ◌==◌, if◌then◌else◌, Option, Some, None, option_map, option_and_then, find, map}
+use Rattle.std.specs.Prelude.{codes, ℕ, List, [], ◌∷◌, ◌++◌, Bool, true, false, ◌&&◌, count_by, ◌==◌, if◌then◌else◌, Option, Some, None, option_map, option_and_then, find, map}
 use Rattle.std.specs.List.{join_with_byte, slice_split}
 use Rattle.std.specs.Str.{bytes_eq}
 use Rattle.ddr_timing.specs.declared.geometry.Digit.{Digit}
-use Rattle.ddr_timing.specs.declared.geometry.Digit.TheVariants.{Channel, Group, Bank, Column, Row}
+use Rattle.ddr_timing.specs.declared.geometry.Digit.TheVariants.{Channel, Group, Bank, Column, Row, Rank}
 
 abbrev pub same_digit : Digit → Digit → Bool
 same_digit Channel Channel = true
@@ -11,16 +11,17 @@ same_digit Group Group = true
 same_digit Bank Bank = true
 same_digit Column Column = true
 same_digit Row Row = true
+same_digit Rank Rank = true
 same_digit _ _ = false
 
 -- the digit stands once in the order
 abbrev pub stands_once : List Digit → Digit → Bool
 stands_once order digit = count_by (same_digit digit) order == 1
 
--- each of the five digits stands once in the order
+-- each of the six digits stands once in the order
 abbrev pub each_once : List Digit → Bool
 each_once order =
-    stands_once order Channel && stands_once order Group && stands_once order Bank && stands_once order Column && stands_once order Row
+    stands_once order Channel && stands_once order Group && stands_once order Bank && stands_once order Column && stands_once order Row && stands_once order Rank
 
 -- the word of a digit
 abbrev pub word_of : Digit → List ℕ
@@ -29,9 +30,10 @@ word_of Group = codes "group"
 word_of Bank = codes "bank"
 word_of Column = codes "column"
 word_of Row = codes "row"
+word_of Rank = codes "rank"
 
 abbrev pub digits : List Digit
-digits = Channel ∷ Group ∷ Bank ∷ Column ∷ Row ∷ []
+digits = Channel ∷ Group ∷ Bank ∷ Column ∷ Row ∷ Rank ∷ []
 
 -- the digit that has the word
 unfoldable pub digit_of : List ℕ → Option Digit
@@ -55,3 +57,7 @@ words_of text = slice_split (λ byte. byte == 32) text
 unfoldable pub order_of : List ℕ → Option (List Digit)
 order_of text =
     option_and_then (λ order. if each_once order then Some order else None) (digits_of (words_of text))
+
+-- the text of an order, of a text of a version: version 1 has no word for the rank, which is behind the five others
+abbrev pub whole_text : ℕ → List ℕ → List ℕ
+whole_text version text = if version == 2 then text else text ++ codes " rank"

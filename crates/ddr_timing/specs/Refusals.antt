@@ -12,29 +12,33 @@ use Rattle.ddr_timing.specs.declared.key.Key.{Key}
 use Rattle.ddr_timing.specs.declared.key.Key.TheVariants.{Low, High, Writes, Cl, Cwl, Rp, Ras, RrdS, RrdL, CcdS, CcdL, Wr, Rtp, Rtw, Rfc, Refi}
 use Rattle.ddr_timing.specs.declared.key.Domain.{Domain}
 use Rattle.ddr_timing.specs.declared.key.Domain.TheVariants.{PowerOfTwo}
-use Rattle.ddr_timing.specs.Keys.{domain_of, keys, name_of}
-use Rattle.ddr_timing.specs.Tables.{is_in, number_of, value_of}
+use Rattle.ddr_timing.specs.Keys.{domain_of, name_of}
+use Rattle.ddr_timing.specs.Tables.{is_in, keys_of, number_of, value_of, version_of}
 
 -- the table lacks the key
 abbrev pub is_missing : Members → Key → Bool
 is_missing table key = is_none (value_of table key)
 
--- a key is spelled so
-abbrev pub is_key : List ℕ → Bool
-is_key name = list_any (λ key. bytes_eq name (name_of key)) keys
+-- one of the keys is spelled so
+abbrev pub is_key : List Key → List ℕ → Bool
+is_key keys name = list_any (λ key. bytes_eq name (name_of key)) keys
+
+-- some member has none of the keys
+abbrev pub has_other : List Key → Members → Bool
+has_other keys no_members = false
+has_other keys (member name value rest) = not (is_key keys name) || has_other keys rest
 
 -- some key of the table is none of a configuration's
 abbrev pub has_unknown : Members → Bool
-has_unknown no_members = false
-has_unknown (member name value rest) = not (is_key name) || has_unknown rest
+has_unknown table = has_other (keys_of table) table
 
 -- the value at the key is none of its domain
 abbrev pub is_out_of_range : Members → Key → Bool
-is_out_of_range table key = not (option_map_or (is_in (domain_of key)) (value_of table key) false)
+is_out_of_range table key = not (option_map_or (is_in (version_of table) (domain_of key)) (value_of table key) false)
 
 -- the first key with a value out of its domain
 abbrev pub out_of_range : Members → Option Key
-out_of_range table = find (is_out_of_range table) keys
+out_of_range table = find (is_out_of_range table) (keys_of table)
 
 -- the value at the key is to be a power of two, and is none
 abbrev pub is_no_power : Members → Key → Bool
@@ -46,7 +50,7 @@ is_no_power table key = wants_power (domain_of key) && not (is_power_of_two (num
 
 -- the first key whose value is no power of two where one is wanted
 abbrev pub not_power_of_two : Members → Option Key
-not_power_of_two table = find (is_no_power table) keys
+not_power_of_two table = find (is_no_power table) (keys_of table)
 
 -- the relations among the values, in their order
 abbrev pub relations : Members → List Bool
@@ -81,7 +85,7 @@ first_of (Some refusal ∷ more) = Some refusal
 unfoldable pub table_refusal : Members → Option ConfigError
 table_refusal table =
     first_of
-    (option_map Missing (find (is_missing table) keys)
+    (option_map Missing (find (is_missing table) (keys_of table))
     ∷ (if has_unknown table then Some UnknownKey else None)
     ∷ option_map Range (out_of_range table)
     ∷ option_map NotPowerOfTwo (not_power_of_two table)

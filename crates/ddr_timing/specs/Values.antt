@@ -1,14 +1,25 @@
 -- A configuration has the values of its table, each under its key.
-use Rattle.std.specs.Prelude.{◌≡◌, Option, Some, None, IfSome}
-use Rattle.toml.specs.Data.{Members, string}
+use Rattle.std.specs.Prelude.{◌≡◌, ℕ, List, Bool, ◌&&◌, ◌==◌, Option, Some, None, IfSome, if◌then◌else◌}
+use Rattle.toml.specs.Data.{Data, Members, string}
 use Rattle.ddr_timing.specs.declared.config.Config.{Config}
+use Rattle.ddr_timing.specs.declared.geometry.Digit.{Digit}
 use Rattle.ddr_timing.specs.declared.geometry.Geometry.{Geometry}
 use Rattle.ddr_timing.specs.declared.limits.Limits.{Limits}
 use Rattle.ddr_timing.specs.declared.timing.Timing.{Timing}
-use Rattle.ddr_timing.specs.declared.key.Key.TheVariants.{Version, Channels, Ports, Window, Intake, Reads, Writes, Done, Low, High, Cap, Groups, Rows, Columns, Map, BankXor, Cl, Cwl, Rcd, Rp, Ras, Rc, RrdS, RrdL, Faw, CcdS, CcdL, WtrS, WtrL, Wr, Rtp, Rtw, Rfc, Refi, Postpone}
-use Rattle.ddr_timing.specs.Order.{text_of}
+use Rattle.ddr_timing.specs.declared.key.Key.{Key}
+use Rattle.ddr_timing.specs.declared.key.Key.TheVariants.{Version, Channels, Ports, Window, Intake, Reads, Writes, Done, Low, High, Cap, Groups, Rows, Columns, Map, BankXor, Cl, Cwl, Rcd, Rp, Ras, Rc, RrdS, RrdL, Faw, CcdS, CcdL, WtrS, WtrL, Wr, Rtp, Rtw, Rfc, Refi, Postpone, Closed, Ranks, Rtrs}
+use Rattle.ddr_timing.specs.Order.{text_of, whole_text}
 use Rattle.ddr_timing.specs.Refusals.{refusal_of}
-use Rattle.ddr_timing.specs.Tables.{flag_at, number_of, value_of}
+use Rattle.ddr_timing.specs.Tables.{flag_at, number_of, value_of, version_of}
+
+-- the integer at a key of version 2, which is 1 in version 1
+abbrev pub number_or_one : Members → Key → ℕ
+number_or_one table key = if version_of table == 2 then number_of table key else 1
+
+-- the value is the text of an order: of version 1 the rank is behind the five others
+abbrev pub Lists : ℕ → Option Data → List Digit → Type 0
+Lists version (Some (string text)) order = whole_text version text ≡ text_of order
+Lists version _ order = ⊥
 
 -- the timing is the table's values
 pub record HoldsTiming (table : Members) (timing : Timing) : Type 0 where
@@ -31,15 +42,17 @@ pub record HoldsTiming (table : Members) (timing : Timing) : Type 0 where
   pub rfc : timing.rfc ≡ number_of table Rfc
   pub refi : timing.refi ≡ number_of table Refi
   pub postpone : timing.postpone ≡ number_of table Postpone
+  pub rtrs : timing.rtrs ≡ number_or_one table Rtrs
 
 -- the geometry is the table's values
 pub record HoldsGeometry (table : Members) (geometry : Geometry) : Type 0 where
   pub version : geometry.version ≡ number_of table Version
   pub channels : geometry.channels ≡ number_of table Channels
+  pub ranks : geometry.ranks ≡ number_or_one table Ranks
   pub groups : geometry.groups ≡ number_of table Groups
   pub rows : geometry.rows ≡ number_of table Rows
   pub columns : geometry.columns ≡ number_of table Columns
-  pub map : value_of table Map ≡ Some (string (text_of geometry.map))
+  pub map : Lists geometry.version (value_of table Map) geometry.map
   pub bank_xor : geometry.bank_xor ≡ flag_at table BankXor
 
 -- the limits is the table's values
@@ -53,6 +66,7 @@ pub record HoldsLimits (table : Members) (limits : Limits) : Type 0 where
   pub low : limits.low ≡ number_of table Low
   pub high : limits.high ≡ number_of table High
   pub cap : limits.cap ≡ number_of table Cap
+  pub closed : limits.closed ≡ (version_of table == 2 && flag_at table Closed)
 
 pub record HoldsValues (table : Members) (config : Config) : Type 0 where
   pub timing : HoldsTiming table config.timing

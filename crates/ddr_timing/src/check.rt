@@ -7,13 +7,13 @@ ghost use Rattle.std.specs.Result.{result_err};
 ghost use Rattle.toml.specs.View.{table_view};
 ghost use Rattle.ddr_timing.specs.declared.key.Key.TheVariants.{Low, High, Writes, Cl, Cwl, Rp, Ras, CcdS, Wr, Rtp, Rtw, Rfc, Refi};
 ghost use Rattle.ddr_timing.specs.declared.units.TheConstants.{BURST_CLOCKS};
-ghost use Rattle.ddr_timing.specs.Keys.{domain_of, keys};
+ghost use Rattle.ddr_timing.specs.Keys.{domain_of, has_key};
 ghost use Rattle.ddr_timing.specs.Refusals.{IsSound, broken_relation, has_unknown, is_key, is_missing, is_no_power, is_out_of_range, not_power_of_two, out_of_range, relations, table_refusal};
-ghost use Rattle.ddr_timing.specs.Tables.{number_of, takes_number};
+ghost use Rattle.ddr_timing.specs.Tables.{keys_of, number_of, takes_number, version_of};
 
 use crate::error::ConfigError;
 use crate::key::{Domain, Key};
-use crate::table::{is_in, number, value_at};
+use crate::table::{is_in, keys, number, value_at, version};
 use crate::units::BURST_CLOCKS;
 use toml::Table;
 
@@ -44,9 +44,9 @@ pub(crate) fn check(table: &Table) -> Result<(), ConfigError>
 
 /// The first key that the table lacks.
 fn missing(table: &Table) -> Option<Key>
-    ensures { result ≡ find (is_missing (table_view table.now)) keys }
+    ensures { result ≡ find (is_missing (table_view table.now)) (keys_of (table_view table.now)) }
 {
-    Key::all()
+    keys(table)
         .iter()
         .copied()
         .find(|key| value_at(table, *key).is_none())
@@ -56,21 +56,22 @@ fn missing(table: &Table) -> Option<Key>
 fn has_unknown(table: &Table) -> bool
     ensures { result ≡ has_unknown (table_view table.now) }
 {
-    table.keys().any(|name| !is_key(name.as_str()))
+    let keys = keys(table);
+    table.keys().any(|name| !is_key(keys, name.as_str()))
 }
 
-/// Whether a key is spelled so.
-fn is_key(name: &str) -> bool
-    ensures { result ≡ is_key name.now }
+/// Whether one of the keys is spelled so.
+fn is_key(keys: &[Key], name: &str) -> bool
+    ensures { result ≡ is_key keys.now name.now }
 {
-    Key::all().iter().any(|key| name == key.name())
+    keys.iter().any(|key| name == key.name())
 }
 
 /// The first key whose value is none of its domain.
 fn out_of_range(table: &Table) -> Option<Key>
     ensures { result ≡ out_of_range (table_view table.now) }
 {
-    Key::all()
+    keys(table)
         .iter()
         .copied()
         .find(|key| is_out_of_range(table, *key))
@@ -80,7 +81,7 @@ fn is_out_of_range(table: &Table, key: Key) -> bool
     ensures { result ≡ is_out_of_range (table_view table.now) key }
 {
     match value_at(table, key) {
-        Some(value) => !is_in(key.domain(), value),
+        Some(value) => !is_in(version(table), key.domain(), value),
         None => true,
     }
 }
@@ -90,14 +91,14 @@ fn not_power_of_two(table: &Table) -> Option<Key>
     requires { out_of_range (table_view table.now) ≡ None }
     ensures { result ≡ not_power_of_two (table_view table.now) }
 {
-    Key::all()
+    keys(table)
         .iter()
         .copied()
         .find(|key| is_no_power(table, *key))
 }
 
 fn is_no_power(table: &Table, key: Key) -> bool
-    requires { out_of_range (table_view table.now) ≡ None }
+    requires ranged { out_of_range (table_view table.now) ≡ None }
     ensures { result ≡ is_no_power (table_view table.now) key }
 {
     match key.domain() {
@@ -142,7 +143,9 @@ fn relations(table: &Table) -> [bool; 7]
 /// Whether the value at one key is not below that at another.
 fn is_at_least(table: &Table, key: Key, other: Key) -> bool
     requires ranged { out_of_range (table_view table.now) ≡ None }
+    requires has { IsTrue (has_key (version_of (table_view table.now)) key) }
     requires takes { IsTrue (takes_number (domain_of key)) }
+    requires other_has { IsTrue (has_key (version_of (table_view table.now)) other) }
     requires other_takes { IsTrue (takes_number (domain_of other)) }
     ensures { result ≡ nat_le (number_of (table_view table.now) other) (number_of (table_view table.now) key) }
 {

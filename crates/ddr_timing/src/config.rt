@@ -1,4 +1,6 @@
 //! A whole configuration, and how its text is read.
+ghost use Rattle.std.specs.Prelude.{◌==◌, ◌||◌, ◌&&◌, IsTrue, not};
+
 use crate::check::check;
 use crate::error::ConfigError;
 use crate::geometry::Geometry;
@@ -13,6 +15,7 @@ pub struct Config {
     pub timing: Timing,
     pub geometry: Geometry,
     pub limits: Limits,
+    ghost first_version: { IsTrue (geometry.version == 2 || not limits.closed && timing.rtrs == 1) },
 }
 
 impl Config {

@@ -1,9 +1,10 @@
 //! The keys of a configuration's text: their names, their order, and the values that each takes.
 //!
-//! A key that is added gets one line in each list of this module, and one in each of `specs/Keys.antt`.
+//! A key that is added gets one line in each list of this module, and one in each of `specs/Keys.antt`. The
+//! keys of version 2 begin with those of version 1.
 //! Nothing of the repository stands below; `table` looks the keys up.
 ghost use Rattle.std.specs.Prelude.{◌≡◌, Some};
-ghost use Rattle.ddr_timing.specs.Keys.{domain_of, keys, name_of};
+ghost use Rattle.ddr_timing.specs.Keys.{domain_of, first_keys, keys, name_of};
 
 use std::fmt;
 
@@ -45,6 +46,9 @@ pub enum Key {
     Rfc,
     Refi,
     Postpone,
+    Closed,
+    Ranks,
+    Rtrs,
 }
 
 /// The values that a key takes.
@@ -56,14 +60,14 @@ pub(crate) enum Domain {
     PowerOfTwo { low: u32, high: u32 },
     /// The integers 2 and 4.
     TwoOrFour,
-    /// A text of the five words `channel`, `group`, `bank`, `column` and `row`, each once, with one
-    /// space between two.
+    /// A text of the words `channel`, `group`, `bank`, `column`, `row` and, in version 2, `rank`, each once,
+    /// with one space between two.
     Order,
     /// True or false.
     Flag,
 }
 
-static KEYS: [Key; 35] = [
+static KEYS: [Key; 38] = [
     Key::Version,
     Key::Channels,
     Key::Ports,
@@ -99,15 +103,25 @@ static KEYS: [Key; 35] = [
     Key::Rfc,
     Key::Refi,
     Key::Postpone,
+    Key::Closed,
+    Key::Ranks,
+    Key::Rtrs,
 ];
 
+/// How many of them version 1 has.
+const FIRST_KEYS: usize = 35;
+
 impl Key {
-    /// All keys, in their order.
-    #[tactic(auto, unfolding(crate::specs::Keys::keys))]
-    pub fn all() -> &'static [Key]
-        ensures { result.now ≡ keys }
+    /// All keys of a version, in their order. Any version but 2 has those of version 1.
+    #[tactic(auto, unfolding(crate::specs::Keys::keys, crate::specs::Keys::first_keys))]
+    pub fn all(version: u32) -> &'static [Key]
+        ensures { result.now ≡ keys version }
     {
-        &KEYS
+        if version == 2 {
+            &KEYS
+        } else {
+            &KEYS[..FIRST_KEYS]
+        }
     }
 
     /// The key as the text spells it.
@@ -150,6 +164,9 @@ impl Key {
             Key::Rfc => "rfc",
             Key::Refi => "refi",
             Key::Postpone => "postpone",
+            Key::Closed => "closed",
+            Key::Ranks => "ranks",
+            Key::Rtrs => "rtrs",
         }
     }
 
@@ -158,7 +175,7 @@ impl Key {
         ensures { result ≡ domain_of self.now }
     {
         match self {
-            Key::Version => Domain::Within { low: 1, high: 1 },
+            Key::Version => Domain::Within { low: 1, high: 2 },
             Key::Channels => Domain::Within { low: 1, high: 4 },
             Key::Ports => Domain::Within { low: 1, high: 8 },
             Key::Window => Domain::Within { low: 1, high: 64 },
@@ -256,6 +273,12 @@ impl Key {
                 high: 65535,
             },
             Key::Postpone => Domain::Within { low: 0, high: 7 },
+            Key::Closed => Domain::Flag,
+            Key::Ranks => Domain::Within { low: 1, high: 2 },
+            Key::Rtrs => Domain::Within {
+                low: 1,
+                high: 65535,
+            },
         }
     }
 }

@@ -22,6 +22,8 @@ pub struct Limits {
     pub high: u32,
     /// The age, in clocks, from which the oldest request is served alone.
     pub cap: u32,
+    /// Whether a row is closed behind the last column command that wants it.
+    pub closed: bool,
     ghost ports_range: { (1 ≤ ports) × (ports ≤ 8) },
     ghost window_range: { (1 ≤ window) × (window ≤ 64) },
     ghost intake_range: { (1 ≤ intake) × (intake ≤ 64) },

@@ -1,34 +1,44 @@
-//! The text of `map`: the words of the five address digits, the least significant digit first.
+//! The text of `map`: the words of the address digits, the least significant digit first.
 //!
 //! Below stands `geometry` with the digits themselves; `table` reads the text of `map` by it.
-ghost use Rattle.std.specs.Prelude.{◌≡◌, List, IfSome, IsTrue, Some, option_map};
+ghost use Rattle.std.specs.Prelude.{◌≡◌, ◌≤◌, ◌==◌, List, IfSome, IsTrue, Some, if◌then◌else◌};
 ghost use Rattle.ddr_timing.specs.declared.geometry.Digit.{Digit};
-ghost use Rattle.ddr_timing.specs.Order.{digit_of, each_once, order_of, same_digit, stands_once, text_of};
+ghost use Rattle.ddr_timing.specs.Order.{digit_of, each_once, order_of, same_digit, stands_once, text_of, whole_text};
 
 use crate::geometry::Digit;
 
-/// The order that a text lists, if it has the word of each digit once, with one space between two.
-pub(crate) fn order(text: &str) -> Option<[Digit; 5]>
-    ensures value { result ≡ order_of text.now }
+/// The order that a text of a version lists, if it has the word of each of the version's digits once, with
+/// one space between two. Version 1 has no word for the rank, which is its last digit.
+pub(crate) fn order(text: &str, version: u32) -> Option<[Digit; 6]>
+    ensures value { result ≡ order_of (whole_text version text.now) }
 
     // What is listed are those orders, and no others.
-    ensures listed { IfSome result (λ order. text.now ≡ text_of order) }
-    ensures only { (order : List Digit) → IsTrue (each_once order) → text.now ≡ text_of order → result ≡ Some order }
+    ensures listed { IfSome result (λ order. whole_text version text.now ≡ text_of order) }
+    ensures only { (order : List Digit) → IsTrue (each_once order) → whole_text version text.now ≡ text_of order → result ≡ Some order }
 {
-    let mut order = [Digit::Channel; 5];
+    let words = words(version);
+    let mut order = [Digit::Rank; 6];
     let mut count = 0;
     for word in text.split(' ') {
-        if count == order.len() {
+        if count == words {
             return None;
         }
         order[count] = digit(word)?;
         count += 1;
     }
-    if count == order.len() && each_once(&order) {
+    if count == words && each_once(&order) {
         Some(order)
     } else {
         None
     }
+}
+
+/// How many words an order's text has.
+fn words(version: u32) -> usize
+    ensures exact { result ≡ (if version == 2 then 6 else 5) }
+    ensures bound { result ≤ 6 }
+{
+    if version == 2 { 6 } else { 5 }
 }
 
 /// The digit that has the word.
@@ -42,6 +52,7 @@ fn digit(word: &str) -> Option<Digit>
         "bank" => Some(Digit::Bank),
         "column" => Some(Digit::Column),
         "row" => Some(Digit::Row),
+        "rank" => Some(Digit::Rank),
         _ => None,
     }
 }
@@ -55,6 +66,7 @@ fn each_once(order: &[Digit]) -> bool
         && stands_once(order, Digit::Bank)
         && stands_once(order, Digit::Column)
         && stands_once(order, Digit::Row)
+        && stands_once(order, Digit::Rank)
 }
 
 fn stands_once(order: &[Digit], digit: Digit) -> bool

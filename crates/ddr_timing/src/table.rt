@@ -3,11 +3,12 @@
 //! Below stand `key`, with the keys and their domains, and `order`, which reads the text of `map`;
 //! `check` and `values` read a table by this module alone.
 ghost use Rattle.std.specs.Prelude.{◌≡◌, IsTrue, option_and_then, option_map};
+ghost use Rattle.ddr_timing.specs.declared.key.Key.TheVariants.{Version};
 ghost use Rattle.toml.specs.Data.{as_integer};
 ghost use Rattle.toml.specs.View.{table_view, view};
-ghost use Rattle.ddr_timing.specs.Keys.{domain_of};
+ghost use Rattle.ddr_timing.specs.Keys.{domain_of, has_key};
 ghost use Rattle.ddr_timing.specs.Refusals.{out_of_range};
-ghost use Rattle.ddr_timing.specs.Tables.{FitsIn, flag_at, is_in, is_within, number_of, order_at, takes_number, value_of};
+ghost use Rattle.ddr_timing.specs.Tables.{FitsIn, flag_at, is_in, is_within, keys_of, number_of, order_at, takes_number, value_of, version_of};
 
 use crate::geometry::Digit;
 use crate::key::{Domain, Key};
@@ -21,9 +22,27 @@ pub(crate) fn value_at(table: &Table, key: Key) -> Option<&Value>
     table.get(key.name())
 }
 
+/// The version by which the table is checked: 2 where the table holds that number, else 1.
+pub(crate) fn version(table: &Table) -> u32
+    ensures { result ≡ version_of (table_view table.now) }
+{
+    match integer_at(table, Key::Version) {
+        Some(2) => 2,
+        _ => 1,
+    }
+}
+
+/// The keys that the table is to have, in their order.
+pub(crate) fn keys(table: &Table) -> &'static [Key]
+    ensures { result.now ≡ keys_of (table_view table.now) }
+{
+    Key::all(version(table))
+}
+
 /// The integer at a key that takes one, of a table whose values are all in their domains.
 pub(crate) fn number(table: &Table, key: Key) -> u32
     requires ranged { out_of_range (table_view table.now) ≡ None }
+    requires has { IsTrue (has_key (version_of (table_view table.now)) key) }
     requires takes { IsTrue (takes_number (domain_of key)) }
     ensures value { result ≡ number_of (table_view table.now) key }
     ensures range { FitsIn (domain_of key) result }
@@ -42,11 +61,11 @@ fn integer_at(table: &Table, key: Key) -> Option<i64>
 }
 
 /// The order of the address digits at a key, if the key holds the text of one.
-pub(crate) fn order_at(table: &Table, key: Key) -> Option<[Digit; 5]>
+pub(crate) fn order_at(table: &Table, key: Key) -> Option<[Digit; 6]>
     ensures { result ≡ order_at (table_view table.now) key }
 {
     match value_at(table, key) {
-        Some(Value::String(text)) => order(text.as_str()),
+        Some(Value::String(text)) => order(text.as_str(), version(table)),
         _ => None,
     }
 }
@@ -61,9 +80,9 @@ pub(crate) fn flag_at(table: &Table, key: Key) -> bool
     }
 }
 
-/// Whether the value is one of the domain; whether an integer is a power of two is not looked at.
-pub(crate) fn is_in(domain: Domain, value: &Value) -> bool
-    ensures { result ≡ is_in domain (view value.now) }
+/// Whether the value is one of the domain, in a version; whether an integer is a power of two is not looked at.
+pub(crate) fn is_in(version: u32, domain: Domain, value: &Value) -> bool
+    ensures { result ≡ is_in version domain (view value.now) }
 {
     match domain {
         Domain::Within { low, high } | Domain::PowerOfTwo { low, high } => {
@@ -71,7 +90,7 @@ pub(crate) fn is_in(domain: Domain, value: &Value) -> bool
         }
         Domain::TwoOrFour => is_within(2, 2, value) || is_within(4, 4, value),
         Domain::Order => match value {
-            Value::String(text) => order(text.as_str()).is_some(),
+            Value::String(text) => order(text.as_str(), version).is_some(),
             _ => false,
         },
         Domain::Flag => matches!(value, Value::Boolean(_)),

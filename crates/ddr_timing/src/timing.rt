@@ -1,4 +1,4 @@
-//! The clock counts of one rank's DDR4 timing.
+//! The clock counts of DDR4 timing.
 ghost use Rattle.std.specs.Prelude.{◌≤◌, ◌+◌, max};
 ghost use Rattle.ddr_timing.specs.declared.units.TheConstants.{BURST_CLOCKS};
 
@@ -46,6 +46,8 @@ pub struct Timing {
     pub refi: u32,
     /// How many REFs may stand postponed while requests are pending.
     pub postpone: u32,
+    /// Between the bursts of two ranks on the data bus (this project's choice).
+    pub rtrs: u32,
     ghost cl_range: { (1 ≤ cl) × (cl ≤ 65535) },
     ghost cwl_range: { (1 ≤ cwl) × (cwl ≤ 65535) },
     ghost rcd_range: { (1 ≤ rcd) × (rcd ≤ 65535) },
@@ -65,6 +67,7 @@ pub struct Timing {
     ghost rfc_range: { (1 ≤ rfc) × (rfc ≤ 65535) },
     ghost refi_range: { (1 ≤ refi) × (refi ≤ 65535) },
     ghost postpone_range: { postpone ≤ 7 },
+    ghost rtrs_range: { (1 ≤ rtrs) × (rtrs ≤ 65535) },
     ghost bursts_apart: { BURST_CLOCKS ≤ ccd_s },
     ghost same_group_slower: { ccd_s ≤ ccd_l },
     ghost same_group_activates_slower: { rrd_s ≤ rrd_l },

@@ -2,14 +2,17 @@
 //!
 //! Below stand `check`, which says what speaks against a table, and `table`, which reads a value; above
 //! stands `config`.
+ghost use Rattle.std.specs.Prelude.{◌≡◌, ◌≤◌, ◌==◌, ◌&&◌};
 ghost use Rattle.toml.specs.View.{table_view};
+ghost use Rattle.ddr_timing.specs.declared.key.Key.TheVariants.{Closed, Ranks, Rtrs};
 ghost use Rattle.ddr_timing.specs.Refusals.{IsSound};
-ghost use Rattle.ddr_timing.specs.Values.{HoldsGeometry, HoldsLimits, HoldsTiming};
+ghost use Rattle.ddr_timing.specs.Tables.{flag_at, version_of};
+ghost use Rattle.ddr_timing.specs.Values.{HoldsGeometry, HoldsLimits, HoldsTiming, number_or_one};
 
 use crate::geometry::Geometry;
 use crate::key::Key;
 use crate::limits::Limits;
-use crate::table::{flag_at, number, order_at};
+use crate::table::{flag_at, number, order_at, version};
 use crate::timing::Timing;
 use toml::Table;
 
@@ -38,6 +41,7 @@ pub(crate) fn timing(table: &Table) -> Timing
         rfc: number(table, Key::Rfc),
         refi: number(table, Key::Refi),
         postpone: number(table, Key::Postpone),
+        rtrs: rtrs(table),
     }
 }
 
@@ -49,6 +53,7 @@ pub(crate) fn geometry(table: &Table) -> Geometry
     Geometry {
         version: number(table, Key::Version),
         channels: number(table, Key::Channels),
+        ranks: ranks(table),
         groups: number(table, Key::Groups),
         rows: number(table, Key::Rows),
         columns: number(table, Key::Columns),
@@ -72,5 +77,39 @@ pub(crate) fn limits(table: &Table) -> Limits
         low: number(table, Key::Low),
         high: number(table, Key::High),
         cap: number(table, Key::Cap),
+        closed: closed(table),
     }
+}
+
+/// The clocks between the bursts of two ranks; in version 1 there are no two.
+fn rtrs(table: &Table) -> u32
+    requires { IsSound (table_view table.now) }
+    ensures value { result ≡ number_or_one (table_view table.now) Rtrs }
+    ensures range { (1 ≤ result) × (result ≤ 65535) }
+{
+    if version(table) == 2 {
+        number(table, Key::Rtrs)
+    } else {
+        1
+    }
+}
+
+/// The ranks of a channel: one in version 1.
+fn ranks(table: &Table) -> u32
+    requires { IsSound (table_view table.now) }
+    ensures value { result ≡ number_or_one (table_view table.now) Ranks }
+    ensures range { (1 ≤ result) × (result ≤ 2) }
+{
+    if version(table) == 2 {
+        number(table, Key::Ranks)
+    } else {
+        1
+    }
+}
+
+/// Whether rows are closed; in version 1 they are not.
+fn closed(table: &Table) -> bool
+    ensures { result ≡ (version_of (table_view table.now) == 2 && flag_at (table_view table.now) Closed) }
+{
+    version(table) == 2 && flag_at(table, Key::Closed)
 }

@@ -9,7 +9,7 @@ use std::test::Fail;
 #[test]
 fn each_key_is_wanted(rt: HostRuntime) -> Result<(), Fail> {
     let alloc = rt.alloc();
-    for key in Key::all() {
+    for key in Key::all(1) {
         let want = Some(ConfigError::Missing { key: *key });
         assert_eq!(rt; refusal(alloc, &[(key.name(), "")])?, want, "without {key}");
     }
@@ -21,7 +21,7 @@ fn each_key_is_wanted(rt: HostRuntime) -> Result<(), Fail> {
 fn a_text_that_is_cut_off_misses_the_next_key(rt: HostRuntime) -> Result<(), Fail> {
     let alloc = rt.alloc();
     let mut text = String::new(alloc);
-    for (line, key) in PROFILE_S.lines().zip(Key::all()) {
+    for (line, key) in PROFILE_S.lines().zip(Key::all(1)) {
         let answer = Config::read(alloc, text.as_str()).err();
         assert_eq!(rt;
             answer,
@@ -161,10 +161,6 @@ const FIRST: &[(&[(&str, &str)], ConfigError)] = &[
     (
         &[("columns", "columns = 96"), ("low", "low = 6")],
         ConfigError::NotPowerOfTwo { key: Key::Columns },
-    ),
-    (
-        &[("version", "version = 2")],
-        ConfigError::Range { key: Key::Version },
     ),
 ];
 
