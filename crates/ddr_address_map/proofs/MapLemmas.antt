@@ -5,10 +5,10 @@ use Rattle.std.proofs.lemmas.Nat.{xor_lt, mul-le}
 use Rattle.std.proofs.lemmas.Bool.{cases_lt, lt-ltb, le-ltb}
 use Rattle.std.proofs.Math.Nat.{lt-div-mul-add, div-eq_of_lt}
 use Rattle.ddr_timing.specs.declared.geometry.Digit.{Digit}
-use Rattle.ddr_timing.specs.declared.geometry.Digit.TheVariants.{Channel, Group, Bank, Column, Row}
+use Rattle.ddr_timing.specs.declared.geometry.Digit.TheVariants.{Channel, Group, Bank, Column, Row, Rank}
 use Rattle.ddr_timing.specs.declared.geometry.Geometry.{Geometry}
 use Rattle.ddr_address_map.specs.declared.place.Place.{Place}
-use Rattle.ddr_address_map.specs.Map.{size_of, capacity_of, digit_of, number_of, digit_in, place_with, with_bank_xor, in_range, place_of, address_of}
+use Rattle.ddr_address_map.specs.Map.{rank_count, size_of, capacity_of, digit_of, number_of, digit_in, place_with, with_bank_xor, in_range, place_of, address_of}
 use Rattle.ddr_address_map.proofs.Radix.{times, times-each_once, length-each_once, numbers, numbers-positive, numbers-each_once, digit_of-below, number_of-same, number_of-digits, number_of-below, digit_of-number}
 
 two_or_four : (n : ℕ) → (nat_eq n 2 || nat_eq n 4) ≡ true → (2 ≤ n) × (n ≤ 4)
@@ -21,18 +21,26 @@ size_of-positive shape Group = omega (arith, two_or_four shape.groups shape.grou
 size_of-positive shape Bank = omega arith
 size_of-positive shape Column = omega (arith, shape.columns_range)
 size_of-positive shape Row = omega (arith, shape.rows_range)
+size_of-positive shape Rank = omega arith
 
 -- each digit stands at most once
 pub times-map : (shape : Geometry) (d : Digit) → times shape.map d ≡ 1
 times-map shape d = times-each_once shape.map shape.map_order d
 
--- the order has five digits
-pub length-map : (shape : Geometry) → length shape.map ≡ 5
+-- the order has six digits
+pub length-map : (shape : Geometry) → length shape.map ≡ 6
 length-map shape = length-each_once shape.map shape.map_order
+
+-- the rank's size may stand at any place of the product
+rank_last : (channels ranks groups lines rows : ℕ) → channels * ranks * groups * 4 * lines * rows ≡ channels * groups * 4 * lines * rows * ranks
+rank_last channels ranks groups lines rows = omega arith
 
 -- the memory's lines, counted along the order
 pub capacity_of-numbers : (shape : Geometry) → capacity_of shape ≡ 64 * numbers (size_of shape) shape.map
-capacity_of-numbers shape = ap (λ n. 64 * n) (sym (numbers-each_once (size_of shape) shape.map shape.map_order))
+capacity_of-numbers shape =
+    ap (λ n. 64 * n)
+    (rank_last shape.channels (rank_count shape) shape.groups (shape.columns / 8) shape.rows
+    ∙ sym (numbers-each_once (size_of shape) shape.map shape.map_order))
 
 -- XOR twice with the same bits of the row gives the bank back
 xor_back : (b r : ℕ) → b < 4 → r < 4 → bit_xor (bit_xor b r) r ≡ b
@@ -77,24 +85,25 @@ pub record IsInRange (shape : Geometry) (place : Place) : Type 0 where
   pub digits : (d : Digit) → digit_in place d < size_of shape d
   pub offset : place.offset < 64
 
-six_tests : (a b c d e f a' b' c' d' e' f' : ℕ) → (nat_lt a a' && nat_lt b b' && nat_lt c c' && nat_lt d d' && nat_lt e e' && nat_lt f f') ≡ true → (a < a') × (b < b') × (c < c') × (d < d') × (e < e') × (f < f')
-six_tests a b c d e f a' b' c' d' e' f' h = (grind (arith, nat_tests), grind (arith, nat_tests), grind (arith, nat_tests), grind (arith, nat_tests), grind (arith, nat_tests), grind (arith, nat_tests))
+seven_tests : (a b c d e f g a' b' c' d' e' f' g' : ℕ) → (nat_lt a a' && nat_lt b b' && nat_lt c c' && nat_lt d d' && nat_lt e e' && nat_lt f f' && nat_lt g g') ≡ true → (a < a') × (b < b') × (c < c') × (d < d') × (e < e') × (f < f') × (g < g')
+seven_tests a b c d e f g a' b' c' d' e' f' g' h = (grind (arith, nat_tests), grind (arith, nat_tests), grind (arith, nat_tests), grind (arith, nat_tests), grind (arith, nat_tests), grind (arith, nat_tests), grind (arith, nat_tests))
 
 pub IsInRange-test : (shape : Geometry) (place : Place) → in_range shape place ≡ true → IsInRange shape place
 IsInRange-test shape place test =
-    let all = six_tests place.channel place.group place.bank place.row place.line place.offset shape.channels shape.groups 4 shape.rows (shape.columns / 8) 64 test in
-    record { digits = by_digit all; offset = all.5 }
+    let all = seven_tests place.channel place.rank place.group place.bank place.row place.line place.offset shape.channels (rank_count shape) shape.groups 4 shape.rows (shape.columns / 8) 64 test in
+    record { digits = by_digit all; offset = all.6 }
   where
-    by_digit : (place.channel < shape.channels) × (place.group < shape.groups) × (place.bank < 4) × (place.row < shape.rows) × (place.line < shape.columns / 8) × (place.offset < 64) → (d : Digit) → digit_in place d < size_of shape d
+    by_digit : (place.channel < shape.channels) × (place.rank < rank_count shape) × (place.group < shape.groups) × (place.bank < 4) × (place.row < shape.rows) × (place.line < shape.columns / 8) × (place.offset < 64) → (d : Digit) → digit_in place d < size_of shape d
     by_digit all Channel = all.0
-    by_digit all Group = all.1
-    by_digit all Bank = all.2
-    by_digit all Column = all.4
-    by_digit all Row = all.3
+    by_digit all Rank = all.1
+    by_digit all Group = all.2
+    by_digit all Bank = all.3
+    by_digit all Column = all.5
+    by_digit all Row = all.4
 
 pub in_range-IsInRange : (shape : Geometry) (place : Place) → IsInRange shape place → in_range shape place ≡ true
 in_range-IsInRange shape place r =
-    rw (lt-ltb _ _ (r.digits Channel), lt-ltb _ _ (r.digits Group), lt-ltb _ _ (r.digits Bank), lt-ltb _ _ (r.digits Row), lt-ltb _ _ (r.digits Column), lt-ltb _ _ r.offset) refl
+    rw (lt-ltb _ _ (r.digits Channel), lt-ltb _ _ (r.digits Rank), lt-ltb _ _ (r.digits Group), lt-ltb _ _ (r.digits Bank), lt-ltb _ _ (r.digits Row), lt-ltb _ _ (r.digits Column), lt-ltb _ _ r.offset) refl
 
 -- the XOR keeps a place in range
 with_bank_xor-IsInRange : (shape : Geometry) (place : Place) → IsInRange shape place → IsInRange shape (with_bank_xor shape place)
@@ -109,6 +118,7 @@ with_bank_xor-IsInRange shape place r = by_test shape.bank_xor
     by_digit Bank = xor_lt 2 place.bank (place.row % 4) (r.digits Bank) (omega arith)
     by_digit Column = r.digits Column
     by_digit Row = r.digits Row
+    by_digit Rank = r.digits Rank
 
     by_test : (b : Bool) → IsInRange shape (cond b flipped place)
     by_test true = record { digits = by_digit; offset = r.offset }
@@ -131,16 +141,18 @@ digit_in-place_with f byte Group = refl
 digit_in-place_with f byte Bank = refl
 digit_in-place_with f byte Column = refl
 digit_in-place_with f byte Row = refl
+digit_in-place_with f byte Rank = refl
 
 -- places with the same digits and offset are the same
 place_with-same : (f g : Digit → ℕ) (m n : ℕ) → ((d : Digit) → f d ≡ g d) → m ≡ n → place_with f m ≡ place_with g n
 place_with-same f g m n same offset =
     let channel = same Channel in
+    let rank = same Rank in
     let group = same Group in
     let bank = same Bank in
     let row = same Row in
     let line = same Column in
-    rw (channel, group, bank, row, line, offset) refl
+    rw (channel, rank, group, bank, row, line, offset) refl
 
 -- a place is `digits_at` where its digits and its offset are
 pub digits_at-same : (shape : Geometry) (addr : ℕ) (place : Place) → ((d : Digit) → digit_in place d ≡ digit_of (size_of shape) shape.map (addr / 64) d) → place.offset ≡ addr % 64 → place ≡ digits_at shape addr

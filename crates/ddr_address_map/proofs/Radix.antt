@@ -6,7 +6,7 @@ use Rattle.std.proofs.Math.Numerals.{unary_clauses}
 use Rattle.std.proofs.lemmas.Bool.{eqb-true}
 use Rattle.std.proofs.lemmas.List.Recursion.{is_sum_by}
 use Rattle.ddr_timing.specs.declared.geometry.Digit.{Digit}
-use Rattle.ddr_timing.specs.declared.geometry.Digit.TheVariants.{Channel, Group, Bank, Column, Row}
+use Rattle.ddr_timing.specs.declared.geometry.Digit.TheVariants.{Channel, Group, Bank, Column, Row, Rank}
 use Rattle.ddr_timing.specs.Order.{same_digit, stands_once, each_once}
 use Rattle.ddr_address_map.specs.Map.{digit_of, number_of}
 
@@ -17,6 +17,7 @@ same_digit-self Group = refl
 same_digit-self Bank = refl
 same_digit-self Column = refl
 same_digit-self Row = refl
+same_digit-self Rank = refl
 
 pub same_digit-eq : (d e : Digit) → same_digit d e ≡ true → d ≡ e
 same_digit-eq Channel Channel h = refl
@@ -24,6 +25,7 @@ same_digit-eq Group Group h = refl
 same_digit-eq Bank Bank h = refl
 same_digit-eq Column Column h = refl
 same_digit-eq Row Row h = refl
+same_digit-eq Rank Rank h = refl
 same_digit-eq _ _ h = cc
 
 -- how often a digit stands in the order
@@ -129,33 +131,35 @@ times-count_by d order = is_sum_by (λ o. times o d) (λ e. cond (same_digit d e
 stands_once-each : (order : List Digit) → IsTrue (each_once order) → (d : Digit) → stands_once order d ≡ true
 stands_once-each order once d = by_digit (stands_once order) once d
   where
-    by_digit : (f : Digit → Bool) → (f Channel && f Group && f Bank && f Column && f Row) ≡ true → (d : Digit) → f d ≡ true
+    by_digit : (f : Digit → Bool) → (f Channel && f Group && f Bank && f Column && f Row && f Rank) ≡ true → (d : Digit) → f d ≡ true
     by_digit f h Channel = grind (arith, nat_tests)
     by_digit f h Group = grind (arith, nat_tests)
     by_digit f h Bank = grind (arith, nat_tests)
     by_digit f h Column = grind (arith, nat_tests)
     by_digit f h Row = grind (arith, nat_tests)
+    by_digit f h Rank = grind (arith, nat_tests)
 
 pub times-each_once : (order : List Digit) → IsTrue (each_once order) → (d : Digit) → times order d ≡ 1
 times-each_once order once d = times-count_by d order ∙ eqb-true _ _ (stands_once-each order once d)
 
--- an accepted order has five digits
-count_one : (first : Digit) → cond (same_digit Channel first) 1 0 + cond (same_digit Group first) 1 0 + cond (same_digit Bank first) 1 0 + cond (same_digit Column first) 1 0 + cond (same_digit Row first) 1 0 ≡ 1
+-- an accepted order has six digits
+count_one : (first : Digit) → cond (same_digit Channel first) 1 0 + cond (same_digit Group first) 1 0 + cond (same_digit Bank first) 1 0 + cond (same_digit Column first) 1 0 + cond (same_digit Row first) 1 0 + cond (same_digit Rank first) 1 0 ≡ 1
 count_one Channel = refl
 count_one Group = refl
 count_one Bank = refl
 count_one Column = refl
 count_one Row = refl
+count_one Rank = refl
 
-length-times : (order : List Digit) → length order ≡ times order Channel + times order Group + times order Bank + times order Column + times order Row
+length-times : (order : List Digit) → length order ≡ times order Channel + times order Group + times order Bank + times order Column + times order Row + times order Rank
 unfolding times
 length-times [] = refl
 length-times (first ∷ rest) = omega (arith, count_one first, length-times rest)
 
-pub length-each_once : (order : List Digit) → IsTrue (each_once order) → length order ≡ 5
+pub length-each_once : (order : List Digit) → IsTrue (each_once order) → length order ≡ 6
 length-each_once order once =
     let each = times-each_once order once in
-    omega (arith, length-times order, each Channel, each Group, each Bank, each Column, each Row)
+    omega (arith, length-times order, each Channel, each Group, each Bank, each Column, each Row, each Rank)
 
 -- sizes that are no less than 1 have a product that is no less
 pub numbers-positive : (size : Digit → ℕ) → ((d : Digit) → 0 < size d) → (order : List Digit) → 0 < numbers size order
@@ -175,32 +179,33 @@ power_step size first rest d = by_test (same_digit d first)
     by_test true = rw add_comm (rw add-one (pow-succ' (size d) (times rest d)))
     by_test false = rw zero-add (omega arith)
 
-one_of_five : (size : Digit → ℕ) (first : Digit) → cond (same_digit Channel first) (size Channel) 1 * cond (same_digit Group first) (size Group) 1 * cond (same_digit Bank first) (size Bank) 1 * cond (same_digit Column first) (size Column) 1 * cond (same_digit Row first) (size Row) 1 ≡ size first
-one_of_five size Channel = omega arith
-one_of_five size Group = omega arith
-one_of_five size Bank = omega arith
-one_of_five size Column = omega arith
-one_of_five size Row = omega arith
+one_of_six : (size : Digit → ℕ) (first : Digit) → cond (same_digit Channel first) (size Channel) 1 * cond (same_digit Group first) (size Group) 1 * cond (same_digit Bank first) (size Bank) 1 * cond (same_digit Column first) (size Column) 1 * cond (same_digit Row first) (size Row) 1 * cond (same_digit Rank first) (size Rank) 1 ≡ size first
+one_of_six size Channel = omega arith
+one_of_six size Group = omega arith
+one_of_six size Bank = omega arith
+one_of_six size Column = omega arith
+one_of_six size Row = omega arith
+one_of_six size Rank = omega arith
 
-regroup : (a b c d e p q r s t : ℕ) → (a * p) * (b * q) * (c * r) * (d * s) * (e * t) ≡ (a * b * c * d * e) * (p * q * r * s * t)
-regroup a b c d e p q r s t = omega arith
+regroup : (a b c d e f p q r s t u : ℕ) → (a * p) * (b * q) * (c * r) * (d * s) * (e * t) * (f * u) ≡ (a * b * c * d * e * f) * (p * q * r * s * t * u)
+regroup a b c d e f p q r s t u = omega arith
 
 unfoldable powers : (Digit → ℕ) → (Digit → ℕ) → ℕ
-powers size count = size Channel ^ count Channel * size Group ^ count Group * size Bank ^ count Bank * size Column ^ count Column * size Row ^ count Row
+powers size count = size Channel ^ count Channel * size Group ^ count Group * size Bank ^ count Bank * size Column ^ count Column * size Row ^ count Row * size Rank ^ count Rank
 
 powers_step : (size : Digit → ℕ) (first : Digit) (rest : List Digit) → size first * powers size (times rest) ≡ powers size (times (first ∷ rest))
 unfolding powers
 powers_step size first rest =
     let step = power_step size first rest in
-    sym (rw (step Channel, step Group, step Bank, step Column, step Row, regroup, one_of_five size first) refl)
+    sym (rw (step Channel, step Group, step Bank, step Column, step Row, step Rank, regroup, one_of_six size first) refl)
 
 numbers-powers : (size : Digit → ℕ) (order : List Digit) → numbers size order ≡ powers size (times order)
 unfolding numbers powers times
 numbers-powers size [] = simp unary_clauses (omega arith)
 numbers-powers size (first ∷ rest) = ap (λ n. size first * n) (numbers-powers size rest) ∙ powers_step size first rest
 
-pub numbers-each_once : (size : Digit → ℕ) (order : List Digit) → IsTrue (each_once order) → numbers size order ≡ size Channel * size Group * size Bank * size Column * size Row
+pub numbers-each_once : (size : Digit → ℕ) (order : List Digit) → IsTrue (each_once order) → numbers size order ≡ size Channel * size Group * size Bank * size Column * size Row * size Rank
 unfolding powers
 numbers-each_once size order once =
     let each = times-each_once order once in
-    rw (numbers-powers size order, each Channel, each Group, each Bank, each Column, each Row) (simp one-pow (omega arith))
+    rw (numbers-powers size order, each Channel, each Group, each Bank, each Column, each Row, each Rank) (simp one-pow (omega arith))

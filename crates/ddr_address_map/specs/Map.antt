@@ -2,11 +2,15 @@
 -- in mixed radix, with the digits of the place in the configured order.
 use Rattle.std.specs.Prelude.{ℕ, ◌+◌, ◌*◌, ◌/◌, ◌%◌, List, [], ◌∷◌, Bool, ◌&&◌, Option, Some, None, if◌then◌else◌, nat_lt, bit_xor}
 use Rattle.ddr_timing.specs.declared.geometry.Digit.{Digit}
-use Rattle.ddr_timing.specs.declared.geometry.Digit.TheVariants.{Channel, Group, Bank, Column, Row}
+use Rattle.ddr_timing.specs.declared.geometry.Digit.TheVariants.{Channel, Group, Bank, Column, Row, Rank}
 use Rattle.ddr_timing.specs.declared.geometry.Geometry.{Geometry}
 use Rattle.ddr_timing.specs.declared.units.TheConstants.{GROUP_BANKS, LINE_BYTES, LINE_COLUMNS}
 use Rattle.ddr_timing.specs.Order.{same_digit}
 use Rattle.ddr_address_map.specs.declared.place.Place.{Place}
+
+-- the ranks of a channel: the crates above serve one so far, whatever the configuration says
+abbrev pub rank_count : Geometry → ℕ
+rank_count shape = 1
 
 -- how many values a digit has
 abbrev pub size_of : Geometry → Digit → ℕ
@@ -15,10 +19,11 @@ size_of shape Group = shape.groups
 size_of shape Bank = GROUP_BANKS
 size_of shape Column = shape.columns / LINE_COLUMNS
 size_of shape Row = shape.rows
+size_of shape Rank = rank_count shape
 
 -- the bytes of the memory
 abbrev pub capacity_of : Geometry → ℕ
-capacity_of shape = LINE_BYTES * (shape.channels * shape.groups * GROUP_BANKS * (shape.columns / LINE_COLUMNS) * shape.rows)
+capacity_of shape = LINE_BYTES * (shape.channels * rank_count shape * shape.groups * GROUP_BANKS * (shape.columns / LINE_COLUMNS) * shape.rows)
 
 -- one digit of a number in mixed radix; the order has the least significant digit first
 unfoldable pub digit_of : (Digit → ℕ) → List Digit → ℕ → Digit → ℕ
@@ -38,11 +43,12 @@ digit_in place Group = place.group
 digit_in place Bank = place.bank
 digit_in place Column = place.line
 digit_in place Row = place.row
+digit_in place Rank = place.rank
 
 -- the place with those digits and that offset
 abbrev pub place_with : (Digit → ℕ) → ℕ → Place
 place_with value byte =
-    record { channel = value Channel; group = value Group; bank = value Bank; row = value Row; line = value Column; offset = byte }
+    record { channel = value Channel; rank = value Rank; group = value Group; bank = value Bank; row = value Row; line = value Column; offset = byte }
 
 -- the place whose bank is the bank digit XOR (row mod 4), where the configuration asks for that; and so
 -- also the way back
@@ -54,6 +60,7 @@ with_bank_xor shape place =
 abbrev pub in_range : Geometry → Place → Bool
 in_range shape place =
     nat_lt place.channel shape.channels
+    && nat_lt place.rank (rank_count shape)
     && nat_lt place.group shape.groups
     && nat_lt place.bank GROUP_BANKS
     && nat_lt place.row shape.rows

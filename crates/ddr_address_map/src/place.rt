@@ -4,6 +4,7 @@
 #[derive(Clone, Copy, Debug, PartialEq, Eq)]
 pub struct Place {
     pub channel: u32,
+    pub rank: u32,
     /// The bank group.
     pub group: u32,
     /// The bank in its group.

@@ -1,4 +1,7 @@
+mod BankLemmas
 mod CountLemmas
-mod Entries
+mod HazardLemmas
 mod Lines
+mod Order
+mod SlotLemmas
 mod Soundness

@@ -1,5 +1,6 @@
+pub mod Banks
 pub mod Counts
-pub mod Entries
 pub mod Hazards
 pub mod PendingList
+pub mod Slots
 pub mod View

@@ -7,7 +7,7 @@ use Rattle.ddr_address_map.specs.declared.place.Place.{Place}
 use Rattle.ddr_address_map.specs.declared.request.Kind.{Kind}
 use Rattle.ddr_address_map.specs.declared.request.Kind.TheVariants.{Read, Write}
 use Rattle.ddr_address_map.specs.Requests.{Request}
-use Rattle.ddr_hazards.specs.declared.pending.TheConstants.{KIND_CAPACITY, RANK_GROUPS}
+use Rattle.ddr_hazards.specs.declared.pending.TheConstants.{KIND_CAPACITY, RANKS, RANK_GROUPS}
 use Rattle.ddr_hazards.specs.declared.waiting.Waiting.{Waiting}
 
 pub record PendingList : Type 0 where
@@ -55,9 +55,9 @@ after_remove place p = record p { waiting = remove p.waiting place }
 abbrev pub waiting_of : Bor Request × ℕ → Waiting
 waiting_of lent = record { request = lent.0.now; admitted = lent.1 }
 
--- the group and the bank of the place lie in a rank
+-- the rank is one that a channel may have, and the group and the bank of the place lie in it
 abbrev pub IsInRank : Place → Type 0
-IsInRank place = (place.group < RANK_GROUPS) × (place.bank < GROUP_BANKS)
+IsInRank place = (place.group < RANK_GROUPS) × (place.bank < GROUP_BANKS) × (place.rank < RANKS)
 
 -- what holds of every list of pending requests
 pub record IsWithinLimits (p : PendingList) : Type 0 where

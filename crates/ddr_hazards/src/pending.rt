@@ -1,26 +1,27 @@
-//! The pending requests in the order of their admission. Whether one has to wait for an older one is looked up
-//! when it is admitted, and passed on when an older one is removed.
-ghost use Rattle.std.specs.Prelude.{◌≡◌, ◌<◌, ◌≤◌, ◌↔◌, [], ◌++◌, length, take, drop, slice_get, remove, IsTrue, IsErr, IfErr, OnOk};
-ghost use Rattle.std.specs.Option.{option_flatten, option_map};
+//! The pending requests in the order of their admission. How many older ones hold up a request is counted when it is
+//! admitted, and counted down when one of them is removed.
+ghost use Rattle.std.specs.Prelude.{◌≡◌, ◌<◌, ◌≤◌, ◌↔◌, [], length, nat_lt, slice_get, IsTrue, IsErr, IfErr, OnOk};
+ghost use Rattle.std.specs.Option.{option_map};
+ghost use Rattle.ddr_timing.specs.declared.units.TheConstants.{GROUP_BANKS};
 ghost use Rattle.ddr_address_map.specs.declared.request.Kind.TheVariants.{Read, Write};
-ghost use Rattle.ddr_hazards.specs.declared.pending.TheConstants.{KIND_CAPACITY};
-ghost use Rattle.ddr_hazards.specs.Entries.{unblock_next};
+ghost use Rattle.ddr_hazards.specs.declared.pending.TheConstants.{KIND_CAPACITY, RANKS, RANK_GROUPS};
+ghost use Rattle.ddr_hazards.specs.Banks.{in_bank};
 ghost use Rattle.ddr_hazards.specs.PendingList.{opened, pending_count, is_full, after_admit, request_at, after_remove, waiting_of, IsInRank, IsWithinLimits};
-ghost use Rattle.ddr_hazards.specs.Hazards.{is_blocked};
+ghost use Rattle.ddr_hazards.specs.Hazards.{hazard_count, is_blocked};
 
+use crate::banks::{Banks, bank_number, number};
 use crate::counts::Counts;
-use crate::entry::{Entry, has_line, unblock_first};
+use crate::hazards::{count_less, count_line, position};
+use crate::slots::{CAPACITY, Slots};
 use crate::waiting::Waiting;
-use arrayvec::ArrayVec;
-use ddr_address_map::place::Place;
 use ddr_address_map::request::{Kind, Req};
 use std::marker::Model;
 
 /// The most requests of one kind that a list may hold: this project's choice.
 pub const KIND_CAPACITY: u32 = 32;
 
-/// The places of a list: as many as the requests of both kinds may take.
-const CAPACITY: usize = 2 * KIND_CAPACITY as usize;
+/// The most ranks of a channel: this project's choice.
+pub const RANKS: u32 = 2;
 
 /// The most bank groups of a rank (JESD79-4, the x8 organisation).
 pub const RANK_GROUPS: u32 = 4;
@@ -32,9 +33,11 @@ pub const RANK_GROUPS: u32 = 4;
 /// removal of a request lowers by one the places of all younger ones.
 #[derive(Drop)]
 pub struct Pending {
-    // The vector keeps a blank in each place that it doesn't use, and a request has none, since it owns its
-    // line. So the blanks are `None`, and the elements are all `Some`.
-    entries: ArrayVec<Option<Entry>, CAPACITY>,
+    slots: Slots,
+    // Of each bank, the slots of its requests.
+    banks: Banks,
+    // Of each slot, how many older requests have the line of its request.
+    hazards: [u8; CAPACITY],
     counts: Counts,
     limits: Counts,
 }
@@ -59,7 +62,9 @@ impl Pending {
         ensures { result ≡ opened reads writes }
     {
         Pending {
-            entries: ArrayVec::new(),
+            slots: Slots::new(),
+            banks: Banks::new(),
+            hazards: [0; CAPACITY],
             counts: Counts {
                 reads: 0,
                 writes: 0,
@@ -73,14 +78,14 @@ impl Pending {
         ensures exact { result ≡ length self.now.waiting }
         ensures within { IsWithinLimits self.now }
     {
-        self.entries.len()
+        self.slots.len
     }
 
     /// Whether no request is pending.
     pub fn is_empty(&self) -> bool
         ensures { IsTrue result ↔ (self.now.waiting ≡ []) }
     {
-        self.entries.is_empty()
+        self.len() == 0
     }
 
     /// How many reads are pending.
@@ -116,15 +121,16 @@ impl Pending {
         if self.is_full(kind) {
             return Err(request);
         }
-        let is_blocked = has_line(self.entries.as_slice(), request.place);
+        let place = request.place;
+        let bank = bank_number(place);
+        let older = count_line(&self.slots, self.banks.slots(bank), place);
+        let slot = self.slots.push(Waiting {
+            request,
+            admitted: now,
+        });
+        self.hazards[slot as usize] = older as u8;
+        self.banks.push(bank, slot);
         self.counts.add(kind);
-        self.entries.push(Some(Entry {
-            waiting: Waiting {
-                request,
-                admitted: now,
-            },
-            is_blocked,
-        }));
         Ok(())
     }
 
@@ -134,9 +140,13 @@ impl Pending {
         ensures taken { result ≡ request_at self.old place }
         ensures rest { self.new ≡ after_remove place self.old }
     {
-        let entry = take_entry(&mut self.entries, place)?;
-        unblock_next(&mut self.entries, place, &entry);
-        let request = entry.waiting.request;
+        let (slot, waiting) = self.slots.remove(place)?;
+        let request = waiting.request;
+        let bank = bank_number(request.place);
+        let index = position(self.banks.slots(bank), slot);
+        self.banks.remove(bank, index);
+        let behind = self.banks.behind(bank, index);
+        count_less(&mut self.hazards, &self.slots, behind, request.place);
         self.counts.subtract(request.echo.kind);
         Some(request)
     }
@@ -145,8 +155,9 @@ impl Pending {
     pub fn get(&self, place: usize) -> Option<(&Req, u64)>
         ensures { option_map waiting_of result ≡ slice_get self.now.waiting place }
     {
-        let entry = self.entries.as_slice().get(place)?.as_ref()?;
-        Some((&entry.waiting.request, entry.waiting.admitted))
+        let slot = self.slots.slot(place)?;
+        let waiting = self.slots.get(slot)?;
+        Some((&waiting.request, waiting.admitted))
     }
 
     /// The request that was admitted first, with the cycle of its admission. `None` exactly where nothing is
@@ -163,26 +174,29 @@ impl Pending {
         requires { place < length self.now.waiting }
         ensures { result ≡ is_blocked self.now.waiting place }
     {
-        matches!(self.entries.as_slice().get(place), Some(Some(entry)) if entry.is_blocked)
+        self.hazards(place) > 0
     }
-}
 
-// Takes out the entry at a place, if there is one.
-fn take_entry(entries: &mut ArrayVec<Option<Entry>, CAPACITY>, place: usize) -> Option<Entry>
-    ensures taken { result ≡ option_flatten (slice_get entries.old.items place) }
-    ensures rest { entries.new.items ≡ remove entries.old.items place }
-{
-    entries.pop_at(place).flatten()
-}
+    /// How many older pending requests have the line of the request at this place.
+    pub fn hazards(&self, place: usize) -> usize
+        requires { place < length self.now.waiting }
+        ensures exact { result ≡ hazard_count self.now.waiting place }
+        ensures blocks { is_blocked self.now.waiting place ≡ nat_lt 0 result }
+    {
+        match self.slots.slot(place) {
+            Some(slot) => self.hazards[slot as usize] as usize,
+            None => 0,
+        }
+    }
 
-// Once an entry is taken out: where it was not blocked, the first one to its line of those behind it, which
-// stand from this place on, is blocked no more. Otherwise they all wait for an older one, too.
-fn unblock_next(entries: &mut ArrayVec<Option<Entry>, CAPACITY>, from: usize, taken: &Entry)
-    requires { from ≤ length entries.old.items }
-    ensures { entries.new.items ≡ take from entries.old.items ++ unblock_next taken.now (drop from entries.old.items) }
-{
-    if !taken.is_blocked {
-        let behind = &mut entries.as_mut_slice()[from..];
-        unblock_first(behind, taken.waiting.request.place);
+    /// The place of the `k`-th oldest request of a bank, `k` from 0. `None` exactly where the bank has fewer.
+    pub fn in_bank(&self, rank: u32, group: u32, bank: u32, k: usize) -> Option<usize>
+        requires rank_in { rank < RANKS }
+        requires group_in { group < RANK_GROUPS }
+        requires bank_in { bank < GROUP_BANKS }
+        ensures { result ≡ in_bank rank group bank k self.now.waiting }
+    {
+        let slot = self.banks.slot(number(rank, group, bank), k)?;
+        Some(self.slots.place(slot))
     }
 }

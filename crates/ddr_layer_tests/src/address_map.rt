@@ -34,6 +34,7 @@ fn at(parts: Parts) -> Place {
     let [channel, group, bank, row, line, offset] = parts;
     Place {
         channel,
+        rank: 0,
         group,
         bank,
         row,

@@ -1,5 +1,6 @@
 //! A list of pending requests that is filled and emptied, with what it holds told by hand.
-ghost use Rattle.std.specs.Prelude.{IfOk};
+ghost use Rattle.std.specs.Prelude.{◌<◌, IfOk};
+ghost use Rattle.ddr_hazards.specs.declared.pending.TheConstants.{RANK_GROUPS};
 ghost use Rattle.ddr_hazards.specs.PendingList.{IsInRank};
 
 use ddr_address_map::place::Place;
@@ -29,6 +30,7 @@ fn request(
         },
         place: Place {
             channel: 0,
+            rank: 0,
             group: 1,
             bank: 2,
             row: 3,
@@ -266,4 +268,70 @@ const TWO_LINES: &[Step] = &[
 fn each_line_is_freed_by_its_own_requests(rt: HostRuntime) -> Result<(), Fail> {
     let mut pending = Pending::open(32, 32);
     play(&rt, rt.alloc(), &mut pending, TWO_LINES)
+}
+
+/// A read of the first byte of row 0 in bank 0 of a group.
+fn read_of_group(alloc: Global, number: u64, group: u32) -> Result<Req, AllocError>
+    requires { group < RANK_GROUPS }
+    ensures { IfOk result (λ r. IsInRank r.place) }
+{
+    Ok(Req {
+        port: 0,
+        number,
+        echo: Echo {
+            kind: Kind::Read,
+            addr: 0,
+            len: 1,
+        },
+        place: Place {
+            channel: 0,
+            rank: 0,
+            group,
+            bank: 0,
+            row: 0,
+            line: 0,
+            offset: 0,
+        },
+        mask: 0,
+        line: Box::new(alloc, [0; 64])?,
+    })
+}
+
+/// How many older requests each one waits for, the oldest first.
+fn hazards(alloc: Global, pending: &Pending) -> Result<Vec<usize>, Fail> {
+    let mut counts = Vec::new(alloc);
+    for place in 0..pending.len() {
+        counts.push(pending.hazards(place))?;
+    }
+    Ok(counts)
+}
+
+/// Four reads of group 0, 1, 0 and 0, as addresses 0, 512, 0 and 0 of profile S are.
+fn admit_four(alloc: Global, pending: &mut Pending) -> Result<(), Fail> {
+    for (number, group) in [0u32, 1, 0, 0].into_iter().enumerate() {
+        let request = read_of_group(alloc, number as u64, group & 1)?;
+        pending.admit(request, 0).map_err(|_| "the queue is full")?;
+    }
+    Ok(())
+}
+
+#[test]
+fn hazards_are_counted_and_a_bank_has_its_places(rt: HostRuntime) -> Result<(), Fail> {
+    let alloc = rt.alloc();
+    let mut pending = Pending::open(32, 32);
+    admit_four(alloc, &mut pending)?;
+    assert_eq!(&rt;
+        hazards(alloc, &pending)?.as_slice(),
+        [0usize, 0, 1, 2].as_slice()
+    );
+    assert_eq!(&rt; pending.in_bank(0, 0, 0, 1), Some(2));
+    assert_eq!(&rt; pending.in_bank(0, 1, 0, 0), Some(1));
+    assert_eq!(&rt; pending.in_bank(0, 0, 0, 3), None);
+    assert_eq!(&rt; remove(&mut pending, 0), Some(0));
+    assert_eq!(&rt;
+        hazards(alloc, &pending)?.as_slice(),
+        [0usize, 0, 1].as_slice()
+    );
+    assert_eq!(&rt; pending.in_bank(0, 0, 0, 1), Some(2));
+    Ok(())
 }

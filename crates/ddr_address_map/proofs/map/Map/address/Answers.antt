@@ -19,7 +19,7 @@ record Stepped (shape : Geometry) (place : Place) (i n w s v : ℕ) : Type 0 whe
   weight : w * s * numbers (size_of shape) (drop (i + 1) shape.map) ≡ numbers (size_of shape) shape.map
   number : n + w * v + w * s * number_of (size_of shape) (drop (i + 1) shape.map) (digit_in place) ≡ number_of (size_of shape) shape.map (digit_in place)
 
-stepped : (shape : Geometry) (place : Place) (i n w s v : ℕ) → i < 5 → w * numbers (size_of shape) (drop i shape.map) ≡ numbers (size_of shape) shape.map → n + w * number_of (size_of shape) (drop i shape.map) (digit_in place) ≡ number_of (size_of shape) shape.map (digit_in place) → s ≡ size_of shape (get_or shape.map i Channel) → v ≡ digit_in place (get_or shape.map i Channel) → Stepped shape place i n w s v
+stepped : (shape : Geometry) (place : Place) (i n w s v : ℕ) → i < 6 → w * numbers (size_of shape) (drop i shape.map) ≡ numbers (size_of shape) shape.map → n + w * number_of (size_of shape) (drop i shape.map) (digit_in place) ≡ number_of (size_of shape) shape.map (digit_in place) → s ≡ size_of shape (get_or shape.map i Channel) → v ≡ digit_in place (get_or shape.map i Channel) → Stepped shape place i n w s v
 stepped shape place i n w s v low weight number size_is value_is =
     let first = get_or shape.map i Channel in
     let rest = drop (i + 1) shape.map in
@@ -42,7 +42,7 @@ pub loop-digit-preserved : goal.loop-digit-preserved
 loop-digit-preserved c = record { weight = (stepped_at c).weight; number = (stepped_at c).number }
 
 -- what the pass has added so far is small
-counted : (shape : Geometry) (place digits : Place) (i n w v : ℕ) → IsInRange shape place → digits ≡ with_bank_xor shape place → i < 5 → w * numbers (size_of shape) (drop i shape.map) ≡ numbers (size_of shape) shape.map → n + w * number_of (size_of shape) (drop i shape.map) (digit_in digits) ≡ number_of (size_of shape) shape.map (digit_in digits) → v ≡ digit_in digits (get_or shape.map i Channel) → n + w * v < 2 ^ 30
+counted : (shape : Geometry) (place digits : Place) (i n w v : ℕ) → IsInRange shape place → digits ≡ with_bank_xor shape place → i < 6 → w * numbers (size_of shape) (drop i shape.map) ≡ numbers (size_of shape) shape.map → n + w * number_of (size_of shape) (drop i shape.map) (digit_in digits) ≡ number_of (size_of shape) shape.map (digit_in digits) → v ≡ digit_in digits (get_or shape.map i Channel) → n + w * v < 2 ^ 30
 counted shape place digits i n w v inside digits_is low weight number value_is =
     let step = stepped shape digits i n w (size_of shape (get_or shape.map i Channel)) v low weight number refl value_is in
     let same : number_of (size_of shape) shape.map (digit_in digits) ≡ number_of (size_of shape) shape.map (digit_in (with_bank_xor shape place)) = ap (λ p. number_of (size_of shape) shape.map (digit_in p)) digits_is in
@@ -67,7 +67,7 @@ record Found (shape : Geometry) (place : Place) (n byte : ℕ) : Type 0 where
   below : 64 * n + byte < capacity_of shape
   back : place_of shape (64 * n + byte) ≡ Some place
 
-found : (shape : Geometry) (place digits : Place) (i n w byte : ℕ) → IsInRange shape place → digits ≡ with_bank_xor shape place → 5 ≤ i → n + w * number_of (size_of shape) (drop i shape.map) (digit_in digits) ≡ number_of (size_of shape) shape.map (digit_in digits) → byte ≡ place.offset → Found shape place n byte
+found : (shape : Geometry) (place digits : Place) (i n w byte : ℕ) → IsInRange shape place → digits ≡ with_bank_xor shape place → 6 ≤ i → n + w * number_of (size_of shape) (drop i shape.map) (digit_in digits) ≡ number_of (size_of shape) shape.map (digit_in digits) → byte ≡ place.offset → Found shape place n byte
 unfolding address_in
 found shape place digits i n w byte inside digits_is past number byte_is =
     let none : drop i shape.map ≡ [] = drop_of_length-le shape.map (omega (arith, length-map shape)) in

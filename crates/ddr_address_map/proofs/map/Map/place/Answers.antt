@@ -4,7 +4,7 @@ use Rattle.std.proofs.Common.{◌≡◌, ℕ, ◌+◌, ◌/◌, ◌<◌, ◌≤�
 use Rattle.std.proofs.Math.ListN.{drop_of_length-le}
 use Rattle.std.proofs.lemmas.List.{drop_more}
 use Rattle.ddr_timing.specs.declared.geometry.Digit.{Digit}
-use Rattle.ddr_timing.specs.declared.geometry.Digit.TheVariants.{Channel, Group, Bank, Column, Row}
+use Rattle.ddr_timing.specs.declared.geometry.Digit.TheVariants.{Channel, Group, Bank, Column, Row, Rank}
 use Rattle.ddr_timing.specs.declared.geometry.Geometry.{Geometry}
 use Rattle.ddr_address_map.specs.declared.place.Place.{Place}
 use Rattle.ddr_address_map.specs.Map.{size_of, capacity_of, digit_of, digit_in, with_bank_xor, in_range, place_of, address_of}
@@ -13,12 +13,13 @@ use Rattle.ddr_address_map.proofs.Walk.{digit_or, digit_or-zero, once-step, quot
 use Rattle.ddr_address_map.proofs.MapLemmas.{length-map, times-map, digits_at, digits_at-same, place_of-below, place_of-past, place-in_range, address_of-place, capacity-zero, capacity-more}
 use Rattle.ddr_address_map.proofs.map.Map.place.Goals as goal
 
-blank-digit : (byte : ℕ) (d : Digit) → digit_in (record { channel = 0; group = 0; bank = 0; row = 0; line = 0; offset = byte }) d ≡ 0
+blank-digit : (byte : ℕ) (d : Digit) → digit_in (record { channel = 0; rank = 0; group = 0; bank = 0; row = 0; line = 0; offset = byte }) d ≡ 0
 blank-digit byte Channel = refl
 blank-digit byte Group = refl
 blank-digit byte Bank = refl
 blank-digit byte Column = refl
 blank-digit byte Row = refl
+blank-digit byte Rank = refl
 
 pub loop-digit-init : goal.loop-digit-init
 loop-digit-init c =
@@ -53,7 +54,7 @@ record Ended (shape : Geometry) (addr rest : ℕ) (place : Place) : Type 0 where
   left : rest ≡ (addr / 64) / numbers (size_of shape) shape.map
   digits : place ≡ digits_at shape addr
 
-ended : (shape : Geometry) (addr rest i : ℕ) (place : Place) → 5 ≤ i → rest / numbers (size_of shape) (drop i shape.map) ≡ (addr / 64) / numbers (size_of shape) shape.map → ((d : Digit) → digit_or (size_of shape) (drop i shape.map) rest (digit_in place d) d ≡ digit_of (size_of shape) shape.map (addr / 64) d) → place.offset ≡ addr % 64 → Ended shape addr rest place
+ended : (shape : Geometry) (addr rest i : ℕ) (place : Place) → 6 ≤ i → rest / numbers (size_of shape) (drop i shape.map) ≡ (addr / 64) / numbers (size_of shape) shape.map → ((d : Digit) → digit_or (size_of shape) (drop i shape.map) rest (digit_in place d) d ≡ digit_of (size_of shape) shape.map (addr / 64) d) → place.offset ≡ addr % 64 → Ended shape addr rest place
 ended shape addr rest i place past quotient digits offset =
     let none : drop i shape.map ≡ [] = drop_of_length-le shape.map (omega (arith, length-map shape)) in
     record {

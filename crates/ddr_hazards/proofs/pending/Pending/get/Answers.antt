@@ -1,31 +1,18 @@
-use Rattle.std.proofs.Common.{◌≡◌, ◌∙◌, Some, None, length, refl, sym, ap, slice_get}
-use Rattle.std.specs.Option.{option_flatten, option_map}
-use Rattle.std.proofs.lemmas.Option.{slice_get_read}
-use Rattle.ddr_hazards.specs.declared.entry.Entry.{Entry}
-use Rattle.ddr_hazards.proofs.Entries.{slice_get-held}
-use Rattle.ddr_hazards.proofs.Soundness.{entries_of-held}
+use Rattle.std.proofs.Common.{◌≡◌, ◌∙◌, sym, ap}
+use Rattle.std.specs.List.{slice_get}
+use Rattle.std.proofs.lemmas.Option.{none-some}
+use Rattle.ddr_hazards.specs.Slots.{at, in_slots, taken}
+use Rattle.ddr_hazards.proofs.SlotLemmas.{held_at}
 use Rattle.ddr_hazards.proofs.pending.Pending.get.Goals as goal
 
 pub returns : goal.returns
 returns c =
-    let entries = c.self.inside.entries.items in
-    let lookup = c.in_ok-get.ensures.lookup in
-    let read : slice_get c.as_slice.result.now c.args.place ≡ Some c.in_ok-get.field-0.now =
-    slice_get_read c.as_slice.result.now (length c.as_slice.result.now) c.args.place c.in_ok-get.field-0.now refl lookup.3.0 lookup.1 in
-    let at : slice_get entries c.args.place ≡ Some (Some c.in_ok-entry.entry.now) =
-    ap (λ es. slice_get es c.args.place) (sym c.as_slice.ensures.value) ∙ read ∙ ap Some (sym c.in_ok-entry.ensures.value) in
-    rw (← c.self.view_is) (
-    ap (λ o. option_map (λ (e : Entry). e.waiting) (option_flatten o)) (sym at) ∙ slice_get-held entries c.args.place (entries_of-held c.self.inside c.self.invariant)
-    )
+    let s = c.self.inside.slots in
+    let v = held_at (at s) (taken s) (in_slots s) c.args.place c.in_ok-slot.slot c.self.invariant.ordered.full (sym c.in_ok-slot.ensures) in
+    c.in_ok-waiting.ensures ∙ v.1 ∙ sym v.2 ∙ ap (λ p. slice_get p.waiting c.args.place) c.self.view_is
 
-pub returns-in_err-entry : goal.returns-in_err-entry
-returns-in_err-entry c =
-    let entries = c.self.inside.entries.items in
-    let lookup = c.in_ok-get.ensures.lookup in
-    let read : slice_get c.as_slice.result.now c.args.place ≡ Some c.in_ok-get.field-0.now =
-    slice_get_read c.as_slice.result.now (length c.as_slice.result.now) c.args.place c.in_ok-get.field-0.now refl lookup.3.0 lookup.1 in
-    let at : slice_get entries c.args.place ≡ Some None =
-    ap (λ es. slice_get es c.args.place) (sym c.as_slice.ensures.value) ∙ read ∙ ap Some (sym c.in_err-entry.ensures.value) in
-    rw (← c.self.view_is, c.from_residual-in_err-entry.ensures) (
-    ap (λ o. option_map (λ (e : Entry). e.waiting) (option_flatten o)) (sym at) ∙ slice_get-held entries c.args.place (entries_of-held c.self.inside c.self.invariant)
-    )
+pub returns-in_err-waiting : goal.returns-in_err-waiting
+returns-in_err-waiting c =
+    let s = c.self.inside.slots in
+    let v = held_at (at s) (taken s) (in_slots s) c.args.place c.in_ok-slot.slot c.self.invariant.ordered.full (sym c.in_ok-slot.ensures) in
+    absurd (none-some v.0 (c.in_err-waiting.ensures ∙ v.1))
