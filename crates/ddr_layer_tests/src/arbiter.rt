@@ -78,6 +78,7 @@ impl Scene {
             },
             place: Place {
                 channel: 0,
+                rank: 0,
                 group,
                 bank,
                 row,

@@ -1,5 +1,5 @@
 //! The sample configuration: as a value whose numbers a proof knows, and as a text with other lines.
-ghost use Rattle.std.specs.Prelude.{◌≡◌};
+ghost use Rattle.std.specs.Prelude.{◌≡◌, false};
 
 use ddr_timing::config::Config;
 use ddr_timing::geometry::{Digit, Geometry};
@@ -8,7 +8,9 @@ use ddr_timing::profile::PROFILE_S;
 use ddr_timing::timing::Timing;
 use std::alloc::{AllocError, Global};
 
-fn timing() -> Timing {
+fn timing() -> Timing
+    ensures { result.rtrs ≡ 1 }
+{
     Timing {
         cl: 4,
         cwl: 3,
@@ -29,16 +31,19 @@ fn timing() -> Timing {
         rfc: 20,
         refi: 200,
         postpone: 2,
+        rtrs: 1,
     }
 }
 
 fn geometry() -> Geometry
+    ensures version { result.version ≡ 1 }
     ensures groups { result.groups ≡ 4 }
     ensures rows { result.rows ≡ 16 }
 {
     Geometry {
         version: 1,
         channels: 2,
+        ranks: 1,
         groups: 4,
         rows: 16,
         columns: 64,
@@ -48,12 +53,15 @@ fn geometry() -> Geometry
             Digit::Bank,
             Digit::Row,
             Digit::Channel,
+            Digit::Rank,
         ],
         bank_xor: false,
     }
 }
 
-fn limits() -> Limits {
+fn limits() -> Limits
+    ensures { result.closed ≡ false }
+{
     Limits {
         ports: 2,
         window: 4,
@@ -64,6 +72,7 @@ fn limits() -> Limits {
         low: 2,
         high: 6,
         cap: 1000,
+        closed: false,
     }
 }
 
@@ -79,11 +88,20 @@ pub fn sample() -> Config
     }
 }
 
-/// Profile S with other lines: a pair names a key and gives what stands for its line. A pair whose key
-/// profile S lacks changes nothing.
+/// Profile S with other lines.
 pub fn changed(alloc: Global, lines: &[(&str, &str)]) -> Result<String, AllocError> {
+    with_lines(alloc, PROFILE_S, lines)
+}
+
+/// A profile with other lines: a pair names a key and gives what stands for its line. A pair whose key the
+/// profile lacks changes nothing.
+pub fn with_lines(
+    alloc: Global,
+    profile: &str,
+    lines: &[(&str, &str)],
+) -> Result<String, AllocError> {
     let mut text = String::new(alloc);
-    for line in PROFILE_S.lines() {
+    for line in profile.lines() {
         push_line(&mut text, line, lines)?;
         text.push('\n')?;
     }

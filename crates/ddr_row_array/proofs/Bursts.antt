@@ -190,6 +190,7 @@ module _ (a : Inside) (bank line : ℕ) (o : OpenRow) (s : Slot) (sound : IsSoun
         (ap (λ (t : Slot). vec_len t.bytes) is ∙ sound.whole o.slot s at.within) sound.whole;
     indexed = λ k. sound.indexed k ∙ sym (same_slots w k.bank k.row);
     kept = λ b o' e. same_slots w b o'.row ∙ sound.kept b o' e;
+    ensured = λ r e. same_slots w r.address.bank r.address.row ∙ sound.ensured r e;
   }
 
   stored-lent : (w : List ℕ) → map stored_of (lent w).slots.items ≡ with_line (map stored_of a.slots.items) bank o.row line w

@@ -6,3 +6,4 @@ mod Lines
 mod Opened
 mod Places
 mod Slots
+mod Words

@@ -30,6 +30,7 @@ IsSound-opened a i o sound within kept = record {
   banks = sound.banks;
   whole = sound.whole;
   indexed = sound.indexed;
+  ensured = sound.ensured;
   kept = λ b.
       elim (cases_eq b i) [
         | inl same ↦ rw (same, get_or-set_same a.opened.items i o None (omega (arith, a.opened.ok.0))) kept

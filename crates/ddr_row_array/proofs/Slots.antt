@@ -1,5 +1,5 @@
 -- The slots of stored rows, and the index that finds them.
-use Rattle.std.proofs.Common.{◌≡◌, ℕ, ◌*◌, ◌<◌, Bool, true, false, ◌&&◌, ◌||◌, cond, eqb, List, [], ◌∷◌, ◌++◌, length, map, get_or, find, replicate, Option, Some, None, IsTrue, IsSome, is_some, refl, sym, ap, ◌∙◌, arith, rules, vec_len}
+use Rattle.std.proofs.Common.{◌≡◌, ℕ, ◌*◌, ◌<◌, Bool, true, false, ◌&&◌, ◌||◌, cond, eqb, List, [], ◌∷◌, ◌++◌, length, map, get_or, find, replicate, Option, Some, None, IsTrue, IsSome, is_some, refl, sym, ap, subst, ◌∙◌, arith, rules, vec_len}
 use Rattle.std.specs.Option.{option_map, option_map_or, option_or}
 use Rattle.std.specs.Ordering.{is_eq}
 use Rattle.std.specs.BTreeMap.{get}
@@ -13,6 +13,7 @@ use Rattle.std.proofs.lemmas.List.Folds.{find-append}
 use Rattle.std.proofs.lemmas.Option.{slice_get-map, slice_get-get_or}
 use Rattle.ddr_row_array.specs.declared.slot.RowAddress.{RowAddress}
 use Rattle.ddr_row_array.specs.declared.slot.Slot.{Slot}
+use Rattle.ddr_row_array.specs.declared.row_array.EnsuredRow.{EnsuredRow}
 use Rattle.ddr_row_array.specs.declared.row_array.RowArray.TheInside.{Inside}
 use Rattle.ddr_row_array.specs.Rows.{StoredRow, is_row, is_stored, row_bytes, line_bytes}
 use Rattle.ddr_row_array.specs.View.{IsSound, slot_of, stored_of, rows_of, address_cmp, place_of}
@@ -43,6 +44,11 @@ stored_from_index a bank row sound h =
     let stored = map stored_of a.slots.items in
     found_from_place (is_row bank row) stored (place_of (is_row bank row) stored) refl
     (ap is_some (sym (sound.indexed (record { bank = bank; row = row }))) ∙ h)
+
+-- what is not in the index is not stored
+pub absent_is_not_stored : {X : Type 0} (a : Inside) (bank row : ℕ) → IsSound a → is_some (get address_cmp a.index (record { bank = bank; row = row })) ≡ false → is_stored (rows_of a) bank row ≡ true → X
+absent_is_not_stored a bank row sound absent h =
+    absurd (let t : false ≡ true = sym absent ∙ IsSome-index a bank row sound h in cc)
 
 -- the slot is there
 pub slot_within : (slots : List Slot) (bank row i : ℕ) → slot_of slots bank row ≡ Some i → i < length slots
@@ -126,7 +132,7 @@ none_from_missing (Some x) h = absurd (let e : true ≡ false = h in cc)
 
 module _ (a : Inside) (sound : IsSound a) (new : Slot) (slots : Vec Slot Global) (index : BTreeMap RowAddress ℕ Global) where
   abbrev grown : Inside
-  grown = record a { slots = slots; index = index }
+  grown = record a { slots = slots; index = index; ensured = Some (record { address = new.address; slot = length a.slots.items }) }
 
   module _ (pushed : slots.items ≡ a.slots.items ++ new ∷ []) (absent : get address_cmp a.index new.address ≡ None) where
     no_other : (k : RowAddress) → is_new a.slots.items new k.bank k.row ≡ true → slot_of a.slots.items k.bank k.row ≡ None
@@ -134,6 +140,14 @@ module _ (a : Inside) (sound : IsSound a) (new : Slot) (slots : Vec Slot Global)
         let pair = same_pair new.address.bank k.bank new.address.row k.row h in
         ap (λ b. slot_of a.slots.items b k.row) (sym pair.0) ∙ ap (slot_of a.slots.items new.address.bank) (sym pair.1)
         ∙ sym (sound.indexed new.address) ∙ absent
+
+    own_slot : slot_of slots.items new.address.bank new.address.row ≡ Some (length a.slots.items)
+    own_slot =
+        let n = length a.slots.items in
+        ap (λ l. slot_of l new.address.bank new.address.row) pushed
+        ∙ slot_of-new a.slots.items new new.address.bank new.address.row
+        ∙ ap (λ o. option_or o (cond (is_new a.slots.items new new.address.bank new.address.row) (Some n) None)) (sym (sound.indexed new.address) ∙ absent)
+        ∙ ap (λ t. cond {A = Option ℕ} t (Some n) None) (same_address new.address.bank new.address.row)
 
     pub IsSound-grown : vec_len new.bytes ≡ a.geometry.columns * 8 → ((k : RowAddress) → get address_cmp index k ≡ cond (is_eq (address_cmp new.address k)) (Some (length a.slots.items)) (get address_cmp a.index k)) → IsSound grown
     IsSound-grown long updated = record {
@@ -148,4 +162,8 @@ module _ (a : Inside) (sound : IsSound a) (new : Slot) (slots : Vec Slot Global)
           ∙ ap (λ l. slot_of l k.bank k.row) (sym pushed);
       kept = λ b o e.
           rw pushed (slot_of-new a.slots.items new b o.row ∙ kept_first (slot_of a.slots.items b o.row) _ o.slot (sound.kept b o e));
+      ensured = λ e is.
+          let here : EnsuredRow = record { address = new.address; slot = length a.slots.items } in
+          let same : here ≡ e = cc in
+          subst (λ (r : EnsuredRow). slot_of slots.items r.address.bank r.address.row ≡ Some r.slot) same own_slot;
     }

@@ -44,3 +44,5 @@ pub record IsSound (a : Inside) : Type 0 where
   pub indexed : (k : RowAddress) → get address_cmp a.index k ≡ slot_of a.slots.items k.bank k.row
   -- an open row is stored, in the slot that the bank names
   pub kept : (bank : ℕ) → ForSome (slice_index_or a.opened.items bank None) (λ o. slot_of a.slots.items bank o.row ≡ Some o.slot)
+  -- the row that was ensured last is stored, in the slot that is kept with it
+  pub ensured : ForSome a.ensured (λ e. slot_of a.slots.items e.address.bank e.address.row ≡ Some e.slot)

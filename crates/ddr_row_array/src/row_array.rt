@@ -1,11 +1,12 @@
 //! The bytes of one rank's rows, and the open row of each bank.
-ghost use Rattle.std.specs.Prelude.{◌≡◌, ℕ, ◌<◌, ◌==◌, ◌&&◌, false, if◌then◌else◌, length, Some, None, IsTrue, IsSome, IfSome, OnSome, OnOk, OnErr, IfOk, is_some, unwrap_or};
+ghost use Rattle.std.specs.Prelude.{◌≡◌, ℕ, ◌<◌, ◌==◌, ◌&&◌, false, true, if◌then◌else◌, length, Some, None, IsTrue, IsSome, IfSome, OnSome, OnOk, OnErr, IfOk, IsOk, is_some, unwrap_or};
 ghost use Rattle.std.specs.Bool.{OnTrue, OnFalse};
 ghost use Rattle.std.specs.Option.{option_copied, option_copied_mut};
 ghost use Rattle.std.specs.Borrow.{sem};
 ghost use Rattle.ddr_row_array.specs.Changes.{IsFresh, SameShape, SameBytes};
 ghost use Rattle.ddr_row_array.specs.Lending.{LendsOpenLine, LendsBurst};
-ghost use Rattle.ddr_row_array.specs.Rows.{bank_count, row_count, line_count, open_row, is_stored, cells, open_burst};
+ghost use Rattle.ddr_row_array.specs.Rows.{bank_count, row_count, line_count, is_row, open_row, is_stored, cells, open_burst};
+ghost use Rattle.ddr_row_array.specs.View.{place_of};
 ghost use Rattle.ddr_row_array.specs.Writes.{ChangesLineAlone, MergesLine};
 
 use crate::merge::merge;
@@ -24,6 +25,13 @@ struct OpenRow {
     slot: usize,
 }
 
+/// A stored row, and the slot that has its bytes.
+#[derive(Clone, Copy)]
+struct EnsuredRow {
+    address: RowAddress,
+    slot: usize,
+}
+
 /// The bytes of one rank's rows, and the open row of each bank.
 ///
 /// A bank is named by its number in the rank, group * 4 + bank. A row takes memory once `ensure`
@@ -38,6 +46,8 @@ pub struct RowArray {
     slots: Vec<Slot>,
     // Where each stored row stands among the slots.
     index: BTreeMap<RowAddress, usize>,
+    // The row that `ensure` was last called for, which is mostly the one that `activate` is called for next.
+    ensured: Option<EnsuredRow>,
 }
 
 impl Model for RowArray {
@@ -64,11 +74,12 @@ impl RowArray {
             opened: vec![in alloc; None; banks]?,
             slots: Vec::new(alloc),
             index: BTreeMap::new(alloc),
+            ensured: None,
         })
     }
 
     /// Makes the row's storage, with zeros, if it is not there. No byte changes, and nothing at
-    /// all where memory runs out.
+    /// all where memory runs out. A row that is stored takes no memory, and is never refused.
     pub fn ensure(&mut self, bank: u32, row: u32) -> Result<(), AllocError>
         requires bank_in { bank < bank_count self.old }
         requires row_in { row < row_count self.old }
@@ -81,16 +92,31 @@ impl RowArray {
         ensures bytes { (b r l : ℕ) → cells self.new b r l ≡ cells self.old b r l }
         ensures shape { SameShape self.old self.new }
         ensures err { OnErr result (self.new ≡ self.old) }
+        ensures stored { is_stored self.old bank row ≡ true → IsOk result }
     {
         let address = RowAddress { bank, row };
-        if self.index.contains_key(&address) {
+        if let Some(&slot) = self.index.get(&address) {
+            self.ensured = Some(EnsuredRow { address, slot });
             return Ok(());
         }
         let bytes = vec![in self.alloc; 0; self.geometry.columns as usize * 8]?;
         self.slots.reserve(1)?;
-        self.index.insert(address, self.slots.len())?;
+        let slot = self.slots.len();
+        self.index.insert(address, slot)?;
         self.slots.push(Slot { address, bytes })?;
+        self.ensured = Some(EnsuredRow { address, slot });
         Ok(())
+    }
+
+    /// The slot of a stored row.
+    fn slot_of(&self, address: RowAddress) -> usize
+        requires { IsTrue (is_stored self.now address.bank address.row) }
+        ensures { place_of (is_row address.bank address.row) self.now.stored ≡ Some result }
+    {
+        match self.ensured {
+            Some(ensured) if ensured.address == address => ensured.slot,
+            _ => self.index[&address],
+        }
     }
 
     /// Opens a stored row of an idle bank, so that bursts go to it (JESD79-4, "ACTIVATE
@@ -104,7 +130,7 @@ impl RowArray {
             → open_row self.new b ≡ (if b == bank then Some row else open_row self.old b) }
         ensures bytes { SameBytes self.old self.new }
     {
-        let slot = self.index[&RowAddress { bank, row }];
+        let slot = self.slot_of(RowAddress { bank, row });
         self.opened[bank as usize] = Some(OpenRow { row, slot });
     }
 

@@ -1,4 +1,4 @@
-use Rattle.std.proofs.Common.{refl, rules}
+use Rattle.std.proofs.Common.{None, refl, rules}
 use Rattle.ddr_row_array.specs.declared.row_array.RowArray.TheInside.{Inside}
 use Rattle.ddr_row_array.proofs.Fresh.{IsFresh-new}
 use Rattle.ddr_row_array.proofs.row_array.RowArray.open.Goals as goal
@@ -11,5 +11,6 @@ returns c =
       opened = c.in_ok-vec.field-0;
       slots = c.new.result;
       index = c.new-2.result;
+      ensured = None;
     } in
     IsFresh-new c.args.config.now made refl (c.in_ok-vec.ensures.items_if_clones_equal (λ y h. search rules)) c.new.ensures.items
