@@ -11,7 +11,7 @@ use Rattle.std.proofs.lemmas.List.Sorted.{IsPermutation-refl, IsPermutation-more
 use Rattle.std.proofs.lemmas.Option.{slice_get_within, get_or_from_slice_get}
 use Rattle.circular_buffer.proofs.Places.{slice_get-append_left, slice_get-append_right}
 use Rattle.ddr_timing.specs.declared.config.Config.{Config}
-use Rattle.ddr_timing.specs.declared.geometry.Digit.TheVariants.{Bank}
+use Rattle.ddr_timing.specs.declared.geometry.Digit.TheVariants.{Bank, Rank}
 use Rattle.ddr_timing.specs.declared.units.TheConstants.{CLOCK_STOP}
 use Rattle.ddr_trace.specs.declared.command.Command.{Command}
 use Rattle.ddr_trace.specs.declared.command.Entry.{Entry}
@@ -300,7 +300,11 @@ column_is Write p = refl
 bank_below : (config : Config) (p : Place) → IsServed config p → p.bank < 4
 bank_below config p is = (IsInRange-test config.geometry p is).digits Bank
 
--- requests to one line are requests to one group, bank, row and line of the row
+-- the rank of a place in the geometry is the one that is served
+rank_below : (config : Config) (p : Place) → IsServed config p → p.rank < 1
+rank_below config p is = (IsInRange-test config.geometry p is).digits Rank
+
+-- requests to one line are requests to one rank, group, bank, row and line of the row
 same_place : (config : Config) (address : LineAddress) (p q : Place) → IsServed config p → IsServed config q →
     is_same_line address (line_of p) ≡ true → is_same_line address (line_of q) ≡ true → hazards.is_same_line p q ≡ true
 same_place config address p q here there to_p to_q =
@@ -315,7 +319,10 @@ same_place config address p q here there to_p to_q =
     let line : p.line ≡ q.line = sym (eqb-true address.line p.line c.1) ∙ eqb-true address.line q.line d.1 in
     let group_is : p.group ≡ q.group = omega arith in
     let bank_is : p.bank ≡ q.bank = omega arith in
-    rw (eq-eqb p.group q.group group_is, eq-eqb p.bank q.bank bank_is, eq-eqb p.row q.row row, eq-eqb p.line q.line line) refl
+    let first = rank_below config p here in
+    let first' = rank_below config q there in
+    let rank_is : p.rank ≡ q.rank = omega arith in
+    rw (eq-eqb p.rank q.rank rank_is, eq-eqb p.group q.group group_is, eq-eqb p.bank q.bank bank_is, eq-eqb p.row q.row row, eq-eqb p.line q.line line) refl
 
 -- where no older pending request is to the line of a request, none is to that line
 none_older : (config : Config) (older : List Waiting) (w : Waiting) → All (λ v. IsServed config v.request.place) older → IsServed config w.request.place →
@@ -486,6 +493,7 @@ keeps_issued g (choice.Column place) law sound k after = keeps_column g place (s
 -- the whole invariant: of the configuration and the start as at open, and of the state and its history
 pub record IsKept (config : Config) (start : ℕ) (h : History) : Type 0 where
   pub config_is : h.state.config ≡ config
+  pub start_is : h.state.start ≡ start
   pub sound : IsSound h.state
   pub keeps : Keeps h.state.now h
 
@@ -520,6 +528,7 @@ kept_cycle config start h k =
     let keeps = keeps_issued (record h { state = at_choice h.state }) c (choice_lawful (situation_of (at_choice h.state))) (IsSound-at_choice h.state k.sound) (keeps_at_choice h k.keeps) sound in
     record {
       config_is = served_alike (λ t. t.config) (λ t place r. refl) c s ∙ k.config_is;
+      start_is = served_alike (λ t. t.start) (λ t place r. refl) c s ∙ k.start_is;
       sound = sound;
       keeps = subst (λ (g : History). Keeps (after_cycle h.state).now g) (owner_alike c h (after_cycle h.state))
           (subst (λ n. Keeps n (record (with_owner c (record h { state = at_choice h.state })) { state = after_cycle h.state })) (sym (ap (λ n. n + 1) (served_alike (λ t. t.now) (λ t place r. refl) c s))) keeps);
@@ -533,12 +542,14 @@ kept_if config start false old new k l = l
 pub kept_call : (config : Config) (start : ℕ) (h : History) (call : Call) → MayCall config call → IsKept config start h → IsKept config start (after_call h call)
 kept_call config start h (Admit r) may k = kept_if config start (is_queue_full h.state r.echo.kind) h _ k (record {
   config_is = k.config_is;
+  start_is = k.start_is;
   sound = IsSound-after_admit h.state r k.sound (subst (λ (c : Config). IsServed c r.place) (sym k.config_is) may);
   keeps = keeps_admit h.state.now h r k.keeps;
 })
 kept_call config start h Cycle may k = kept_if config start (eqb h.state.now CLOCK_STOP) h _ k (kept_cycle config start h k)
 kept_call config start h Pop may k = record {
   config_is = k.config_is;
+  start_is = k.start_is;
   sound = IsSound-after_pop h.state k.sound;
   keeps = keeps_pop h.state.now h k.keeps;
 }
@@ -550,6 +561,7 @@ kept_from config start h (call ∷ calls) may k = kept_from config start (after_
 pub kept_begun : (config : Config) (start : ℕ) → IsKept config start (begun config start)
 kept_begun config start = record {
   config_is = refl;
+  start_is = refl;
   sound = IsSound-opened config start;
   keeps = record {
     each_once = IsPermutation-refl [];

@@ -8,6 +8,7 @@ pub mod QueueLemmas
 pub mod IssueLemmas
 pub mod ServeLemmas
 pub mod CycleLemmas
+pub mod RoomLemmas
 pub mod ChannelLemmas
 pub mod StandsLemmas
 pub mod HeldLemmas

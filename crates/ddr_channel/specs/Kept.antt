@@ -1,4 +1,4 @@
--- What contracts see of a channel: its state, with the rows in place of the bytes of each line.
+-- What contracts see of a channel: its state, with the rows in place of the bytes of each line, and the trace's room.
 use Rattle.std.specs.Prelude.{◌≡◌, ℕ, ◌+◌, ◌*◌, ◌/◌, ◌<◌, Bool, List}
 use Rattle.ddr_timing.specs.declared.config.Config.{Config}
 use Rattle.ddr_timing.specs.declared.units.TheConstants.{GROUP_BANKS, LINE_COLUMNS}
@@ -19,6 +19,8 @@ pub record Kept : Type 0 where
   pub done : List Completion
   pub trace : List Entry
   pub rows : Rows
+  -- for how many further entries the trace has room
+  pub spare : ℕ
 
 -- the state that a channel is in
 abbrev pub state_of : Kept → State

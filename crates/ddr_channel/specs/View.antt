@@ -17,6 +17,7 @@ kept_of a = record {
   done = a.done.items;
   trace = a.legality.bus.trace;
   rows = a.rows;
+  spare = a.legality.spare;
 }
 
 -- what the fields keep, beside what every state does

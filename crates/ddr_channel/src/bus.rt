@@ -1,13 +1,15 @@
 //! The command of a cycle: room for it, and what issuing it makes of the command bus, the rows and the debt.
-ghost use Rattle.std.specs.Prelude.{◌≡◌, ℕ, ◌+◌, ◌*◌, ◌^◌, ◌≤◌, ◌<◌, true, None, IfSome, IsOk, OnOk};
+ghost use Rattle.std.specs.Prelude.{◌≡◌, ℕ, ◌+◌, ◌*◌, ◌^◌, ◌≤◌, ◌<◌, true, false, length, None, IfSome, IsOk, IsTrue, OnErr, OnOk};
+ghost use Rattle.std.specs.Option.{option_map_or};
 ghost use Rattle.ddr_timing.specs.declared.units.TheConstants.{GROUP_BANKS};
 ghost use Rattle.ddr_trace.specs.Commands.{is_refresh};
 ghost use Rattle.ddr_refresh.specs.Refreshes.{debt_of};
 ghost use Rattle.ddr_legality.specs.Bus.{broken_now, recorded};
 ghost use Rattle.ddr_row_array.specs.Changes.{SameBytes, SameShape};
-ghost use Rattle.ddr_row_array.specs.Rows.{bank_count, open_row, cells};
+ghost use Rattle.ddr_row_array.specs.Rows.{bank_count, open_row, is_stored, cells};
 ghost use Rattle.ddr_channel.specs.Issue.{IsReadyFor, MayFollow, bus_with, row_after, row_with, refreshes_after, refreshes_with};
 ghost use Rattle.ddr_channel.specs.Kept.{AgreesWith};
+ghost use Rattle.ddr_channel.specs.Room.{needs_memory};
 
 use ddr_legality::legality::Legality;
 use ddr_refresh::debt::Debt;
@@ -26,7 +28,7 @@ pub(crate) fn bank_number(group: u32, bank: u32) -> u32
 }
 
 /// Makes room for the entry of a command that is legal now, and for the bytes of the row that it opens. No byte and
-/// no open row changes.
+/// no open row changes. What is there already is not asked for.
 fn reserve_for(
     config: &Config,
     legality: &mut Legality,
@@ -37,6 +39,9 @@ fn reserve_for(
     requires legal { broken_now legality.old.bus command ≡ None }
     requires agrees { AgreesWith config.now legality.old.bus.trace rows.old }
     ensures ready { OnOk result (IsReadyFor legality.new.spare rows.new command) }
+    ensures memory { OnErr result (IsTrue (needs_memory legality.old.spare rows.old command)) }
+    ensures spare { legality.old.spare ≤ legality.new.spare }
+    ensures stored { (b r : ℕ) → IsTrue (is_stored rows.old b r) → IsTrue (is_stored rows.new b r) }
     ensures bus { legality.new.bus ≡ legality.old.bus }
     ensures opened { (b : ℕ) → open_row rows.new b ≡ open_row rows.old b }
     ensures bytes { (b r l : ℕ) → cells rows.new b r l ≡ cells rows.old b r l }
@@ -66,6 +71,9 @@ pub(crate) fn reserve(
     requires agrees { AgreesWith config.now legality.old.bus.trace rows.old }
     ensures ready { OnOk result (IfSome command (IsReadyFor legality.new.spare rows.new)) }
     ensures idle { command ≡ None → IsOk result }
+    ensures memory { OnErr result (IsTrue (option_map_or (needs_memory legality.old.spare rows.old) command false)) }
+    ensures spare { legality.old.spare ≤ legality.new.spare }
+    ensures stored { (b r : ℕ) → IsTrue (is_stored rows.old b r) → IsTrue (is_stored rows.new b r) }
     ensures bus { legality.new.bus ≡ legality.old.bus }
     ensures opened { (b : ℕ) → open_row rows.new b ≡ open_row rows.old b }
     ensures bytes { (b r l : ℕ) → cells rows.new b r l ≡ cells rows.old b r l }
@@ -127,6 +135,7 @@ fn issue_command(
     requires ready { IsReadyFor legality.old.spare rows.old command }
     requires due { is_refresh command ≡ true → 1 ≤ debt_of debt.old }
     ensures bus { legality.new.bus ≡ recorded command legality.old.bus }
+    ensures spare { legality.new.spare + length legality.new.bus.trace ≡ legality.old.spare + length legality.old.bus.trace }
     ensures agrees { AgreesWith config.now legality.new.bus.trace rows.new }
     ensures opened { (group bank : ℕ) → bank < GROUP_BANKS
         → open_row rows.new (group * GROUP_BANKS + bank) ≡ row_after group bank command (open_row rows.old (group * GROUP_BANKS + bank)) }
@@ -154,6 +163,7 @@ pub(crate) fn issue(
     requires ready { IfSome command (IsReadyFor legality.old.spare rows.old) }
     requires due { IfSome command (λ c. is_refresh c ≡ true → 1 ≤ debt_of debt.old) }
     ensures bus { legality.new.bus ≡ bus_with command legality.old.bus }
+    ensures spare { legality.new.spare + length legality.new.bus.trace ≡ legality.old.spare + length legality.old.bus.trace }
     ensures agrees { AgreesWith config.now legality.new.bus.trace rows.new }
     ensures opened { (group bank : ℕ) → bank < GROUP_BANKS
         → open_row rows.new (group * GROUP_BANKS + bank) ≡ row_with group bank command (open_row rows.old (group * GROUP_BANKS + bank)) }

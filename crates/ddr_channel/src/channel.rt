@@ -11,6 +11,7 @@ ghost use Rattle.ddr_channel.specs.Cycle.{at_choice, drained, after_cycle};
 ghost use Rattle.ddr_channel.specs.History.{Call, Admit, Cycle, Pop, run};
 ghost use Rattle.ddr_channel.specs.Kept.{state_of};
 ghost use Rattle.ddr_channel.specs.Promise.{StandsFor, IsNextAnswer};
+ghost use Rattle.ddr_channel.specs.Room.{KeepsRoom, wants_memory};
 ghost use Rattle.ddr_channel.specs.Sound.{IsServed};
 ghost use Rattle.ddr_channel.specs.State.{opened, after_admit, after_pop, is_queue_full};
 
@@ -96,6 +97,7 @@ impl Channel {
         ensures ok { OnOk result (state_of self.new ≡ after_admit request (state_of self.old)) }
         ensures full { IsErr result ↔ IsTrue (is_queue_full (state_of self.old) request.echo.kind) }
         ensures err { IfErr result (λ r. (r ≡ request) × (self.new ≡ self.old)) }
+        ensures room { KeepsRoom self.old self.new }
         ensures config { self.new.config ≡ self.old.config }
         ensures stands { (calls : List Call) → StandsFor self.old calls → StandsFor self.new (calls ++ Admit request ∷ []) }
     {
@@ -136,7 +138,7 @@ impl Channel {
 
     /// Makes the cycle `now`: what is due completes, the refresh debt and the drain mode go on, the command that is
     /// chosen is issued, and a column command moves its data. A refusal leaves the channel as it was. Memory is asked
-    /// for only where a command is issued.
+    /// for only where a command is issued for whose entry, or for whose row, there is no room.
     pub fn cycle(&mut self) -> Result<(), CycleError>
         ensures ok { OnOk result (state_of self.new ≡ after_cycle (state_of self.old)) }
         ensures spent { IsErrOf result ClockSpent ↔ (self.old.now ≡ CLOCK_STOP) }
@@ -144,6 +146,8 @@ impl Channel {
         ensures config { self.new.config ≡ self.old.config }
         ensures clock { OnOk result (self.new.now ≡ self.old.now + 1) }
         ensures idle { choice_of (at_choice (state_of self.old)) ≡ choice.Nothing → IsErrOf result OutOfMemory → ⊥ }
+        ensures memory { IsErrOf result OutOfMemory → IsTrue (wants_memory self.old) }
+        ensures room { KeepsRoom self.old self.new }
         ensures stands { OnOk result ((calls : List Call) → StandsFor self.old calls → StandsFor self.new (calls ++ Cycle ∷ [])) }
     {
         if self.legality.now() == CLOCK_STOP {
@@ -163,6 +167,8 @@ impl Channel {
         ensures config { self.new.config ≡ self.old.config }
         ensures clock { OnOk result (self.new.now ≡ self.old.now + 1) }
         ensures idle { choice_of (at_choice (state_of self.old)) ≡ choice.Nothing → IsOk result }
+        ensures memory { OnErr result (IsTrue (wants_memory self.old)) }
+        ensures room { KeepsRoom self.old self.new }
     {
         let now = self.legality.now();
         let mut debt = self.debt;
@@ -206,6 +212,7 @@ impl Channel {
     pub fn pop_done(&mut self) -> Option<Done>
         ensures first { result ≡ slice_get self.old.done 0 }
         ensures rest { state_of self.new ≡ after_pop (state_of self.old) }
+        ensures room { KeepsRoom self.old self.new }
         ensures right { (calls : List Call) → StandsFor self.old calls
             → IfSome result (IsNextAnswer (run self.old.config self.old.start calls)) }
         ensures config { self.new.config ≡ self.old.config }

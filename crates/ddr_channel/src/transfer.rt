@@ -2,7 +2,7 @@
 ghost use Rattle.std.specs.Prelude.{◌≡◌, ℕ, ◌<◌, ◌^◌, Some, length, IfSome};
 ghost use Rattle.ddr_timing.specs.declared.units.TheConstants.{CLOCK_STOP};
 ghost use Rattle.ddr_row_array.specs.Changes.{SameShape};
-ghost use Rattle.ddr_row_array.specs.Rows.{line_count, open_row, cells};
+ghost use Rattle.ddr_row_array.specs.Rows.{line_count, open_row, is_stored, cells};
 ghost use Rattle.ddr_arbiter.specs.Laws.{column_place_of};
 ghost use Rattle.ddr_channel.specs.Cycle.{completion_at, cells_after, served_by};
 ghost use Rattle.ddr_channel.specs.Memory.{bank_number};
@@ -30,6 +30,7 @@ fn transfer(rows: &mut RowArray, config: &Config, now: u64, request: Req) -> Don
     ensures bytes { (b r l : ℕ) → cells rows.new b r l
         ≡ cells_after request (λ a. cells rows.old a.bank a.row a.line) (record { bank = b; row = r; line = l }) }
     ensures opened { (b : ℕ) → open_row rows.new b ≡ open_row rows.old b }
+    ensures stored { (b r : ℕ) → is_stored rows.new b r ≡ is_stored rows.old b r }
     ensures shape { SameShape rows.old rows.new }
 {
     let Req {
@@ -78,6 +79,7 @@ pub(crate) fn serve(
     ensures limits { (pending.new.read_limit ≡ pending.old.read_limit) × (pending.new.write_limit ≡ pending.old.write_limit) }
     ensures capacity { flight.new.capacity ≡ flight.old.capacity }
     ensures opened { (b : ℕ) → open_row rows.new b ≡ open_row rows.old b }
+    ensures stored { (b r : ℕ) → is_stored rows.new b r ≡ is_stored rows.old b r }
     ensures shape { SameShape rows.old rows.new }
 {
     let Choice::Column { place } = choice else {

@@ -1,5 +1,5 @@
 //! What was issued on a channel's command bus, and what may be issued next.
-ghost use Rattle.std.specs.Prelude.{◌≡◌, ◌+◌, ◌-◌, ◌<◌, ◌≤◌, ◌↔◌, [], ◌∷◌, ◌++◌, None, Some, IsOk, IfOk, OnOk, MatchResult};
+ghost use Rattle.std.specs.Prelude.{◌≡◌, ◌+◌, ◌-◌, ◌<◌, ◌≤◌, ◌↔◌, [], ◌∷◌, ◌++◌, None, Some, IsOk, IfOk, OnErr, OnOk, MatchResult};
 ghost use Rattle.ddr_timing.specs.declared.units.TheConstants.{CLOCK_STOP};
 ghost use Rattle.ddr_trace.specs.Bus.{KeepsBus};
 ghost use Rattle.ddr_trace.specs.Commands.{entry};
@@ -81,11 +81,16 @@ impl Legality {
         }
     }
 
-    /// Makes room for one more entry.
+    /// Makes room for one more entry. Where there is room, nothing is asked for and nothing changes.
     pub fn reserve_entry(&mut self) -> Result<(), AllocError>
         ensures same { self.new.bus ≡ self.old.bus }
         ensures room { OnOk result (1 ≤ self.new.spare) }
+        ensures ready { 1 ≤ self.old.spare → IsOk result × (self.new ≡ self.old) }
+        ensures err { OnErr result (self.new ≡ self.old) }
     {
+        if self.entries.len() < self.entries.capacity() {
+            return Ok(());
+        }
         self.entries.reserve(1)
     }
 

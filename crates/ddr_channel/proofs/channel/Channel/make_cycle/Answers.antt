@@ -1,5 +1,5 @@
 -- The five steps of a cycle: what is due completes, the debt and the mode go on, the choice is issued, and the clock.
-use Rattle.std.proofs.Common.{◌≡◌, ◌++◌, None, Result, Ok, Err, OnErr, IfSome, not, eqb, refl, sym, ap, subst, ◌∙◌, arith}
+use Rattle.std.proofs.Common.{◌≡◌, ◌++◌, None, Result, Ok, Err, OnErr, IfSome, IsTrue, not, eqb, length, refl, sym, ap, subst, ◌∙◌, arith}
 use Rattle.std.specs.List.{filter}
 use Rattle.circular_buffer.specs.Buffer.{Buffer}
 use Rattle.ddr_legality.specs.Bus.{Bus, broken_now, ticked}
@@ -8,8 +8,11 @@ use Rattle.ddr_channel.specs.Choice.{choice_of}
 use Rattle.ddr_channel.specs.Cycle.{at_choice, recorded, after_cycle}
 use Rattle.ddr_channel.specs.Issue.{bus_with, refreshes_with}
 use Rattle.ddr_channel.specs.Kept.{Kept, state_of, AgreesWith}
-use Rattle.ddr_channel.proofs.CycleLemmas.{choosing, chosen_legal, chosen_due, chosen_room, chosen_served, Made, state_after, whole_after, state_refused}
+use Rattle.ddr_channel.specs.Room.{KeepsRoom, wants_memory}
+use Rattle.ddr_channel.specs.View.{kept_of}
+use Rattle.ddr_channel.proofs.CycleLemmas.{choosing, chosen_legal, chosen_due, chosen_room, chosen_served, Made, after, state_after, whole_after, state_refused}
 use Rattle.ddr_channel.proofs.IssueLemmas.{agrees_ready}
+use Rattle.ddr_channel.proofs.RoomLemmas.{wanted}
 use Rattle.ddr_channel.proofs.channel.Channel.make_cycle.Goals as goal
 
 pub reserve-requires-clause-legal : goal.reserve-requires-clause-legal
@@ -24,6 +27,19 @@ on_err (Err e) P holds = holds
 pub returns-in_err-reserve-clause-err : goal.returns-in_err-reserve-clause-err
 returns-in_err-reserve-clause-err c =
     on_err c.from_residual.result _ (state_refused c.self.inside c.reserve.new.legality c.reserve.new.rows c.reserve.ensures.bus c.reserve.ensures.bytes ∙ ap state_of c.self.view_is)
+
+pub returns-in_err-reserve-clause-memory : goal.returns-in_err-reserve-clause-memory
+returns-in_err-reserve-clause-memory c =
+    let chosen = c.choice-choice.ensures ∙ ap (λ (k : Kept). choice_of (at_choice (state_of k))) (sym c.self.view_is) in
+    on_err c.from_residual.result _ (subst (λ (k : Kept). IsTrue (wants_memory k)) c.self.view_is
+    (wanted c.self.inside c.choice-choice.result c.command_of-command.result chosen c.command_of-command.ensures c.in_err-reserve.ensures.memory))
+
+pub returns-in_err-reserve-clause-room : goal.returns-in_err-reserve-clause-room
+returns-in_err-reserve-clause-room c =
+    subst (λ (k : Kept). KeepsRoom k (kept_of (record c.self.inside { legality = c.reserve.new.legality; rows = c.reserve.new.rows }))) c.self.view_is (record {
+      stored = c.reserve.ensures.stored;
+      entries = omega (arith, c.reserve.ensures.spare, ap (λ (b : Bus). length b.trace) c.reserve.ensures.bus);
+    })
 
 pub issue-requires-clause-legal : goal.issue-requires-clause-legal
 issue-requires-clause-legal c =
@@ -110,3 +126,12 @@ returns-clause-ok c =
     } in
     state_after a c.choice-choice.result command c.serve.new.pending c.next_drain-drain.result c.issue.new.debt c.serve.new.flight c.complete.new.done c.tick-2.new.self c.serve.new.rows made
     ∙ ap (λ (k : Kept). after_cycle (state_of k)) c.self.view_is
+
+pub returns-clause-room : goal.returns-clause-room
+returns-clause-room c =
+    let traced = ap (λ (b : Bus). length b.trace) c.tick-2.ensures.bus in
+    let reserved = ap (λ (b : Bus). length b.trace) c.reserve.ensures.bus in
+    subst (λ (k : Kept). KeepsRoom k (kept_of (after c.self.inside c.serve.new.pending c.next_drain-drain.result c.issue.new.debt c.serve.new.flight c.complete.new.done c.tick-2.new.self c.serve.new.rows))) c.self.view_is (record {
+      stored = λ bank row is. c.serve.ensures.stored bank row ∙ c.issue.ensures.bytes.stored bank row ∙ c.reserve.ensures.stored bank row is;
+      entries = omega (arith, c.reserve.ensures.spare, reserved, c.issue.ensures.spare, c.tick-2.ensures.spare, traced);
+    })
