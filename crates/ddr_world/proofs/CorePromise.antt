@@ -12,6 +12,7 @@ use Rattle.std.proofs.Math.Seq.{take-append_seam}
 use Rattle.circular_buffer.proofs.Places.{below_or_not, slice_get-some, slice_get-set_same, slice_get-set_other}
 use Rattle.ddr_address_map.specs.Requests.{Request, Completion}
 use Rattle.ddr_channel.proofs.HeldLemmas.{weigh_done, part_of_sum}
+use Rattle.ddr_channel.proofs.HistoryLemmas.{kept_run}
 use Rattle.ddr_channel.proofs.ListLemmas.{All-at}
 use Rattle.ddr_channel.proofs.PromiseLemmas.{promise_kept}
 use Rattle.ddr_arbiter.proofs.LawLemmas.{choice_lawful}
@@ -264,6 +265,10 @@ promise_from o h k = record {
   lent = λ p. lent_by o h p (slice_get h.state.ports p) (front_of h.state p) k refl refl;
   counted = λ p side is. (let keeps = k.ports p side is in record { accepted = keeps.accepted_are; taken = keeps.taken_are; outstanding = keeps.counted });
   admitted = λ c. admitted o h c k;
+  opened = λ c side is.
+      (let keeps = k.channels c side is in
+      let kept = kept_run o.config o.cycle keeps.calls keeps.calls_are in
+      (ap (λ (s : channel_state.State). s.config) keeps.state ∙ kept.config_is, ap (λ (s : channel_state.State). s.start) keeps.state ∙ kept.start_is));
   legal = λ c side is.
       (let keeps = k.channels c side is in
       subst (λ (s : channel_state.State). IsLegal s.config s.start s.now s.trace) (sym keeps.state) (promise_kept o.config o.cycle keeps.calls keeps.calls_are).legal);

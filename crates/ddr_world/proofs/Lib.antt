@@ -1,3 +1,4 @@
+pub mod AllLemmas
 mod SideLemmas
 mod StepLemmas
 mod StandsLemmas

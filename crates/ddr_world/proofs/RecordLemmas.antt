@@ -1,17 +1,21 @@
 -- What users of the calls have of the promise, for every record that a core stands for.
-use Rattle.std.proofs.Common.{◌≡◌, ℕ, suc, ◌+◌, List, [], ◌∷◌, Option, Some, None, IfSome, map, length, refl, sym, ap, ap₂, subst, ◌∙◌, arith}
-use Rattle.std.specs.List.{slice_get, range_with_len}
-use Rattle.std.specs.Option.{option_map, option_and_then}
+use Rattle.std.proofs.Common.{◌≡◌, ℕ, suc, ◌+◌, List, [], ◌∷◌, Option, Some, None, IfSome, map, length, refl, sym, ap, ap₂, subst, subst₂, ◌∙◌, arith}
+use Rattle.std.specs.List.{AllByRecursion, slice_get, range_with_len}
+use Rattle.std.specs.Option.{IsSomeAnd, option_map, option_and_then}
+use Rattle.std.proofs.lemmas.List.{length-map}
+use Rattle.std.proofs.lemmas.Option.{slice_get-map}
+use Rattle.ddr_trace.specs.Legality.{IsLegal}
 use Rattle.ddr_channel.proofs.ListLemmas.{All-at}
 use Rattle.ddr_reorder.specs.declared.reply.Reply.{Reply}
 use Rattle.ddr_reorder.specs.Replies.{Answer, said, nth_answer}
-use Rattle.ddr_world.specs.Close.{GaveAll}
-use Rattle.ddr_world.specs.History.{front_of, run}
-use Rattle.ddr_world.specs.Kept.{Kept, Left, state_of}
-use Rattle.ddr_world.specs.Promise.{replies_of_port}
+use Rattle.ddr_world.specs.Close.{trace_of, IsLegalTrace, GaveAll}
+use Rattle.ddr_world.specs.History.{Opening, History, front_of, run}
+use Rattle.ddr_world.specs.Kept.{KeptSide, Kept, Left, side_of, state_of}
+use Rattle.ddr_world.specs.Promise.{replies_of_port, KeepsPromise}
 use Rattle.ddr_world.specs.Record.{IsNext}
-use Rattle.ddr_world.specs.State.{PortSide, State, IsPortDrained, IsDrained}
+use Rattle.ddr_world.specs.State.{PortSide, ChannelSide, State, IsPortDrained, IsDrained}
 use Rattle.ddr_world.proofs.CorePromise.{core_keeps_promise}
+use Rattle.ddr_world.proofs.CoreRuns.{run_keeps}
 
 -- the reply that is lent is the next one of the port
 pub lent_is_next : (k : Kept) (p : ℕ) (side : PortSide) (result : Option Reply) → slice_get k.ports p ≡ Some side → option_map said result ≡ nth_answer side.core.reorder 0 → IfSome result (λ reply. IsNext k p (said reply))
@@ -27,12 +31,29 @@ told_by_index : {X : Type 0} (f : X → ℕ) (g : ℕ → ℕ) (a : ℕ) (xs : L
 told_by_index f g a [] told = refl
 told_by_index f g a (x ∷ xs) told = ap₂ ◌∷◌ (told 0 x refl ∙ ap g (omega arith)) (told_by_index f g (a + 1) xs (λ i y is. told (suc i) y is ∙ ap g (omega arith)))
 
+-- each trace is there, and is legal where that of its channel is
+each_trace : (o : Opening) (sides : List KeptSide) → ((c : ℕ) (side : KeptSide) → slice_get sides c ≡ Some side → IsLegalTrace o (trace_of side))
+    → AllByRecursion (λ t. IsSomeAnd t (IsLegalTrace o)) (map (λ side. Some (trace_of side)) sides)
+each_trace o [] told = tt
+each_trace o (side ∷ sides) told = (told 0 side refl, each_trace o sides (λ c later is. told (suc c) later is))
+
+-- that of a channel begins with the core's first cycle and is legal under its configuration
+trace_legal : (o : Opening) (h : History) (c : ℕ) (side : KeptSide) → KeepsPromise o h → slice_get h.state.channels c ≡ Some (side_of side) → IsLegalTrace o (trace_of side)
+trace_legal o h c side promise there =
+    let opened = promise.opened c (side_of side) there in
+    record {
+      start = opened.1;
+      legal = subst₂ (λ config start. IsLegal config start side.channel.now side.channel.trace) opened.0 opened.1 (promise.legal c (side_of side) there);
+    }
+
 -- a drained core that is closed gave all
-pub closed_gave_all : (k : Kept) (left : Left) → IsDrained (state_of k) → left.accepted ≡ map (λ side. side.accepted) k.ports → left.taken ≡ map (λ side. side.taken) k.ports → GaveAll k left
-closed_gave_all k left drained accepted taken opening events stands =
+pub closed_gave_all : (k : Kept) (left : Left) → IsDrained (state_of k) → left.accepted ≡ map (λ side. side.accepted) k.ports → left.taken ≡ map (λ side. side.taken) k.ports
+    → left.traces ≡ map (λ side. Some (trace_of side)) k.channels → GaveAll k left
+closed_gave_all k left drained accepted taken traces opening events stands =
     let h = run opening events in
     let promise = core_keeps_promise opening events in
     let ports : k.ports ≡ h.state.ports = ap (λ (s : State). s.ports) stands.state in
+    let channels : map side_of k.channels ≡ h.state.channels = ap (λ (s : State). s.channels) stands.state in
     let all : IsDrained h.state = subst IsDrained stands.state drained in
     record {
       finished = promise.finished all;
@@ -44,4 +65,7 @@ closed_gave_all k left drained accepted taken opening events stands =
           let empty = All-at IsPortDrained h.state.ports p side all.ports is in
           let same : side.taken ≡ length (h.sent p) = omega (arith, counted.taken, counted.outstanding, empty.outstanding) in
           same ∙ ap (λ n. length (h.sent n)) (omega arith));
+      channels = ap length traces ∙ length-map k.channels (λ (side : KeptSide). Some (trace_of side)) ∙ sym (length-map k.channels side_of) ∙ ap length channels ∙ (run_keeps opening events).channels_are;
+      traces = subst (AllByRecursion (λ t. IsSomeAnd t (IsLegalTrace opening))) (sym traces) (each_trace opening k.channels (λ c side is.
+          trace_legal opening h c side promise (ap (λ (sides : List ChannelSide). slice_get sides c) (sym channels) ∙ slice_get-map side_of k.channels c ∙ ap (option_map side_of) is)));
     }

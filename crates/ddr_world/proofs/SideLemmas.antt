@@ -11,19 +11,17 @@ use Rattle.ddr_timing.specs.declared.config.Config.{Config}
 use Rattle.ddr_timing.specs.declared.units.TheConstants.{CLOCK_STOP}
 use Rattle.ddr_address_map.specs.declared.request.Kind.{Kind}
 use Rattle.ddr_address_map.specs.declared.request.Kind.TheVariants.{Read, Write}
-use Rattle.ddr_arbiter.specs.declared.choice.Choice.TheVariants as choice
 use Rattle.ddr_channel.specs.declared.channel.CycleError.{CycleError}
 use Rattle.ddr_channel.specs.declared.channel.CycleError.TheVariants.{ClockSpent, OutOfMemory}
-use Rattle.ddr_channel.specs.Choice.{choice_of}
-use Rattle.ddr_channel.specs.Cycle.{at_choice, after_cycle}
+use Rattle.ddr_channel.specs.Cycle.{after_cycle}
 use Rattle.ddr_channel.specs.Kept as channel
+use Rattle.ddr_channel.specs.Room.{wants_memory}
 use Rattle.ddr_channel.specs.State as channel_state
 use Rattle.ddr_channel.specs.State.{is_queue_full}
 use Rattle.ddr_world.specs.declared.event.Refusal.{Refusal}
 use Rattle.ddr_world.specs.declared.event.Refusal.TheVariants as refusal
 use Rattle.ddr_world.specs.declared.item.Item.{Item}
 use Rattle.ddr_world.specs.declared.channel_side.ChannelSide.TheInside.{Inside}
-use Rattle.ddr_world.specs.Answer.{Issues}
 use Rattle.ddr_world.specs.Kept.{KeptSide, side_of}
 use Rattle.ddr_world.specs.Refusals.{cycle_refusal_from}
 use Rattle.ddr_world.specs.Step.{cycled}
@@ -67,9 +65,9 @@ cycled_ok side k (Ok x) is spent =
     ∙ ap (λ (s : channel_state.State). Ok (record (side_of side) { channel = s })) (sym is)
 cycled_ok side k (Err e) is spent = tt
 
--- a cycle that was refused for want of memory would have issued a command
-pub wanted : {T U : Type 0} (s : channel_state.State) (e : CycleError) (r : Result T Refusal) → (choice_of (at_choice s) ≡ choice.Nothing → IsErrOf {T = U} {E = CycleError} (Err e) OutOfMemory → ⊥)
-    → IsErrAnd r (λ cause. cause ≡ cycle_refusal_from e) → IfErr r (λ cause. cause ≡ refusal.OutOfMemory → Issues s)
-wanted s e (Ok x) idle is = absurd is
-wanted s ClockSpent (Err cause) idle is = λ memory. absurd (let clock : refusal.ClockSpent ≡ refusal.OutOfMemory = sym is ∙ memory in cc)
-wanted s OutOfMemory (Err cause) idle is = λ memory nothing. idle nothing refl
+-- a cycle that was refused for want of memory would have issued a command for which there is no room
+pub wanted : {T U : Type 0} (k : channel.Kept) (e : CycleError) (r : Result T Refusal) → (IsErrOf {T = U} {E = CycleError} (Err e) OutOfMemory → IsTrue (wants_memory k))
+    → IsErrAnd r (λ cause. cause ≡ cycle_refusal_from e) → IfErr r (λ cause. cause ≡ refusal.OutOfMemory → IsTrue (wants_memory k))
+wanted k e (Ok x) wants is = absurd is
+wanted k ClockSpent (Err cause) wants is = λ memory. absurd (let clock : refusal.ClockSpent ≡ refusal.OutOfMemory = sym is ∙ memory in cc)
+wanted k OutOfMemory (Err cause) wants is = λ memory. wants refl

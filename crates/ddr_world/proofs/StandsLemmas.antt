@@ -1,26 +1,47 @@
 -- A core that stands for a record stands, after one more event, for that record and the event.
-use Rattle.std.proofs.Common.{◌≡◌, ℕ, ◌+◌, ◌<◌, length, take, get_or, Bool, cond, List, [], ◌∷◌, ◌++◌, map, count_by, Result, Ok, Err, is_ok, is_err, refl, sym, ap, subst, ◌∙◌, arith}
-use Rattle.std.specs.List.{fold}
+use Rattle.std.proofs.Common.{◌≡◌, ℕ, ◌+◌, ◌<◌, length, take, get_or, Bool, cond, List, [], ◌∷◌, ◌++◌, map, count_by, Result, Ok, Err, is_ok, is_err, refl, sym, ap, subst, ◌∙◌, arith, false, Option, Some, None, IfSome, IsTrue}
+use Rattle.std.specs.List.{fold, slice_get}
+use Rattle.std.specs.Option.{option_map, option_map_or}
+use Rattle.std.proofs.lemmas.Bool.{false≢true}
+use Rattle.std.proofs.lemmas.Option.{slice_get-map}
+use Rattle.ddr_arbiter.specs.declared.choice.Choice.{Choice}
+use Rattle.ddr_arbiter.specs.Laws.{command_of}
+use Rattle.ddr_channel.specs.Room.{needs_memory, wants_memory}
 use Rattle.std.proofs.lemmas.List.{append_assoc, append-nil, map-append, map_more}
 use Rattle.std.proofs.lemmas.List.Sums.{sum_by-append, fold-append}
 use Rattle.ddr_world.specs.declared.event.Outcome.{Outcome}
 use Rattle.ddr_world.specs.declared.event.Refusal.{Refusal}
-use Rattle.ddr_world.specs.Answer.{IsAnswered}
+use Rattle.ddr_world.specs.Answer.{IsAnswered, Issues, MayWantMemory, WantsMemory}
 use Rattle.ddr_world.specs.declared.event.Event as given
-use Rattle.ddr_world.specs.Events.{Event, event_of}
+use Rattle.ddr_world.specs.Events.{Event, Submit, Take, Cycle, Deliver, Collect, Release, End, event_of}
 use Rattle.ddr_world.specs.History.{Opening, Answered, History, begun, after, after_answer, after_step, run}
-use Rattle.ddr_world.specs.Kept.{Kept, state_of}
+use Rattle.ddr_world.specs.Kept.{KeptSide, Kept, side_of, state_of}
 use Rattle.ddr_world.specs.Record.{MayAnswer, IsRecord, StandsFor, RunsTo}
-use Rattle.ddr_world.specs.State.{State, opened}
+use Rattle.ddr_world.specs.State.{ChannelSide, State, opened}
 use Rattle.ddr_world.specs.Step.{Step, step}
 
 record_more : (h : History) (events : List Answered) (a : Answered) → IsRecord h events → MayAnswer (fold after h events).state a.event a.answer → IsRecord h (events ++ a ∷ [])
 record_more h [] a is may = (may, tt)
 record_more h (first ∷ later) a is may = (is.0, record_more (after h first) later a is.1 may)
 
+-- what finds no room is a command
+issued : (x : Option KeptSide) → IfSome x (λ side. IsTrue (wants_memory side.channel)) → IfSome (option_map side_of x) (λ side. Issues side.channel)
+issued None wants = tt
+issued (Some side) wants = λ nothing.
+    false≢true (subst (λ (c : Choice). IsTrue (option_map_or (needs_memory side.channel.spare side.channel.rows) (command_of side.channel.pending c) false)) nothing wants)
+
+may_want : (k : Kept) (event : Event) → WantsMemory k event → MayWantMemory (state_of k) event
+may_want k (Submit p asked) wants = tt
+may_want k (Take c) wants = tt
+may_want k (Cycle c) wants = subst (λ (x : Option ChannelSide). IfSome x (λ side. Issues side.channel)) (sym (slice_get-map side_of k.channels c)) (issued (slice_get k.channels c) wants)
+may_want k (Deliver c) wants = tt
+may_want k (Collect p) wants = tt
+may_want k (Release p) wants = tt
+may_want k (End p c) wants = tt
+
 may_answer : (s : State) (k k' : Kept) (event : Event) (answer : Result Outcome Refusal) → state_of k ≡ s → IsAnswered k k' event answer → MayAnswer s event answer
 may_answer s k k' event (Ok o) is answered = (state_of k', ap (λ (t : State). step t event) (sym is) ∙ answered.ok)
-may_answer s k k' event (Err cause) is answered = subst (λ (t : State). MayAnswer t event (Err cause)) is (answered.refused, answered.memory)
+may_answer s k k' event (Err cause) is answered = subst (λ (t : State). MayAnswer t event (Err cause)) is (answered.refused, λ memory. may_want k event (answered.memory memory))
 
 state_after : (h : History) (k k' : Kept) (event : Event) (answer : Result Outcome Refusal) → state_of k ≡ h.state → IsAnswered k k' event answer → state_of k' ≡ (after_answer h event answer).state
 state_after h k k' event (Ok o) is answered =

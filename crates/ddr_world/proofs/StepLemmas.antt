@@ -1,5 +1,5 @@
 -- What an event makes of the fields of the core.
-use Rattle.std.proofs.Common.{◌≡◌, ◌≤◌, ℕ, Bool, true, false, not, cond, eqb, List, Option, Some, None, IfSome, Result, Ok, Err, length, refl, sym, ap, ap₂, subst, ◌∙◌}
+use Rattle.std.proofs.Common.{◌≡◌, ◌≤◌, ℕ, Bool, true, false, not, cond, eqb, List, Option, Some, None, IfSome, Result, Ok, Err, length, refl, sym, ap, ap₂, subst, ◌∙◌, IsTrue}
 use Rattle.std.specs.List.{slice_get, slice_set}
 use Rattle.std.specs.Option.{option_map, option_map_or, unwrap_or}
 use Rattle.std.proofs.lemmas.List.{map-set, set-get_or}
@@ -17,7 +17,8 @@ use Rattle.ddr_world.specs.declared.event.Outcome.TheVariants as outcome
 use Rattle.ddr_world.specs.declared.event.Refusal.{Refusal}
 use Rattle.ddr_world.specs.declared.event.Refusal.TheVariants as refusal
 use Rattle.ddr_world.specs.declared.item.Item.TheVariants as item
-use Rattle.ddr_world.specs.Answer.{IsRefused, Issues, MayWantMemory, IsAnswered}
+use Rattle.ddr_world.specs.Answer.{IsRefused, WantsMemory, IsAnswered}
+use Rattle.ddr_channel.specs.Room.{wants_memory}
 use Rattle.ddr_world.specs.Events.{Event, Submit, Take, Cycle, Deliver, Collect, Release, End}
 use Rattle.ddr_world.specs.Kept.{KeptSide, Kept, side_of, state_of}
 use Rattle.ddr_world.specs.Refusals.{refusal_from}
@@ -75,14 +76,14 @@ no_want_cycle : (s : State) (c : ℕ) (x : Option ChannelSide) → option_map_or
 no_want_cycle s c None is = cc
 no_want_cycle s c (Some side) is = no_want_clock s c side (eqb side.channel.now CLOCK_STOP) is
 
-no_want : (s : State) (event : Event) (cause : Refusal) → step s event ≡ Err cause → cause ≡ refusal.OutOfMemory → MayWantMemory s event
-no_want s (Submit p asked) cause is memory = tt
-no_want s (Take c) cause is memory = tt
-no_want s (Cycle c) cause is memory = absurd (no_want_cycle s c (slice_get s.channels c) (is ∙ ap (λ (name : Refusal). Err name) memory))
-no_want s (Deliver c) cause is memory = tt
-no_want s (Collect p) cause is memory = tt
-no_want s (Release p) cause is memory = tt
-no_want s (End p c) cause is memory = tt
+no_want : (k : Kept) (event : Event) (cause : Refusal) → step (state_of k) event ≡ Err cause → cause ≡ refusal.OutOfMemory → WantsMemory k event
+no_want k (Submit p asked) cause is memory = tt
+no_want k (Take c) cause is memory = tt
+no_want k (Cycle c) cause is memory = absurd (no_want_cycle (state_of k) c (slice_get (state_of k).channels c) (is ∙ ap (λ (name : Refusal). Err name) memory))
+no_want k (Deliver c) cause is memory = tt
+no_want k (Collect p) cause is memory = tt
+no_want k (Release p) cause is memory = tt
+no_want k (End p c) cause is memory = tt
 
 pub answered : (k k' : Kept) (event : Event) (o : Outcome) (s : State) → step (state_of k) event ≡ made s o → state_of k' ≡ s → k'.config ≡ k.config → IsAnswered k k' event (Ok o)
 answered k k' event o s is state config = record { ok = is ∙ ap (λ t. made t o) (sym state); refused = tt; memory = tt; err = tt; config = config }
@@ -91,7 +92,7 @@ pub refused : (k k' : Kept) (event : Event) (cause : Refusal) → step (state_of
 refused k k' event cause is state config = record {
   ok = tt;
   refused = is_refused event cause (step (state_of k) event) is;
-  memory = no_want (state_of k) event cause is;
+  memory = no_want k event cause is;
   err = state;
   config = config;
 }
@@ -120,13 +121,13 @@ refused_for s c o cause (Err name) is = is
 
 -- a cycle, which want of memory may stop too
 pub cycle_refused : (k : Kept) (c : ℕ) (old new : KeptSide) (o : Outcome) (cause : Refusal) (f : ChannelSide → Result ChannelSide Refusal)
-    → step (state_of k) (Cycle c) ≡ at_channel (state_of k) c (λ side. change_channel (state_of k) c o (f side)) → slice_get k.channels c ≡ Some old → IsRefusedFor cause (f (side_of old)) → (cause ≡ refusal.OutOfMemory → Issues (side_of old).channel)
+    → step (state_of k) (Cycle c) ≡ at_channel (state_of k) c (λ side. change_channel (state_of k) c o (f side)) → slice_get k.channels c ≡ Some old → IsRefusedFor cause (f (side_of old)) → (cause ≡ refusal.OutOfMemory → IsTrue (wants_memory old.channel))
     → side_of new ≡ side_of old
     → IsAnswered k (record k { channels = slice_set k.channels c new }) (Cycle c) (Err cause)
 cycle_refused k c old new o cause f is there refused_is wanted same = record {
   ok = tt;
   refused = subst (IsRefusedFor cause) (sym (is ∙ at_channel_is k c old (λ side. change_channel (state_of k) c o (f side)) there)) (refused_for (state_of k) c o cause (f (side_of old)) refused_is);
-  memory = λ memory. subst (λ (x : Option ChannelSide). IfSome x (λ side. Issues side.channel)) (sym (slice_get-map side_of k.channels c ∙ ap (option_map side_of) there)) (wanted memory);
+  memory = λ memory. subst (λ (x : Option KeptSide). IfSome x (λ side. IsTrue (wants_memory side.channel))) (sym there) (wanted memory);
   err = channel_same k c old new there same;
   config = refl;
 }

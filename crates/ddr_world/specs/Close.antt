@@ -1,6 +1,8 @@
 -- What is left of a core that was closed.
 use Rattle.std.specs.Prelude.{◌≡◌, List, ℕ, length, map, Some}
-use Rattle.std.specs.List.{range_with_len}
+use Rattle.std.specs.List.{AllByRecursion, range_with_len}
+use Rattle.std.specs.Option.{IsSomeAnd}
+use Rattle.ddr_trace.specs.Legality.{IsLegal}
 use Rattle.ddr_trace.specs.Traces.{Recorded}
 use Rattle.ddr_world.specs.History.{Opening, Answered, History, run}
 use Rattle.ddr_world.specs.Kept.{KeptSide, Kept, Left}
@@ -21,12 +23,20 @@ pub record IsLeftOf (k : Kept) (left : Left) : Type 0 where
 abbrev pub counts_of : History → List ℕ
 counts_of h = map (λ p. length (h.sent p)) (range_with_len 0 (length h.state.ports))
 
--- the record is finished, and the counts are those of its accepted requests: as many replies were taken
-pub record IsWhole (h : History) (left : Left) : Type 0 where
+-- the trace begins with the core's first cycle, and is legal to its end under the configuration that the core was opened with
+pub record IsLegalTrace (o : Opening) (t : Recorded) : Type 0 where
+  pub start : t.start ≡ o.cycle
+  pub legal : IsLegal o.config o.cycle t.end t.entries
+
+-- the record is finished, and the counts are those of its accepted requests: as many replies were taken; each channel's
+-- trace is there and legal
+pub record IsWhole (o : Opening) (h : History) (left : Left) : Type 0 where
   pub finished : IsFinished h
   pub accepted : left.accepted ≡ counts_of h
   pub taken : left.taken ≡ counts_of h
+  pub channels : length left.traces ≡ o.config.geometry.channels
+  pub traces : AllByRecursion (λ t. IsSomeAnd t (IsLegalTrace o)) left.traces
 
 -- so it is for every record that the core stood for
 abbrev pub GaveAll : Kept → Left → Type 0
-GaveAll k left = (opening : Opening) (events : List Answered) → StandsFor k opening events → IsWhole (run opening events) left
+GaveAll k left = (opening : Opening) (events : List Answered) → StandsFor k opening events → IsWhole opening (run opening events) left

@@ -108,6 +108,8 @@ pub record KeepsPromise (o : Opening) (h : History) : Type 0 where
   pub counted : (p : ℕ) (side : PortSide) → slice_get h.state.ports p ≡ Some side → IsCounted h p side
   -- each channel admitted the first requests of its acceptance list
   pub admitted : (c : ℕ) → h.admitted c ≡ take (length (h.admitted c)) (h.accepted c)
+  -- each channel has the configuration and the first cycle that the core was opened with
+  pub opened : (c : ℕ) (side : ChannelSide) → slice_get h.state.channels c ≡ Some side → (side.channel.config ≡ o.config) × (side.channel.start ≡ o.cycle)
   pub legal : (c : ℕ) (side : ChannelSide) → slice_get h.state.channels c ≡ Some side
       → IsLegal side.channel.config side.channel.start side.channel.now side.channel.trace
   -- a completion that is done finds room on the queue of its port

@@ -3,8 +3,8 @@ ghost use Rattle.std.specs.Prelude.{◌≡◌, ◌<◌, ◌≤◌, ◌↔◌, tr
 ghost use Rattle.std.specs.Option.{option_map};
 ghost use Rattle.ddr_timing.specs.declared.units.TheConstants.{CLOCK_STOP};
 ghost use Rattle.ddr_channel.specs.Kept as kept;
+ghost use Rattle.ddr_channel.specs.Room.{wants_memory};
 ghost use Rattle.ddr_world.specs.declared.event.Refusal.TheVariants.{OutOfMemory};
-ghost use Rattle.ddr_world.specs.Answer.{Issues};
 ghost use Rattle.ddr_world.specs.Close.{trace_of};
 ghost use Rattle.ddr_world.specs.Kept.{side_of};
 ghost use Rattle.ddr_world.specs.State.{IsChannelDrained, is_busy, opened_channel};
@@ -99,11 +99,11 @@ impl ChannelSide {
     }
 
     /// Makes a cycle. A refusal leaves the side in the state that it was in. Memory is asked for only where a command is
-    /// issued.
+    /// issued for which there is no room.
     pub(crate) fn cycle(&mut self) -> Result<(), Refusal>
         ensures ok { OnOk result (cycled (side_of self.old) ≡ Ok (side_of self.new)) }
         ensures refused { IfErr result (λ cause. IsRefusedFor cause (cycled (side_of self.old))) }
-        ensures memory { IfErr result (λ cause. cause ≡ OutOfMemory → Issues (side_of self.old).channel) }
+        ensures memory { IfErr result (λ cause. cause ≡ OutOfMemory → IsTrue (wants_memory self.old.channel)) }
         ensures err { OnErr result (side_of self.new ≡ side_of self.old) }
         ensures config { self.new.channel.config ≡ self.old.channel.config }
     {

@@ -114,7 +114,7 @@ impl World {
     }
 
     /// Makes an event, or says why not. Memory is asked for in `Cycle` alone, and there only where the channel issues a
-    /// command.
+    /// command for which there is no room.
     pub fn step(&mut self, event: Event<'_>) -> Result<Outcome, Refusal>
         ensures answer { IsAnswered self.old self.new (event_of event.entry) result }
         ensures stands { (opening : Opening) (earlier : List Answered) → StandsFor self.old opening earlier

@@ -1,8 +1,7 @@
 -- A cycle that was made, and one that memory stopped.
-use Rattle.std.proofs.Common.{◌≡◌, Ok, IfErr, subst}
-use Rattle.ddr_channel.specs.Kept.{state_of}
+use Rattle.std.proofs.Common.{◌≡◌, Ok, IfErr, IsTrue, subst}
+use Rattle.ddr_channel.specs.Room.{wants_memory}
 use Rattle.ddr_world.specs.declared.event.Refusal.TheVariants.{OutOfMemory}
-use Rattle.ddr_world.specs.Answer.{Issues}
 use Rattle.ddr_world.specs.Kept.{KeptSide, side_of}
 use Rattle.ddr_world.specs.Step.{cycled}
 use Rattle.ddr_world.specs.View.{channel_of}
@@ -17,5 +16,5 @@ returns-clause-ok c =
 
 pub returns-in_err-cycle-clause-memory : goal.returns-in_err-cycle-clause-memory
 returns-in_err-cycle-clause-memory c =
-    subst (λ (side : KeptSide). IfErr c.from_residual.result (λ cause. cause ≡ OutOfMemory → Issues (state_of side.channel))) c.self.view_is
-    (wanted (state_of c.self.inside.channel) c.in_err-cycle.field-0.0 c.from_residual.result c.in_err-cycle.ensures.idle c.from_residual.ensures.1)
+    subst (λ (side : KeptSide). IfErr c.from_residual.result (λ cause. cause ≡ OutOfMemory → IsTrue (wants_memory side.channel))) c.self.view_is
+    (wanted c.self.inside.channel c.in_err-cycle.field-0.0 c.from_residual.result c.in_err-cycle.ensures.memory c.from_residual.ensures.1)

@@ -14,4 +14,5 @@ returns-clause-whole c =
     subst (λ (k : Kept). GaveAll k (record { accepted = c.accepted_by.result.items; taken = c.taken_by.result.items; traces = c.traces_of.result.items })) c.self.view_is
     (closed_gave_all (kept_of a) (record { accepted = c.accepted_by.result.items; taken = c.taken_by.result.items; traces = c.traces_of.result.items }) drained
     (c.accepted_by.ensures ∙ ap (map (λ (side : PortSide). side.accepted)) c.deref.ensures.value)
-    (c.taken_by.ensures ∙ ap (map (λ (side : PortSide). side.taken)) c.deref-2.ensures.value))
+    (c.taken_by.ensures ∙ ap (map (λ (side : PortSide). side.taken)) c.deref-2.ensures.value)
+    c.traces_of.ensures)
