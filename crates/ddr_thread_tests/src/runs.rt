@@ -2,8 +2,8 @@
 //!
 //! Here stands what the tests share: a gate, and systems of two ports and two workers that are run to their ends.
 //! `closing` has what `close` gives of such a system, `refusals` which ends it gives back, `finishing` how ports finish
-//! and workers stop, `gates` that workers run at the same time, and `waiting` that a port that doesn't poll holds no other
-//! up.
+//! and workers stop, `gates` that workers run at the same time and that a turn that is held does nothing, and `waiting` that a
+//! port that doesn't poll holds no other up.
 ghost use Rattle.std.specs.Prelude.{◌≡◌, ◌∷◌, [], IfOk, IfSome, Ok};
 ghost use Rattle.std.specs.Thread.{IsSync};
 ghost use Rattle.ddr_workers.specs.Closing.{AreOfOneOpen};
@@ -42,21 +42,35 @@ const POLLS: u32 = TRIES / 4;
 /// The first address of channel 1: profile S has the channel as its highest digit.
 const HALF: u64 = 131_072;
 
+/// How a gate holds a channel up.
+#[derive(Clone, Copy, Debug, PartialEq, Eq)]
+enum Bar {
+    /// It doesn't answer before it is opened.
+    Waits,
+    /// It answers `Hold` until it is opened.
+    Holds,
+}
+
 /// Holds one channel up until it is opened, and stops a worker once it has made too many turns.
 #[derive(Drop)]
 struct Barred {
     channel: u32,
+    bar: Bar,
     opened: AtomicU64,
+    // How often it answered `Hold`.
+    held: AtomicU64,
     // The turns of the worker of channel 0, and those of the other.
     turns: AtomicU64,
     other_turns: AtomicU64,
 }
 
 impl Barred {
-    fn new(channel: u32) -> Barred {
+    fn new(channel: u32, bar: Bar) -> Barred {
         Barred {
             channel,
+            bar,
             opened: AtomicU64::new(0),
+            held: AtomicU64::new(0),
             turns: AtomicU64::new(0),
             other_turns: AtomicU64::new(0),
         }
@@ -64,11 +78,31 @@ impl Barred {
 
     /// A gate that holds no channel of the tests up.
     fn nowhere() -> Barred {
-        Barred::new(2)
+        Barred::new(2, Bar::Waits)
     }
 
     fn open(&self) {
         self.opened.store(1, Ordering::SeqCst);
+    }
+
+    fn is_open(&self) -> bool {
+        self.opened.load(Ordering::SeqCst) == 1
+    }
+
+    /// Stops each worker at its next turn.
+    fn stop(&self) {
+        self.turns.store(TURNS, Ordering::SeqCst);
+        self.other_turns.store(TURNS, Ordering::SeqCst);
+    }
+
+    /// Waits until it is opened.
+    fn wait<R: Wait>(&self, rt: &R) {
+        for _ in rt.forever() {
+            if self.is_open() {
+                return;
+            }
+            thread::yield_now();
+        }
     }
 
     /// How many turns the worker of a channel made before this one.
@@ -79,6 +113,15 @@ impl Barred {
             self.other_turns.fetch_add(1, Ordering::SeqCst)
         }
     }
+
+    /// Whether the next turn of a channel is held. If so it is counted.
+    fn holds(&self, channel: u32) -> bool {
+        if channel != self.channel || self.is_open() {
+            return false;
+        }
+        self.held.fetch_add(1, Ordering::SeqCst);
+        true
+    }
 }
 
 impl Gate for Barred {
@@ -87,19 +130,17 @@ impl Gate for Barred {
     ghost may_hold = { λ _. Unit {0} };
 
     fn turn<R: Wait>(&self, rt: &R, channel: u32) -> Turn {
-        if channel == self.channel {
-            for _ in rt.forever() {
-                if self.opened.load(Ordering::SeqCst) == 1 {
-                    break;
-                }
-                thread::yield_now();
-            }
+        if channel == self.channel && self.bar == Bar::Waits {
+            self.wait(rt);
         }
         thread::yield_now();
-        if self.count(channel) < TURNS {
-            Turn::Go
+        if self.count(channel) >= TURNS {
+            return Turn::Stop;
+        }
+        if self.holds(channel) {
+            Turn::Hold
         } else {
-            Turn::Stop
+            Turn::Go
         }
     }
 }

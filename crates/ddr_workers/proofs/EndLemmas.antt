@@ -1,5 +1,5 @@
 -- What a worker has done at its end, and at any time.
-use Rattle.std.proofs.Common.{◌≡◌, ℕ, List, [], ◌∷◌, ◌++◌, length, map, filter, Some, slice_get, refl, sym, ap, ap₂, ◌∙◌, subst}
+use Rattle.std.proofs.Common.{◌≡◌, ℕ, ◌≤◌, List, [], ◌∷◌, ◌++◌, length, map, filter, Some, slice_get, refl, sym, ap, ap₂, ◌∙◌, subst}
 use Rattle.std.specs.List.{range_with_len}
 use Rattle.std.specs.List.Sorted.{IsPermutation}
 use Rattle.std.specs.Option.{option_to_list}
@@ -15,7 +15,7 @@ use Rattle.ddr_channel.specs.History.{Call, Owner, begun, run}
 use Rattle.ddr_channel.specs.Promise as promise
 use Rattle.ddr_channel.specs.Promise.{AreCalls, KeepsPromise, right_answer, owned_entry}
 use Rattle.ddr_channel.specs.State.{State}
-use Rattle.ddr_workers.specs.Worker.{WorkerState, AreBusy, AreSent, IsAtWork, IsWorkDone, HasNothing}
+use Rattle.ddr_workers.specs.Worker.{WorkerState, AreBusy, AreSent, IsAtWork, IsWorkDone, HasNothing, refused_pushes, unused_cycles}
 use Rattle.ddr_workers.specs.WorkerView.{IsWhole, history_of}
 
 abbrev Promised : Type 0
@@ -27,6 +27,7 @@ at_work w whole promised = record {
   history = history_of w.channel whole.calls;
   made = refl;
   busy = whole.at_work.busy;
+  unused = whole.at_work.unused;
   state = whole.at_work.stands.state;
   admitted = whole.at_work.admitted;
   sent = whole.at_work.sent;
@@ -68,6 +69,9 @@ work_done w config trace whole nothing promised is legal =
       legal = legal;
       calls = whole.calls;
       admitted = ap (λ n. (run w.channel.config n whole.calls).accepted) start ∙ accepted;
+      popped = sym (ap (λ n. (run w.channel.config n whole.calls).popped) start);
+      entries = sym entries ∙ sym (ap (λ n. (run w.channel.config n whole.calls).state.trace) start);
       clock = ap (λ (t : Recorded). t.end) is ∙ ap (λ (s : State). s.now) state ∙ sym (ap (λ n. (run w.channel.config n whole.calls).state.now) start);
       busy = subst (λ n. AreBusy (begun w.channel.config n) whole.calls) (sym start) whole.at_work.busy;
+      unused = subst (λ n. unused_cycles (begun w.channel.config n) whole.calls ≤ refused_pushes w.completions) (sym start) whole.at_work.unused;
     }

@@ -79,7 +79,7 @@ module _ {S T : Type 0} (aim : ℕ → S) (most holders : ℕ) where
             omega (arith, ap length l.is, length-append l.row (l.x ∷ []), lanes.row k l.row l.row_there);
         new = each_pushed (λ q t. IsNewQueue (aim q) most holders t) takes take lanes.new
             (subst (λ n. IsNewQueue (aim n) most holders take) (sym lanes.takes_are)
-            (record { purpose = opened.purpose; capacity = opened.capacity; count = opened.count; took = opened.took.0; empty = opened.took.1 }));
+            (record { purpose = opened.purpose; capacity = opened.capacity; count = opened.count; queue_sides = opened.queue_sides; took = opened.took.0; empty = opened.took.1 }));
         put = λ k q longer side t longer_there there t_there.
             let l = longer_row rows puts k longer same longer_there in
             let count = lanes.row k l.row l.row_there in

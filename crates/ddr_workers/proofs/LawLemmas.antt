@@ -72,30 +72,30 @@ module _ {S T : Type 0} (source : S → T → ℕ) (Proper : S → List T → Ty
   pub begins : Ruled source Proper [] (Unset ∷ [])
   begins = inl (refl, refl)
 
-  first_shared : S → Shared S T
-  first_shared purpose = record { purpose = purpose; taker = 0; putter = λ _. none; took = []; put = λ _. [] }
+  first_shared : S → ℕ → Shared S T
+  first_shared purpose sides = record { purpose = purpose; sides = sides; taker = 0; putter = λ _. none; took = []; put = λ _. [] }
 
-  first_fits : (purpose : S) (j : ℕ) (u : View S T) → get_elem? (Take (new_taking purpose) ∷ Gone ∷ []) j ≡ some u → Fits (first_shared purpose) j u
+  first_fits : (purpose : S) (sides j : ℕ) (u : View S T) → get_elem? (Take (new_taking purpose sides) ∷ Gone ∷ []) j ≡ some u → Fits (first_shared purpose sides) j u
   unfolding first_shared
-  first_fits purpose zero u e = subst (Fits (first_shared purpose) 0) (some-injective _ u e)
-      (record { purpose = refl; seat = refl; took = refl; not_made = λ _ _. (refl, refl); back = λ p h. absurd (omega arith); back_made = omega arith })
-  first_fits purpose (suc zero) u e = subst (Fits (first_shared purpose) 1) (some-injective _ u e) tt
-  first_fits purpose (suc (suc j)) u e = absurd (some-ne-none u (sym e))
+  first_fits purpose sides zero u e = subst (Fits (first_shared purpose sides) 0) (some-injective _ u e)
+      (record { purpose = refl; sides = refl; seat = refl; took = refl; not_made = λ _ _. (refl, refl); back = λ p h. absurd (omega arith); back_made = omega arith })
+  first_fits purpose sides (suc zero) u e = subst (Fits (first_shared purpose sides) 1) (some-injective _ u e) tt
+  first_fits purpose sides (suc (suc j)) u e = absurd (some-ne-none u (sym e))
 
-  first_kept : (purpose : S) → Proper purpose [] → Kept source Proper [] (Take (new_taking purpose) ∷ Gone ∷ [])
+  first_kept : (purpose : S) (sides : ℕ) → Proper purpose [] → Kept source Proper [] (Take (new_taking purpose sides) ∷ Gone ∷ [])
   unfolding first_shared
-  first_kept purpose proper = record { all = first_shared purpose; order = λ p. refl; proper = λ p. proper; fits = first_fits purpose }
+  first_kept purpose sides proper = record { all = first_shared purpose sides; order = λ p. refl; proper = λ p. proper; none_else = λ p h. (refl, refl); fits = first_fits purpose sides }
 
   first_place : (j : ℕ) (v : View S T) → get_elem? fresh_views j ≡ some v → j ≡ 0
   first_place zero v e = refl
   first_place (suc j) v e = absurd (some-ne-none v (sym e))
 
-  pub sets : (purpose : S) → Proper purpose [] → (pass : ℕ) → Forks (Ruled source Proper) pass Unset (Take (new_taking purpose)) Gone
-  sets purpose proper pass items views (inl u) at =
+  pub sets : (purpose : S) (sides : ℕ) → Proper purpose [] → (pass : ℕ) → Forks (Ruled source Proper) pass Unset (Take (new_taking purpose sides)) Gone
+  sets purpose sides proper pass items views (inl u) at =
       let here : pass ≡ 0 = first_place pass Unset (ap (λ l. get_elem? l pass) (sym u.1) ∙ at) in
-      let then : set views pass (Take (new_taking purpose)) ++ Gone ∷ [] ≡ Take (new_taking purpose) ∷ Gone ∷ [] = (λ i. set (u.1 i) (here i) (Take (new_taking purpose)) ++ Gone ∷ []) in
-      inr (subst (λ (y : List T × List (View S T)). Kept source Proper y.0 y.1) (λ i. (sym u.0 i, sym then i)) (first_kept purpose proper))
-  sets purpose proper pass items views (inr k) at = absurd (k.fits pass Unset at)
+      let then : set views pass (Take (new_taking purpose sides)) ++ Gone ∷ [] ≡ Take (new_taking purpose sides) ∷ Gone ∷ [] = (λ i. set (u.1 i) (here i) (Take (new_taking purpose sides)) ++ Gone ∷ []) in
+      inr (subst (λ (y : List T × List (View S T)). Kept source Proper y.0 y.1) (λ i. (sym u.0 i, sym then i)) (first_kept purpose sides proper))
+  sets purpose sides proper pass items views (inr k) at = absurd (k.fits pass Unset at)
 
   -- A view changes in its counter alone
   pub counts_full : (pass : ℕ) (s : Putting S T) → Forks (Ruled source Proper) pass (Put s) (with_full (Put s)) Gone
@@ -103,7 +103,8 @@ module _ {S T : Type 0} (source : S → T → ℕ) (Proper : S → List T → Ty
     all = k.all;
     order = k.order;
     proper = k.proper;
-    fits = λ j u e. ⊎_elim (each_set (Fits k.all) views pass w (record { purpose = mine.purpose; seat = mine.seat; put = mine.put }) (λ i v _ e'. k.fits i v e') j u)
+    none_else = k.none_else;
+    fits = λ j u e. ⊎_elim (each_set (Fits k.all) views pass w (record { purpose = mine.purpose; sides = mine.sides; seat = mine.seat; put = mine.put }) (λ i v _ e'. k.fits i v e') j u)
         (λ (g : (j ≡ length (set views pass w)) × (Gone ≡ u)). subst (Fits k.all j) g.1 tt) (at_end (set views pass w) Gone u j e);
   })
 
@@ -112,8 +113,9 @@ module _ {S T : Type 0} (source : S → T → ℕ) (Proper : S → List T → Ty
     all = k.all;
     order = k.order;
     proper = k.proper;
+    none_else = k.none_else;
     fits = λ j u e. ⊎_elim
-        (each_set (Fits k.all) views pass w (record { purpose = mine.purpose; seat = mine.seat; took = mine.took; not_made = mine.not_made; back = mine.back; back_made = mine.back_made })
+        (each_set (Fits k.all) views pass w (record { purpose = mine.purpose; sides = mine.sides; seat = mine.seat; took = mine.took; not_made = mine.not_made; back = mine.back; back_made = mine.back_made })
         (λ i v _ e'. k.fits i v e') j u)
         (λ (g : (j ≡ length (set views pass w)) × (Gone ≡ u)). subst (Fits k.all j) g.1 tt) (at_end (set views pass w) Gone u j e);
   })
@@ -140,9 +142,10 @@ module _ {S T : Type 0} (source : S → T → ℕ) (Proper : S → List T → Ty
     grown_fits pass j Unset seat apart f = f
     grown_fits pass j Gone seat apart f = f
     grown_fits pass j (Put s) seat apart f =
-        record { purpose = f.purpose; seat = f.seat; put = f.put ∙ sym (grown_other s.source (same_seat all.putter (source all.purpose x) s.source pass j seat f.seat apart)) }
+        record { purpose = f.purpose; sides = f.sides; seat = f.seat; put = f.put ∙ sym (grown_other s.source (same_seat all.putter (source all.purpose x) s.source pass j seat f.seat apart)) }
     grown_fits pass j (Take t) seat apart f = record {
       purpose = f.purpose;
+      sides = f.sides;
       seat = f.seat;
       took = f.took;
       not_made = λ p h. ((f.not_made p h).0, grown_other p (taken_seat all.putter (source all.purpose x) p pass seat (f.not_made p h).0) ∙ (f.not_made p h).1);
@@ -169,8 +172,9 @@ module _ {S T : Type 0} (source : S → T → ℕ) (Proper : S → List T → Ty
               (λ e. subst (λ (y : S × List T). Proper y.0 (y.1 ++ x ∷ [])) (λ i. (mine.purpose i, (put ∙ ap k.all.put e) i))
               (proper (subst (λ (y : S × List T). Proper y.0 y.1) (λ i. (sym mine.purpose i, sym mine.put i)) (k.proper s.source))))
               (k.proper p);
+          none_else = λ p h. let no_side = k.none_else p h in (no_side.0, grown_other k.all x p (taken_seat k.all.putter (source k.all.purpose x) p pass seat no_side.0) ∙ no_side.1);
           fits = each_set (Fits (grown k.all x)) views pass w
-              (record { purpose = mine.purpose; seat = mine.seat; put = ap (λ l. l ++ x ∷ []) mine.put ∙ sym (grown_own k.all x s.source here) })
+              (record { purpose = mine.purpose; sides = mine.sides; seat = mine.seat; put = ap (λ l. l ++ x ∷ []) mine.put ∙ sym (grown_own k.all x s.source here) })
               (λ j u apart e. grown_fits k.all x pass j u seat apart (k.fits j u e));
         }),
         refl,
@@ -208,6 +212,7 @@ module _ {S T : Type 0} (source : S → T → ℕ) (Proper : S → List T → Ty
       let put : (p : ℕ) → of_source source Proper s.purpose p (k.all.took ++ items) ≡ k.all.put p = λ p. (λ i. of_source source Proper (mine.purpose i) p (k.all.took ++ items)) ∙ k.order p in
       record {
         took = k.all.took;
+        made = all_below s.purpose s.sides (k.all.took ++ items) (λ p h. put p ∙ (k.none_else p (subst (λ n. n ≤ p) mine.sides h)).1);
         own = put s.source ∙ sym mine.put;
         proper = λ p. subst (λ (y : S × List T). Proper y.0 y.1) (λ i. (sym mine.purpose i, sym (put p) i)) (k.proper p);
       }
@@ -219,12 +224,12 @@ module _ {S T : Type 0} (source : S → T → ℕ) (Proper : S → List T → Ty
   learns_take pass t items views h at = tells_taker items views pass t (told_take items views pass t h at) at
 
   -- no other pass is the take side's, so what was taken may change
-  other_fits : (all after : Shared S T) (taker j : ℕ) (u : View S T) → taker ≡ all.taker → j ≢ taker → after.purpose ≡ all.purpose → after.putter ≡ all.putter → after.put ≡ all.put → Fits all j u → Fits after j u
-  other_fits all after taker j Unset seat apart a b c f = f
-  other_fits all after taker j Gone seat apart a b c f = f
-  other_fits all after taker j (Put s) seat apart a b c f =
-      record { purpose = f.purpose ∙ sym a; seat = ap (λ (g : ℕ → Option ℕ). g s.source) b ∙ f.seat; put = f.put ∙ ap (λ (g : ℕ → List T). g s.source) (sym c) }
-  other_fits all after taker j (Take t) seat apart a b c f = absurd (apart (f.seat ∙ sym seat))
+  other_fits : (all after : Shared S T) (taker j : ℕ) (u : View S T) → taker ≡ all.taker → j ≢ taker → after.purpose ≡ all.purpose → after.sides ≡ all.sides → after.putter ≡ all.putter → after.put ≡ all.put → Fits all j u → Fits after j u
+  other_fits all after taker j Unset seat apart a n b c f = f
+  other_fits all after taker j Gone seat apart a n b c f = f
+  other_fits all after taker j (Put s) seat apart a n b c f =
+      record { purpose = f.purpose ∙ sym a; sides = f.sides ∙ sym n; seat = ap (λ (g : ℕ → Option ℕ). g s.source) b ∙ f.seat; put = f.put ∙ ap (λ (g : ℕ → List T). g s.source) (sym c) }
+  other_fits all after taker j (Take t) seat apart a n b c f = absurd (apart (f.seat ∙ sym seat))
 
   -- A pop: the item moves from the queue to what was taken
   pub pops : (pass : ℕ) (t : Taking S T)
@@ -239,9 +244,10 @@ module _ {S T : Type 0} (source : S → T → ℕ) (Proper : S → List T → Ty
           all = after;
           order = λ p. ap (of_source source Proper k.all.purpose p) (append_assoc k.all.took (x ∷ []) items) ∙ k.order p;
           proper = k.proper;
+          none_else = k.none_else;
           fits = each_set (Fits after) views pass w
-              (record { purpose = mine.purpose; seat = mine.seat; took = ap (λ l. l ++ x ∷ []) mine.took; not_made = mine.not_made; back = mine.back; back_made = mine.back_made })
-              (λ j u apart e. other_fits k.all after pass j u mine.seat apart refl refl refl (k.fits j u e));
+              (record { purpose = mine.purpose; sides = mine.sides; seat = mine.seat; took = ap (λ l. l ++ x ∷ []) mine.took; not_made = mine.not_made; back = mine.back; back_made = mine.back_made })
+              (λ j u apart e. other_fits k.all after pass j u mine.seat apart refl refl refl refl (k.fits j u e));
         }),
         (refl, (items, tells_taker (x ∷ items) views pass t k at)),
       )
@@ -269,13 +275,13 @@ module _ {S T : Type 0} (source : S → T → ℕ) (Proper : S → List T → Ty
     seated_fits taker j Unset seat apart free f = f
     seated_fits taker j Gone seat apart free f = f
     seated_fits taker j (Put s) seat apart free f =
-        record { purpose = f.purpose; seat = seated_else s.source (λ e. free (ap all.putter (sym e) ∙ f.seat)) ∙ f.seat; put = f.put }
+        record { purpose = f.purpose; sides = f.sides; seat = seated_else s.source (λ e. free (ap all.putter (sym e) ∙ f.seat)) ∙ f.seat; put = f.put }
     seated_fits taker j (Take t) seat apart free f = absurd (apart (f.seat ∙ sym seat))
 
   -- The take side makes another put side
-  pub makes : (pass : ℕ) (t : Taking S T) → Forks (Ruled source Proper) pass (Take t) (with_another (Take t)) (another (Take t))
+  pub makes : (pass : ℕ) (t : Taking S T) → t.count < t.sides → Forks (Ruled source Proper) pass (Take t) (with_another (Take t)) (another (Take t))
   unfolding seated
-  makes pass t items views h at =
+  makes pass t more items views h at =
       let k = told_take items views pass t h at in
       let mine : IsTaker k.all pass t = k.fits pass (Take t) at in
       let w : View S T = with_another (Take t) in
@@ -286,10 +292,12 @@ module _ {S T : Type 0} (source : S → T → ℕ) (Proper : S → List T → Ty
         all = after;
         order = k.order;
         proper = k.proper;
+        none_else = λ p l. let no_side = k.none_else p l in (seated_none k.all t.count (some end) p (λ q. absurd (omega (arith, more, mine.sides, l, q))) no_side.0, no_side.1);
         fits = λ j u e. ⊎_elim
             (each_set (Fits after) views pass w
             (record {
               purpose = mine.purpose;
+              sides = mine.sides;
               seat = mine.seat;
               took = mine.took;
               not_made = λ p l. (seated_none k.all t.count (some end) p (λ q. absurd (omega arith)) (mine.not_made p (omega arith)).0, (mine.not_made p (omega arith)).1);
@@ -298,7 +306,7 @@ module _ {S T : Type 0} (source : S → T → ℕ) (Proper : S → List T → Ty
             })
             (λ i v apart e'. seated_fits k.all t.count (some end) pass i v mine.seat apart (λ q. some-ne-none i (sym q ∙ fresh.0)) (k.fits i v e')) j u)
             (λ (g : (j ≡ end) × (another (Take t) ≡ u)). subst (λ (y : ℕ × View S T). Fits after y.0 y.1) (λ i. (sym g.0 i, g.1 i))
-            (record { purpose = mine.purpose; seat = seated_here k.all t.count (some end); put = sym fresh.1 }))
+            (record { purpose = mine.purpose; sides = mine.sides; seat = seated_here k.all t.count (some end); put = sym fresh.1 }))
             (at_end (set views pass w) (another (Take t)) u j e);
       })
 
@@ -317,6 +325,7 @@ module _ {S T : Type 0} (source : S → T → ℕ) (Proper : S → List T → Ty
       let Now : ℕ → View S T → Type 0 = λ j u. j ≢ other → Fits after j u in
       let taker : IsTaker after pass (record t { back = t.back ++ s.put ∷ [] }) = record {
         purpose = mine.purpose;
+        sides = mine.sides;
         seat = mine.seat;
         took = mine.took;
         not_made = λ p l. (seated_none k.all s.source none p (λ _. refl) (mine.not_made p l).0, (mine.not_made p l).1);
@@ -335,6 +344,7 @@ module _ {S T : Type 0} (source : S → T → ℕ) (Proper : S → List T → Ty
         all = after;
         order = k.order;
         proper = k.proper;
+        none_else = λ p l. let no_side = k.none_else p l in (seated_none k.all s.source none p (λ _. refl) no_side.0, no_side.1);
         fits = each_set (Fits after) (set views pass w) other Gone tt (λ j u apart e. now j u e apart);
       })
 
@@ -356,8 +366,8 @@ module _ {S T : Type 0} (source : S → T → ℕ) (Proper : S → List T → Ty
   pub counts_empty_at : (pass : ℕ) (v w : View S T) (t : Taking S T) → v ≡ Take t → w ≡ v → Forks (Ruled source Proper) pass w (with_empty w) Gone
   counts_empty_at pass v w t e same = subst (λ u. Forks (Ruled source Proper) pass u (with_empty u) Gone) (sym (same ∙ e)) (counts_empty pass t)
 
-  pub makes_at : (pass : ℕ) (v : View S T) (t : Taking S T) → v ≡ Take t → Forks (Ruled source Proper) pass v (with_another v) (another v)
-  makes_at pass v t e = subst (λ u. Forks (Ruled source Proper) pass u (with_another u) (another u)) (sym e) (makes pass t)
+  pub makes_at : (pass : ℕ) (v : View S T) (t : Taking S T) → t.count < t.sides → v ≡ Take t → Forks (Ruled source Proper) pass v (with_another v) (another v)
+  makes_at pass v t more e = subst (λ u. Forks (Ruled source Proper) pass u (with_another u) (another u)) (sym e) (makes pass t more)
 
   pub gives_back_at : (pass : ℕ) (v : View S T) (t : Taking S T) (other : ℕ) (w : View S T) (s : Putting S T) → v ≡ Take t → w ≡ Put s → s.source ≡ length t.back
       → Merges (Ruled source Proper) pass v other w (with_back v w) Gone

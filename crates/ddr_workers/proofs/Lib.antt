@@ -7,6 +7,7 @@ pub mod JoinLemmas
 pub mod LaneLemmas
 pub mod LawLemmas
 pub mod OpenLemmas
+pub mod PaceLemmas
 pub mod PortLemmas
 pub mod ReplyLemmas
 pub mod RequestLemmas

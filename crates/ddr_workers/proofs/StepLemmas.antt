@@ -14,20 +14,21 @@ use Rattle.ddr_workers.proofs.LawLemmas.{sets, pushes}
 
 module _ {S T : Type 0} where
   -- The new put side
-  pub new_put_at : (table : TableId) (capacity n p : ℕ) (purpose : S) (v : View S T) (t : TableId) (cap from : ℕ) (r : S)
-      → v ≡ Put (new_putting purpose n) → t ≡ table → cap ≡ capacity → r ≡ purpose → from ≡ p → put_side t cap r from v ≡ new_put (queue_id table capacity purpose) p
-  new_put_at table capacity n p purpose v t cap from r made a b d e = ap (put_side t cap r from) made ∙ (λ i. new_put (queue_id (a i) (b i) (d i)) (e i))
+  pub new_put_at : (table : TableId) (capacity sides n p : ℕ) (purpose : S) (v : View S T) (t : TableId) (cap from : ℕ) (r : S)
+      → v ≡ Put (new_putting purpose sides n) → t ≡ table → cap ≡ capacity → r ≡ purpose → from ≡ p → put_side t cap r from v ≡ new_put (queue_id table capacity sides purpose) p
+  new_put_at table capacity sides n p purpose v t cap from r made a b d e = ap (put_side t cap r from) made ∙ (λ i. new_put (queue_id (a i) (b i) sides (d i)) (e i))
 
   -- The sides of a new queue
   pub are_opened : (table : TableId) (capacity count cap n : ℕ) (purpose r : S) (v : View S T) (puts : List (PutSide S T))
-      → v ≡ Take (record (new_taking r) { count = n }) → cap ≡ capacity → r ≡ purpose → n ≡ count → length puts ≡ n
-      → ((p : ℕ) (s : PutSide S T) → slice_get puts p ≡ Some s → s ≡ new_put (queue_id table capacity r) p) → AreOpened purpose capacity count puts (take_side table cap r v)
+      → v ≡ Take (record (new_taking r count) { count = n }) → cap ≡ capacity → r ≡ purpose → n ≡ count → length puts ≡ n
+      → ((p : ℕ) (s : PutSide S T) → slice_get puts p ≡ Some s → s ≡ new_put (queue_id table capacity count r) p) → AreOpened purpose capacity count puts (take_side table cap r v)
   are_opened table capacity count cap n purpose r v puts knows a b e made sides =
-      let take : take_side table cap r v ≡ new_take (queue_id table capacity purpose) count = ap (take_side table cap r) knows ∙ (λ i. new_take (queue_id table (a i) (b i)) (e i)) in
-      let new : (p : ℕ) (s : PutSide S T) → slice_get puts p ≡ Some s → s ≡ new_put (queue_id table capacity purpose) p = λ p s h. sides p s h ∙ ap (λ (y : S). new_put (queue_id table capacity y) p) b in
+      let take : take_side table cap r v ≡ new_take (queue_id table capacity count purpose) count = ap (take_side table cap r) knows ∙ (λ i. new_take (queue_id table (a i) count (b i)) (e i)) in
+      let new : (p : ℕ) (s : PutSide S T) → slice_get puts p ≡ Some s → s ≡ new_put (queue_id table capacity count purpose) p = λ p s h. sides p s h ∙ ap (λ (y : S). new_put (queue_id table capacity count y) p) b in
       subst (AreOpened purpose capacity count puts) (sym take) (record {
         sides = record { count = made ∙ e; same = λ p s h. ap (λ (u : PutSide S T). u.who) (new p s h) };
         count = refl;
+        queue_sides = refl;
         capacity = refl;
         purpose = refl;
         put = λ p s h. (ap (λ (u : PutSide S T). u.put) (new p s h), ap (λ (u : PutSide S T). u.full) (new p s h));
@@ -48,9 +49,10 @@ module _ {S T : Type 0} (source : S → T → ℕ) (Proper : S → List T → Ty
   Law = Ruled source Proper
 
   -- The queue is told its purpose
-  pub sets_at : (pass : ℕ) (v : View S T) (purpose : S) (picked : Option S) → Proper purpose [] → v ≡ Unset → picked ≡ Some purpose → Forks Law pass v (first_view picked) Gone
-  sets_at pass v purpose picked nothing fresh is =
-      subst (λ (y : View S T × Option S). Forks Law pass y.0 (first_view y.1) Gone) (λ i. (sym fresh i, sym is i)) (sets source Proper purpose nothing pass)
+  pub sets_at : (pass : ℕ) (v : View S T) (purpose : S) (sides : ℕ) (picked : Option S) (picked_sides : ℕ)
+      → Proper purpose [] → v ≡ Unset → picked ≡ Some purpose → picked_sides ≡ sides → Forks Law pass v (first_view picked picked_sides) Gone
+  sets_at pass v purpose sides picked picked_sides nothing fresh is are =
+      subst (λ (y : View S T × Option S × ℕ). Forks Law pass y.0 (first_view y.1 y.2) Gone) (λ i. (sym fresh i, sym is i, sym are i)) (sets source Proper purpose sides nothing pass)
 
   -- A push, at the view v of this side, which contracts see as s
   pub pushes_at : (n pass : ℕ) (v : View S T) (side s : PutSide S T) (x : T) → v ≡ put_view side → side ≡ s
@@ -60,7 +62,7 @@ module _ {S T : Type 0} (source : S → T → ℕ) (Proper : S → List T → Ty
 
   -- What a push that finds the queue full tells
   was_full : (s : PutSide S T) → Held s.who.queue.capacity (TellsPut source Proper (put_view s)) → WasFull source Proper s
-  was_full s held = record { took = held.2.took; items = held.0; full = held.1; own = held.2.own; proper = held.2.proper }
+  was_full s held = record { took = held.2.took; items = held.0; full = held.1; made = held.2.made; own = held.2.own; proper = held.2.proper }
 
   pub was_full_at : (capacity : ℕ) (v : View S T) (side s : PutSide S T) → v ≡ put_view side → side ≡ s → capacity ≡ side.who.queue.capacity → Held capacity (TellsPut source Proper v) → WasFull source Proper s
   was_full_at capacity v side s knows is same held =

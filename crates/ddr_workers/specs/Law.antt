@@ -11,16 +11,16 @@ use Rattle.ddr_workers.specs.declared.law.View.TheVariants.{Unset, Put, Take, Go
 
 module _ {S T : Type 0} where
   -- the view of a new put side, and of a new take side
-  abbrev pub new_putting : S → ℕ → Putting S T
-  new_putting purpose from = record { purpose = purpose; source = from; put = []; full = 0 }
+  abbrev pub new_putting : S → ℕ → ℕ → Putting S T
+  new_putting purpose sides from = record { purpose = purpose; sides = sides; source = from; put = []; full = 0 }
 
-  abbrev pub new_taking : S → Taking S T
-  new_taking purpose = record { purpose = purpose; count = 0; took = []; back = []; empty = 0 }
+  abbrev pub new_taking : S → ℕ → Taking S T
+  new_taking purpose sides = record { purpose = purpose; sides = sides; count = 0; took = []; back = []; empty = 0 }
 
-  -- the first view of a queue, once it is told what it is for
-  abbrev pub first_view : RustOption S → View S T
-  first_view None = Gone
-  first_view (Some purpose) = Take (new_taking purpose)
+  -- the first view of a queue, once it is told what it is for, and for how many put sides
+  abbrev pub first_view : RustOption S → ℕ → View S T
+  first_view None sides = Gone
+  first_view (Some purpose) sides = Take (new_taking purpose sides)
 
   -- what each kind of step makes of a view: a push, a push that finds full, a pop, a pop that finds none
   abbrev pub with_put : View S T → T → View S T
@@ -45,7 +45,7 @@ module _ {S T : Type 0} where
   with_another v = v
 
   abbrev pub another : View S T → View S T
-  another (Take t) = Put (new_putting t.purpose t.count)
+  another (Take t) = Put (new_putting t.purpose t.sides t.count)
   another v = Gone
 
   -- a put side gives its pass back to the take side
@@ -74,6 +74,8 @@ module _ {S T : Type 0} where
 -- What all sides together know
 pub record Shared (S T : Type 0) : Type 0 where
   pub purpose : S
+  -- how many put sides the queue has
+  pub sides : ℕ
   -- the number of the take side's pass, and of each put side's, where it is made and has not come back
   pub taker : ℕ
   pub putter : ℕ → Option ℕ
@@ -84,12 +86,14 @@ pub record Shared (S T : Type 0) : Type 0 where
 -- The view of a put side's pass, of this number, is part of what all know
 pub record IsPutter {S T : Type 0} (all : Shared S T) (pass : ℕ) (s : Putting S T) : Type 0 where
   pub purpose : s.purpose ≡ all.purpose
+  pub sides : s.sides ≡ all.sides
   pub seat : all.putter s.source ≡ some pass
   pub put : s.put ≡ all.put s.source
 
 -- The view of the take side's pass is
 pub record IsTaker {S T : Type 0} (all : Shared S T) (pass : ℕ) (t : Taking S T) : Type 0 where
   pub purpose : t.purpose ≡ all.purpose
+  pub sides : t.sides ≡ all.sides
   pub seat : pass ≡ all.taker
   pub took : t.took ≡ all.took
   -- the sides that are not made put nothing
@@ -115,16 +119,19 @@ module _ {S T : Type 0} (source : S → T → ℕ) (Proper : S → List T → Ty
     pub all : Shared S T
     pub order : (p : ℕ) → of_source all.purpose p (all.took ++ items) ≡ all.put p
     pub proper : (p : ℕ) → Proper all.purpose (all.put p)
+    -- no other side is made, and none has put anything
+    pub none_else : (p : ℕ) → all.sides ≤ p → (all.putter p ≡ none) × (all.put p ≡ [])
     pub fits : (pass : ℕ) (v : View S T) → get_elem? views pass ≡ some v → Fits all pass v
 
   -- The rule
   abbrev pub Ruled : List T → List (View S T) → Type 0
   Ruled items views = ((items ≡ []) × (views ≡ Unset ∷ [])) ⊎ Kept items views
 
-  -- What the rule tells a put side of the items that the queue holds: with what was taken before, they have
-  -- its own list, and proper lists of the others
+  -- What the rule tells a put side of the items that the queue holds: with what was taken before, they are of the
+  -- queue's sides, and have its own list, and proper lists of the others
   pub record Before (s : Putting S T) (items : List T) : Type 0 where
     pub took : List T
+    pub made : All (λ x. source s.purpose x < s.sides) (took ++ items)
     pub own : of_source s.purpose s.source (took ++ items) ≡ s.put
     pub proper : (p : ℕ) → Proper s.purpose (of_source s.purpose p (took ++ items))
 

@@ -71,6 +71,7 @@ pub record IsNewQueue {S T : Type 0} (aim : S) (most sides_made : ℕ) (take : T
   pub purpose : take.who.queue.purpose ≡ aim
   pub capacity : take.who.queue.capacity ≡ most
   pub count : take.who.count ≡ sides_made
+  pub queue_sides : take.who.queue.sides ≡ sides_made
   pub took : take.took ≡ []
   pub empty : take.empty ≡ 0
 

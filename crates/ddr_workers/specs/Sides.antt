@@ -7,10 +7,12 @@ use Rattle.ddr_workers.specs.declared.law.View.{View}
 use Rattle.ddr_workers.specs.declared.law.View.TheVariants.{Put, Take}
 use Rattle.ddr_workers.specs.Law.{of_source}
 
--- Which queue it is: what no other queue shares with it, how many items it holds at most, and what it was opened for
+-- Which queue it is: what no other queue shares with it, how many items it holds at most, how many put sides it has,
+-- and what it was opened for
 pub record QueueId (S : Type 0) : Type 0 where
   pub table : TableId
   pub capacity : ℕ
+  pub sides : ℕ
   pub purpose : S
 
 -- Whose put side it is: which of the queue's, counted from 0
@@ -18,7 +20,7 @@ pub record PutId (S : Type 0) : Type 0 where
   pub queue : QueueId S
   pub source : ℕ
 
--- Whose take side it is, and how many put sides the queue has
+-- Whose take side it is, and how many put sides it has made
 pub record TakeId (S : Type 0) : Type 0 where
   pub queue : QueueId S
   pub count : ℕ
@@ -63,6 +65,7 @@ pub record AreSides {S T : Type 0} (puts : List (PutSide S T)) (take : TakeSide 
 pub record AreOpened {S T : Type 0} (aim : S) (most sides_made : ℕ) (puts : List (PutSide S T)) (take : TakeSide S T) : Type 0 where
   pub sides : AreSides puts take
   pub count : take.who.count ≡ sides_made
+  pub queue_sides : take.who.queue.sides ≡ sides_made
   pub capacity : take.who.queue.capacity ≡ most
   pub purpose : take.who.queue.purpose ≡ aim
   pub put : (p : ℕ) (s : PutSide S T) → slice_get puts p ≡ Some s → (s.put ≡ []) × (s.full ≡ 0)
@@ -74,12 +77,13 @@ module _ {S T : Type 0} (source : S → T → ℕ) (Proper : S → List T → Ty
   abbrev of : S → ℕ → List T → List T
   of purpose p items = of_source source Proper purpose p items
 
-  -- There was a moment at which the queue held as many items as it can: with what was taken before, they have
-  -- what this side has pushed, and proper lists of the others
+  -- There was a moment at which the queue held as many items as it can: with what was taken before, they are of the
+  -- queue's put sides, and have what this side has pushed, and proper lists of the others
   pub record WasFull (s : PutSide S T) : Type 0 where
     pub took : List T
     pub items : List T
     pub full : length items ≡ s.who.queue.capacity
+    pub made : All (λ x. source s.who.queue.purpose x < s.who.queue.sides) (took ++ items)
     pub own : of s.who.queue.purpose s.who.source (took ++ items) ≡ s.put
     pub proper : (p : ℕ) → Proper s.who.queue.purpose (of s.who.queue.purpose p (took ++ items))
 
@@ -102,11 +106,16 @@ module _ {S T : Type 0} (source : S → T → ℕ) (Proper : S → List T → Ty
     pub order : (p : ℕ) (s : PutSide S T) → slice_get puts p ≡ Some s → of take.who.queue.purpose p (take.took ++ left) ≡ s.put
     pub proper : AreProper take.who (take.took ++ left)
 
-abbrev pub queue_id : {S : Type 0} → TableId → ℕ → S → QueueId S
-queue_id table capacity purpose = record { table = table; capacity = capacity; purpose = purpose }
+abbrev pub queue_id : {S : Type 0} → TableId → ℕ → ℕ → S → QueueId S
+queue_id table capacity sides purpose = record { table = table; capacity = capacity; sides = sides; purpose = purpose }
 
 -- what a view says of a put side, and of the take side
 module _ {S T : Type 0} where
+  abbrev pub sides_of : View S T → ℕ
+  sides_of (Put s) = s.sides
+  sides_of (Take t) = t.sides
+  sides_of v = 0
+
   abbrev pub put_of : View S T → List T
   put_of (Put s) = s.put
   put_of v = []
@@ -129,11 +138,11 @@ module _ {S T : Type 0} where
 
   abbrev pub put_side : TableId → ℕ → S → ℕ → View S T → PutSide S T
   put_side table capacity purpose from v =
-      record { who = record { queue = queue_id table capacity purpose; source = from }; put = put_of v; full = full_of v }
+      record { who = record { queue = queue_id table capacity (sides_of v) purpose; source = from }; put = put_of v; full = full_of v }
 
   abbrev pub take_side : TableId → ℕ → S → View S T → TakeSide S T
   take_side table capacity purpose v =
-      record { who = record { queue = queue_id table capacity purpose; count = count_of v }; took = took_of v; empty = empty_of v }
+      record { who = record { queue = queue_id table capacity (sides_of v) purpose; count = count_of v }; took = took_of v; empty = empty_of v }
 
   -- a new put side
   abbrev pub new_put : QueueId S → ℕ → PutSide S T
@@ -145,10 +154,10 @@ module _ {S T : Type 0} where
 
   -- the view of a put side's pass, and of the take side's while no put side has come back
   abbrev pub put_view : PutSide S T → View S T
-  put_view s = Put (record { purpose = s.who.queue.purpose; source = s.who.source; put = s.put; full = s.full })
+  put_view s = Put (record { purpose = s.who.queue.purpose; sides = s.who.queue.sides; source = s.who.source; put = s.put; full = s.full })
 
   abbrev pub take_view : TakeSide S T → View S T
-  take_view t = Take (record { purpose = t.who.queue.purpose; count = t.who.count; took = t.took; back = []; empty = t.empty })
+  take_view t = Take (record { purpose = t.who.queue.purpose; sides = t.who.queue.sides; count = t.who.count; took = t.took; back = []; empty = t.empty })
 
 -- the list with what this makes of its element at that place
 abbrev pub changed_at : {X : Type 0} → ℕ → (X → X) → List X → List X

@@ -1,5 +1,5 @@
 -- What contracts see of a worker, and what a worker did with the requests that it took.
-use Rattle.std.specs.Prelude.{◌≡◌, ℕ, ◌<◌, ◌==◌, Bool, true, List, [], ◌∷◌, ◌++◌, All, length, filter, map, Option, Some, None, IsPermutation, slice_get}
+use Rattle.std.specs.Prelude.{◌≡◌, ℕ, ◌+◌, ◌<◌, ◌≤◌, ◌==◌, if◌then◌else◌, Bool, true, List, [], ◌∷◌, ◌++◌, All, length, filter, map, sum_by, Option, Some, None, IsPermutation, slice_get}
 use Rattle.std.specs.List.{range_with_len}
 use Rattle.std.specs.Option.{option_to_list}
 use Rattle.ddr_timing.specs.declared.config.Config.{Config}
@@ -67,6 +67,25 @@ abbrev pub AreBusy : History → List Call → Type 0
 AreBusy h [] = Unit {0}
 AreBusy h (call ∷ calls) = IsBusy h call × AreBusy (after_call h call) calls
 
+-- nothing is pending or in flight: all that the channel may hold are completions that are done
+abbrev pub is_without_work : State → Bool
+is_without_work s = length s.pending + length s.flight == 0
+
+-- one for a cycle that was made so
+abbrev pub unused : History → Call → ℕ
+unused h (Admit r) = 0
+unused h Cycle = if is_without_work h.state then 1 else 0
+unused h Pop = 0
+
+-- how many cycles were made while nothing was pending or in flight
+abbrev pub unused_cycles : History → List Call → ℕ
+unused_cycles h [] = 0
+unused_cycles h (call ∷ calls) = unused h call + unused_cycles (after_call h call) calls
+
+-- how many pushes found their queue full
+abbrev pub refused_pushes : List (PutSide Delivery Completion) → ℕ
+refused_pushes sides = sum_by (λ side. side.full) sides
+
 -- What a worker has done is a history of its channel: the requests that it took were admitted, in order, and the
 -- completions that the channel gave out were pushed, but for one that may be held. What the channel promises of
 -- such a history holds: each request that was taken is held, pending or has its one completion, the right one.
@@ -75,6 +94,8 @@ pub record IsAtWork (w : WorkerState) : Type 0 where
   pub history : History
   pub made : history ≡ run w.channel.config w.channel.start calls
   pub busy : AreBusy (begun w.channel.config w.channel.start) calls
+  -- the clock waits for no port: a cycle without work is made only as a push was refused
+  pub unused : unused_cycles (begun w.channel.config w.channel.start) calls ≤ refused_pushes w.completions
   pub state : state_of w.channel ≡ history.state
   pub admitted : history.accepted ≡ requests_of w.requests.took
   pub sent : AreSent history.popped (option_to_list w.held) w.completions
@@ -133,8 +154,12 @@ pub record IsWorkDone (config : Config) (e : WorkerEnded) : Type 0 where
   pub answers : map Some dones ≡ map (right_answer config (requests_of e.requests.took)) owners
   pub sent : AreSent dones [] e.completions
   pub legal : IsLegal config e.trace.start e.trace.end e.trace.entries
-  -- what the channel's calls were
+  -- its channel's calls: by the scheduler's definition they admit these requests, and make this trace, these completions
+  -- and this clock
   pub calls : List Call
   pub admitted : (run config e.trace.start calls).accepted ≡ requests_of e.requests.took
+  pub popped : dones ≡ (run config e.trace.start calls).popped
+  pub entries : e.trace.entries ≡ (run config e.trace.start calls).state.trace
   pub clock : e.trace.end ≡ (run config e.trace.start calls).state.now
   pub busy : AreBusy (begun config e.trace.start) calls
+  pub unused : unused_cycles (begun config e.trace.start) calls ≤ refused_pushes e.completions

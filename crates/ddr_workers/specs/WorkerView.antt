@@ -1,5 +1,5 @@
 -- What the fields of a worker stand for, and what they keep.
-use Rattle.std.specs.Prelude.{◌≡◌, ℕ, ◌<◌, false, List, All, length, IfSome, Some, slice_get, slice_index_or}
+use Rattle.std.specs.Prelude.{◌≡◌, ℕ, ◌+◌, ◌<◌, ◌≤◌, false, List, All, length, IfSome, Some, slice_get, slice_index_or}
 use Rattle.std.specs.Option.{option_to_list}
 use Rattle.ddr_timing.specs.declared.geometry.Geometry.{Geometry}
 use Rattle.ddr_address_map.specs.Requests as records
@@ -14,7 +14,7 @@ use Rattle.ddr_workers.specs.declared.worker.WorkerEnd.TheInside as end_inside
 use Rattle.ddr_workers.specs.Completions.{IsFrom}
 use Rattle.ddr_workers.specs.Requests.{IsPlaced, has_end, of_port}
 use Rattle.ddr_workers.specs.Sides.{PutSide}
-use Rattle.ddr_workers.specs.Worker.{WorkerState, WorkerEnded, AreBusy, AreSent, requests_of}
+use Rattle.ddr_workers.specs.Worker.{WorkerState, WorkerEnded, AreBusy, AreSent, refused_pushes, requests_of, unused_cycles}
 
 abbrev pub state_of : Inside → WorkerState
 state_of a = record {
@@ -49,12 +49,29 @@ pub record IsGiven (route : Route) (ports : ℕ) (d : Completion) : Type 0 where
   pub port : d.port < ports
   pub from : IsFrom (record { geometry = route.geometry; port = d.port }) route.channel d
 
+-- how many cycles were made without work
+abbrev pub unused_in : WorkerState → List Call → ℕ
+unused_in w calls = unused_cycles (begun w.channel.config w.channel.start) calls
+
+-- how many completions are done and not pushed
+abbrev pub unsent : WorkerState → ℕ
+unsent w = length w.channel.done + length (option_to_list w.held)
+
 -- What the channel's calls were
 pub record StandsAt (w : WorkerState) (calls : List Call) : Type 0 where
   pub stands : StandsFor w.channel calls
   pub busy : AreBusy (begun w.channel.config w.channel.start) calls
   pub admitted : (history_of w.channel calls).accepted ≡ requests_of w.requests.took
   pub sent : AreSent (history_of w.channel calls).popped (option_to_list w.held) w.completions
+  -- each cycle without work has its refused push, and so has each completion that isn't pushed, but for the newest
+  pub unused : unused_in w calls ≤ refused_pushes w.completions
+  pub left : unused_in w calls + unsent w ≤ refused_pushes w.completions + 1
+
+-- In this turn it has tried to push what was done, if anything was: now each completion that isn't pushed has its refused push
+pub record HasTried (w : WorkerState) : Type 0 where
+  pub calls : List Call
+  pub at_work : StandsAt w calls
+  pub tried : unused_in w calls + unsent w ≤ refused_pushes w.completions
 
 -- What every worker keeps
 pub record IsWhole (w : WorkerState) : Type 0 where

@@ -35,7 +35,7 @@ pub fn open<S: Copy + Drop, T: Drop, K: Carries<S, T>>(
     let spare = Vec::with_capacity(alloc, capacity as usize)?;
     let mut puts = Vec::with_capacity(alloc, count as usize)?;
     let (queue, pass) = LaneQueue::<S, T, K>::ruled(alloc, capacity as usize)?;
-    let mut pass = set_purpose::<S, T, K, Brand>(&queue, pass, purpose);
+    let mut pass = set_purpose::<S, T, K, Brand>(&queue, pass, purpose, count);
     let lane = Arc::new(alloc, Lane { queue, purpose })?;
     for source in 0..count {
         puts.push_reserved(LanePut {

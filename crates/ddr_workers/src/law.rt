@@ -10,6 +10,8 @@ use std::collections::LinkedList;
 pub struct Putting<S, T> {
     /// What the queue was opened for.
     pub purpose: S,
+    /// How many put sides it was opened for.
+    pub sides: u64,
     /// Which of the put sides it is, counted from 0.
     pub source: u64,
     /// What it has put so far, in order.
@@ -22,7 +24,9 @@ pub struct Putting<S, T> {
 pub struct Taking<S, T> {
     /// What the queue was opened for.
     pub purpose: S,
-    /// How many put sides were made.
+    /// How many put sides it was opened for.
+    pub sides: u64,
+    /// How many of them were made.
     pub count: u64,
     /// What it has taken so far, in order.
     pub took: LinkedList<T>,

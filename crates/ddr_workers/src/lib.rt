@@ -4,7 +4,7 @@
 //! `Worker`, which drives it turn by turn under a `Gate`. Between them stand the queues: `requests` has the one that leads
 //! from every port to one channel, `completions` the one from every channel to one port. Both are made of `lane`, a queue
 //! with several put sides and one take side, and `law` is what the sides know of each other, which the queue's rule
-//! speaks of.
+//! speaks of. `rest` is what a worker does between turns that found nothing.
 //!
 //! At the end `closing` joins every queue: `ends` checks what finished ports and workers leave and puts it in order, and
 //! `gathered` sorts their sides by queue. What every port has got is then told by `headline`, a law over the lists that
@@ -21,12 +21,13 @@ mod ends;
 mod error;
 pub mod gate;
 mod gathered;
-pub mod headline;
+mod headline;
 mod lane;
 mod law;
 pub mod port;
 pub mod refusal;
 pub mod requests;
+mod rest;
 mod rows;
 mod system;
 pub mod worker;

@@ -16,6 +16,7 @@ ghost use Rattle.ddr_workers.specs.declared.completions.Delivery.{Delivery};
 ghost use Rattle.ddr_workers.specs.Ended.{IsWorkerEnded};
 ghost use Rattle.ddr_workers.specs.Open.{IsNewDonePut, IsNewWorker};
 ghost use Rattle.ddr_workers.specs.Sides.{PutSide, after_full, after_push, changed_at};
+ghost use Rattle.ddr_workers.specs.WorkerView.{HasTried};
 ghost use Rattle.ddr_workers.specs.Worker.{WorkerState, IsAtWork, IsEndOf, IsSameWorker, IsWorkDone, HasNothing, cause_of};
 
 use crate::completions::DonePut;
@@ -23,6 +24,7 @@ use crate::ends::Numbered;
 use crate::error::OpenError;
 use crate::gate::{Gate, Turn};
 use crate::requests::{Item, RequestTake};
+use crate::rest::Rest;
 use ddr_address_map::request::Done;
 use ddr_channel::channel::{Channel, CycleError};
 use ddr_channel::promise::channel_promise;
@@ -199,7 +201,8 @@ impl Worker {
 
     /// Holds the completion that was done first, where none is held and one is done.
     fn hold(&mut self)
-        ensures { IsSameWorker self.old self.new }
+        ensures same { IsSameWorker self.old self.new }
+        ensures next { self.new.held ≡ None → self.new.channel.done ≡ [] }
     {
         if self.held.is_some() {
             return;
@@ -209,7 +212,9 @@ impl Worker {
 
     /// Tries once to push the completion that is held on the queue of its port, and keeps it where that is full.
     fn send<R: Wait>(&mut self, rt: &R)
-        ensures { IsSameWorker self.old self.new }
+        requires { self.old.held ≡ None → self.old.channel.done ≡ [] }
+        ensures same { IsSameWorker self.old self.new }
+        ensures tried { HasTried self.new }
     {
         let Some(done) = self.held.take() else {
             return;
@@ -222,7 +227,9 @@ impl Worker {
 
     /// Pops an item, where both queues of the channel have a free place: admits a request, notes an End.
     fn accept<R: Wait>(&mut self, rt: &R)
-        ensures { IsSameWorker self.old self.new }
+        requires { HasTried self.old }
+        ensures same { IsSameWorker self.old self.new }
+        ensures tried { HasTried self.new }
     {
         if !self.channel.room() {
             return;
@@ -236,6 +243,7 @@ impl Worker {
 
     /// Makes a cycle, unless the channel holds nothing.
     fn step(&mut self) -> Result<(), Cause>
+        requires { HasTried self.old }
         ensures same { IsSameWorker self.old self.new }
         ensures spent { IfErr result (λ cause. cause ≡ ClockSpent → self.new.channel.now ≡ CLOCK_STOP) }
         ensures memory { IfErr result (λ cause. cause ≡ OutOfMemory → choice_of (at_choice (kept.state_of self.new.channel)) ≡ Nothing → ⊥) }
@@ -311,7 +319,7 @@ impl Worker {
 
     /// Makes turns until every port's End came and nothing is left. In each the gate is asked, a completion is pushed
     /// where there is one, an item is taken where the channel has room, and the channel makes a cycle unless it holds
-    /// nothing. It may wait.
+    /// nothing. After a turn without a cycle it rests. It may wait.
     pub fn run<G: Gate, R: Wait>(mut self, rt: &R, gate: &G) -> Result<WorkerEnd, Stopped>
         ensures done { IfOk result (IsWorkDone self.channel.config) }
         ensures end { IfOk result (IsEndOf self) }
@@ -321,10 +329,14 @@ impl Worker {
         ensures spent { IfErr result (λ s. s.cause ≡ ClockSpent → s.worker.channel.now ≡ CLOCK_STOP) }
         ensures memory { IfErr result (λ s. s.cause ≡ OutOfMemory → choice_of (at_choice (kept.state_of s.worker.channel)) ≡ Nothing → ⊥) }
     {
+        let mut rest = Rest::new();
         for _ in rt.forever() {
             match gate.turn(rt, self.number()) {
                 Turn::Go => {}
-                Turn::Hold => continue,
+                Turn::Hold => {
+                    rest.after(rt, false);
+                    continue;
+                }
                 Turn::Stop => return Err(self.stopped(Cause::Told)),
             }
             self.hold();
@@ -337,6 +349,7 @@ impl Worker {
             if self.is_done() {
                 return Ok(self.into_end());
             }
+            rest.after(rt, !self.channel.is_empty());
         }
         unreachable!()
     }

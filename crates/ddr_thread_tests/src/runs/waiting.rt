@@ -12,10 +12,7 @@ const WINDOW: u64 = 4;
 /// How often a line is written and read back.
 const ROUNDS: u8 = 50;
 
-/// From one row of a bank to the next: profile S has the row above the bank.
-const ROW: u64 = 8192;
-
-/// Reads a line of each of four rows, and polls once the other port has all its replies.
+/// Reads one line as often as it may, and polls once the other port has all its replies.
 #[derive(Clone, Copy)]
 struct Waits<'a> {
     is_other_done: &'a AtomicU64,
@@ -27,7 +24,7 @@ impl Waits<'_> {
         ensures { IsSamePort port.old port.new }
     {
         for number in 0..WINDOW {
-            submit(rt, port, Request::read(ROW * number, 4), number)?;
+            submit(rt, port, Request::read(0, 4), number)?;
         }
         let fifth = port.submit(rt, Request::read(0, 4));
         expect(
@@ -46,7 +43,7 @@ impl Waits<'_> {
         }
     }
 
-    /// Takes the lines in, in whichever order they come.
+    /// Takes the completions in, in whichever order they come.
     fn fill<R: Wait>(rt: &R, port: &mut Port) -> Result<(), &'static str>
         ensures { IsSamePort port.old port.new }
     {
@@ -62,12 +59,12 @@ impl Waits<'_> {
         ensures { IsSamePort port.old port.new }
     {
         for number in 0..WINDOW {
-            take_front(port, number, read_echo(ROW * number, 4), &[0; 4])?;
+            take_front(port, number, read_echo(0, 4), &[0; 4])?;
         }
         Ok(())
     }
 
-    /// Takes the lines in, and gives the replies up.
+    /// Takes the completions in, and gives the replies up.
     fn fill_and_take<R: Wait>(rt: &R, port: &mut Port) -> Result<(), &'static str>
         ensures { IsSamePort port.old port.new }
     {

@@ -44,20 +44,24 @@ impl<S, T, K: Carries<S, T>> Protocol<T, View<S, T>> for LaneLaw<K> {
     ghost first = { Unset };
 }
 
-/// A queue's purpose, which the proof of a call picks.
+/// A queue's purpose and how many put sides it has, which the proof of a call picks.
 pub trait Told<S> {
-    ghost use Rattle.std.specs.Prelude.{Option};
+    ghost use Rattle.std.specs.Prelude.{ℕ, Option};
 
     ghost purpose: { Option S };
+
+    ghost sides: { ℕ };
 }
 
 impl<S> Told<S> for Brand {
     ghost use Rattle.std.specs.Prelude.{None};
 
     ghost purpose = { None };
+
+    ghost sides = { 0 };
 }
 
-/// The queue is told its purpose: its first pass is the take side's from then on.
+/// The queue is told its purpose and its sides: its first pass is the take side's from then on.
 pub struct Sets<P> {
     of: PhantomData<P>,
 }
@@ -66,7 +70,7 @@ impl<S, T, P: Told<S>> Split<View<S, T>> for Sets<P> {
     ghost use Rattle.ddr_workers.specs.declared.law.View.TheVariants.{Gone};
     ghost use Rattle.ddr_workers.specs.Law.{first_view};
 
-    ghost left = { λ v. first_view P.purpose };
+    ghost left = { λ v. first_view P.purpose P.sides };
 
     ghost right = { λ v. Gone };
 }
@@ -130,20 +134,23 @@ impl<S, T> Join<View<S, T>> for GivesBack {
     ghost spent = { Gone };
 }
 
-/// Tells a new queue its purpose. Its first pass becomes the take side's.
+/// Tells a new queue its purpose, and how many put sides it has. Its first pass becomes the take side's.
 pub fn set_purpose<S: Copy + Drop, T: Drop, K: Carries<S, T>, P: Told<S>>(
     queue: &LaneQueue<S, T, K>,
     mut pass: LanePass<S, T>,
     purpose: S,
+    sides: u32,
 ) -> LanePass<S, T>
     requires queue { IsPassOf queue.now pass }
     requires fresh { view pass ≡ Unset }
     requires nothing { K.proper purpose [] }
     requires purpose { P.purpose ≡ Some purpose }
+    requires sides { P.sides ≡ sides }
     ensures queue { IsPassOf queue.now result }
-    ensures told { view result ≡ Take (new_taking purpose) }
+    ensures told { view result ≡ Take (new_taking purpose sides) }
 {
     let _ = purpose;
+    let _ = sides;
     let _spent = queue.another::<Sets<P>>(&mut pass);
     pass
 }

@@ -1,11 +1,15 @@
 use Rattle.std.proofs.Common.{rules, ◌≡◌, ◌∙◌, [], length, sym}
-use Rattle.std.proofs.lemmas.List.{length-map}
+use Rattle.std.proofs.lemmas.List.{length-map, length-replicate}
 use Rattle.ddr_workers.specs.Joined.{IsIntakeJoined, IsWindowJoined}
 use Rattle.ddr_workers.specs.Lanes.{lists}
 use Rattle.ddr_workers.specs.Sides.{AreSides}
 use Rattle.ddr_workers.proofs.ClosedLemmas.{all_joined, counts_alike, dones_of, intake_of, intake_sides, left_of, none_remains, puts_of, window_of, window_sides}
 use Rattle.ddr_workers.proofs.ColumnLemmas.{as_many_queues, at_queue, of_queues, parts_of}
 use Rattle.ddr_workers.proofs.closing.join_all.Goals as goal
+
+pub gather_workers-worker_sides-requires-clause-each : goal.gather_workers-worker_sides-requires-clause-each
+gather_workers-worker_sides-requires-clause-each g c = λ k w there.
+    rw c.requires.room.worker_sides (c.requires.ready.ports_are k w there ∙ sym (length-replicate (length c.args.ports.items) []))
 
 pub join_requests-requires-clause-count : goal.join_requests-requires-clause-count
 join_requests-requires-clause-count g c =

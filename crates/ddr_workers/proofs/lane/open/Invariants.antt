@@ -7,15 +7,15 @@ use Rattle.ddr_workers.specs.Sides.{PutSide, queue_id, new_put}
 use Rattle.ddr_workers.proofs.lane.open.Given as goal
 
 abbrev pub ghosts-set_purpose : goal.ghosts-set_purpose
-ghosts-set_purpose g a = record { purpose = Some a.purpose }
+ghosts-set_purpose g a = record { purpose = Some a.purpose; sides = a.sides }
 
 abbrev pub invariant-loop-source : goal.invariant-loop-source
 invariant-loop-source g l = let lane = arc_value l.lane in record {
   queue : IsPassOf lane.queue l.pass;
   capacity : ruled_capacity lane.queue ≡ l.fn.capacity;
   purpose : lane.purpose ≡ l.fn.purpose;
-  knows : view l.pass ≡ Take (record (new_taking lane.purpose) { count = l.source });
+  knows : view l.pass ≡ Take (record (new_taking lane.purpose l.fn.count) { count = l.source });
   made : vec_len l.puts ≡ l.source;
   room : vec_capacity l.puts ≡ l.fn.count;
-  sides : (p : ℕ) (s : PutSide _ _) → slice_get l.puts.items p ≡ Some s → s ≡ new_put (queue_id l.pass.table_id l.fn.capacity lane.purpose) p;
+  sides : (p : ℕ) (s : PutSide _ _) → slice_get l.puts.items p ≡ Some s → s ≡ new_put (queue_id l.pass.table_id l.fn.capacity l.fn.count lane.purpose) p;
 }

@@ -6,7 +6,7 @@ use Rattle.ddr_channel.specs.Cycle.{at_choice}
 use Rattle.ddr_channel.specs.Kept as kept
 use Rattle.ddr_workers.specs.declared.worker.Cause.TheVariants.{OutOfMemory}
 use Rattle.ddr_workers.specs.Worker.{WorkerState, IsSameWorker}
-use Rattle.ddr_workers.specs.WorkerView.{state_of}
+use Rattle.ddr_workers.specs.WorkerView.{HasTried, state_of}
 use Rattle.ddr_workers.proofs.WorkerLemmas.{whole_cycled, whole_uncycled, same_channel, cycle_begins, idle_after}
 use Rattle.ddr_workers.proofs.worker.Worker.step.Goals.{in-Ok, in-Err}
 use Rattle.ddr_workers.proofs.worker.Worker.step.Goals as goal
@@ -15,7 +15,7 @@ pub invariant_of-self : goal.invariant_of-self
 invariant_of-self c =
     let w = state_of c.self.inside in
     elim c.match-cycle.branch [
-      | in-Ok b ↦ whole_cycled w c.cycle.new.self c.self.invariant (λ idle. false≢true (sym c.if-is_empty.false ∙ c.is_empty.ensures.1 idle)) c.cycle.ensures.config (cycle_begins w.channel c.cycle.new.self c.cycle.result c.cycle.ensures.ok c.cycle.ensures.err) b.in-Ok.ensures.stands
+      | in-Ok b ↦ whole_cycled w c.cycle.new.self c.self.invariant (subst HasTried (sym c.self.view_is) c.requires) (λ idle. false≢true (sym c.if-is_empty.false ∙ c.is_empty.ensures.1 idle)) c.cycle.ensures.config b.in-Ok.ensures.ok b.in-Ok.ensures.stands
       | in-Err b ↦ whole_uncycled w c.cycle.new.self c.self.invariant b.in-Err.ensures.err
     ]
 
