@@ -5,12 +5,14 @@ use Rattle.std.proofs.lemmas.Bool.{both_ways}
 use Rattle.std.specs.Io.KnownBytes.{Appends, Keeps}
 use Rattle.ddr_timing.specs.declared.config.Config.{Config}
 use Rattle.ddr_world.specs.Kept.{state_of}
+use Rattle.ddr_world.specs.State.{IsDrained}
 use Rattle.ddr_text.specs.declared.fault.Fault.{Fault}
 use Rattle.ddr_text.specs.declared.fault.Fault.TheVariants as faults
-use Rattle.ddr_text.specs.Body.{IsOpened, parts_of}
+use Rattle.ddr_text.specs.Body.{IsOpened, IsRefused, parts_of}
 use Rattle.ddr_text.specs.Fault.{is_before_output}
 use Rattle.ddr_text.specs.Input.{IsText}
 use Rattle.ddr_text.specs.Instructions.{AreRead, form_of, instructions_of}
+use Rattle.ddr_text.proofs.BodyLemmas.{not_of_parts}
 use Rattle.ddr_sim.specs.Rounds.{Course, Run}
 use Rattle.ddr_sim.specs.Runs.{begun, channel_text, run_of, whole, written_by}
 use Rattle.ddr_text.specs.Script.{Instruction}
@@ -42,6 +44,43 @@ names_no_channel (Some input) items text profile sample trace config body known 
       opened = subst (λ t. IsOpened (parts_of sample profile t) config body) same opened;
       absent = absent;
     })
+
+-- the fault of a text whose parts are refused
+text_fault : (profile text : List ℕ) (sample : Bool) (trace : Option ℕ) (old : Option (List ℕ)) (fault : Fault) → IsText text → IsRefused (parts_of sample profile text) fault → HasSimFault sample profile trace text old old fault
+text_fault profile text sample trace old faults.ConfigSyntax is_text refused = (is_text, refused)
+text_fault profile text sample trace old (faults.ConfigMissing key) is_text refused = (is_text, refused)
+text_fault profile text sample trace old faults.ConfigUnknownKey is_text refused = (is_text, refused)
+text_fault profile text sample trace old (faults.ConfigRange key) is_text refused = (is_text, refused)
+text_fault profile text sample trace old (faults.ConfigNotPowerOfTwo key) is_text refused = (is_text, refused)
+text_fault profile text sample trace old (faults.ConfigRelation n) is_text refused = (is_text, refused)
+text_fault profile text sample trace old faults.ConfigUnserved is_text refused = (is_text, refused)
+text_fault profile text sample trace old faults.InputHasNoMark is_text refused = (is_text, refused)
+text_fault profile text sample trace old faults.InputTooLong is_text refused = not_of_parts (parts_of sample profile text) faults.InputTooLong refused refl
+text_fault profile text sample trace old faults.InputNotUtf8 is_text refused = not_of_parts (parts_of sample profile text) faults.InputNotUtf8 refused refl
+text_fault profile text sample trace old (faults.ScriptLine line) is_text refused = not_of_parts (parts_of sample profile text) (faults.ScriptLine line) refused refl
+text_fault profile text sample trace old (faults.RequestLine line cause) is_text refused = not_of_parts (parts_of sample profile text) (faults.RequestLine line cause) refused refl
+text_fault profile text sample trace old (faults.MapLine line) is_text refused = not_of_parts (parts_of sample profile text) (faults.MapLine line) refused refl
+text_fault profile text sample trace old faults.TraceHeader is_text refused = not_of_parts (parts_of sample profile text) faults.TraceHeader refused refl
+text_fault profile text sample trace old (faults.TraceRow line) is_text refused = not_of_parts (parts_of sample profile text) (faults.TraceRow line) refused refl
+text_fault profile text sample trace old (faults.TraceOrder line) is_text refused = not_of_parts (parts_of sample profile text) (faults.TraceOrder line) refused refl
+text_fault profile text sample trace old faults.TraceTruncated is_text refused = not_of_parts (parts_of sample profile text) faults.TraceTruncated refused refl
+text_fault profile text sample trace old faults.TraceTooLong is_text refused = not_of_parts (parts_of sample profile text) faults.TraceTooLong refused refl
+text_fault profile text sample trace old faults.TraceNoSuch is_text refused = not_of_parts (parts_of sample profile text) faults.TraceNoSuch refused refl
+text_fault profile text sample trace old faults.ScriptLimit is_text refused = not_of_parts (parts_of sample profile text) faults.ScriptLimit refused refl
+text_fault profile text sample trace old faults.Read is_text refused = tt
+text_fault profile text sample trace old faults.Write is_text refused = not_of_parts (parts_of sample profile text) faults.Write refused refl
+text_fault profile text sample trace old faults.OutOfMemory is_text refused = inl refl
+text_fault profile text sample trace old faults.NotDrained is_text refused = not_of_parts (parts_of sample profile text) faults.NotDrained refused refl
+text_fault profile text sample trace old faults.ClockSpent is_text refused = not_of_parts (parts_of sample profile text) faults.ClockSpent refused refl
+text_fault profile text sample trace old faults.PortBroken is_text refused = not_of_parts (parts_of sample profile text) faults.PortBroken refused refl
+text_fault profile text sample trace old faults.ThreadsRefused is_text refused = not_of_parts (parts_of sample profile text) faults.ThreadsRefused refused refl
+
+pub parts_fault : (remaining : Option (List ℕ)) (items text profile : List ℕ) (sample : Bool) (trace : Option ℕ) (old : Option (List ℕ)) (fault : Fault) → IfSome remaining (λ bytes. items ≡ bytes) → text ≡ items → IsText items → IsRefused (parts_of sample profile text) fault
+    → IfSome remaining (λ input. HasSimFault sample profile trace input old old fault)
+parts_fault None items text profile sample trace old fault known same is_text refused = tt
+parts_fault (Some input) items text profile sample trace old fault known same is_text refused =
+    subst (λ i. HasSimFault sample profile trace i old old fault) known
+    (text_fault profile items sample trace old fault is_text (subst (λ t. IsRefused (parts_of sample profile t) fault) same refused))
 
 -- a script that is at fault
 pub no_script : {X : Type 0} (view : X → List Instruction) (remaining : Option (List ℕ)) (profile : List ℕ) (sample : Bool) (trace : Option ℕ) (config : Config) (fault : Fault) (said : Result (List Instruction) Fault) (old : Option (List ℕ)) → AreRead view (Err fault) said
@@ -78,6 +117,14 @@ late old new sim _ course is = absurd is
 pub late_untouched : (old new : Option (List ℕ)) (sim : Simulated) (fault : Fault) (course : Course) (A : Type 0) → ComesTo old sim new (Err fault) course → IsTrue (is_before_output fault) → A
 late_untouched old new sim fault course A is before = absurd (both_ways (is_before_output fault) (late old new sim fault course is) before)
 
+-- nor a failed read
+pub late_unread : (old new : Option (List ℕ)) (sim : Simulated) (fault : Fault) (course : Course) (A : Type 0) → ComesTo old sim new (Err fault) course → ◌≡◌ {A = Result (Unit {0}) Fault} (Err fault) (Err faults.Read) → A
+late_unread old new sim faults.ScriptLimit course A is read = absurd (let impossible = read in cc)
+late_unread old new sim faults.ClockSpent course A is read = absurd (let impossible = read in cc)
+late_unread old new sim faults.OutOfMemory course A is read = absurd (let impossible = read in cc)
+late_unread old new sim faults.Write course A is read = absurd (let impossible = read in cc)
+late_unread old new sim _ course A is read = absurd is
+
 asked_so : (remaining : Option (List ℕ)) (profile : List ℕ) (sample : Bool) (trace : Option ℕ) (config : Config) (instructions : List Instruction) (course : Course) → IfSome remaining (λ input. Says sample profile trace input config (Ok instructions)) → run_of config instructions ≡ course
     → IfSome remaining (λ input. AsksFor sample profile trace input course)
 asked_so None profile sample trace config instructions course says is = tt
@@ -91,7 +138,7 @@ stop_written (Some c) silent old new fault text e printed =
 
 beginning : (trace : Option ℕ) (silent : Bool) (old new : Option (List ℕ)) (text : List ℕ) (course : Course) → silent ≡ is_some trace → BeginsWith (printed_in course) text → Prints silent old new text → IsBeginning trace course old new
 beginning None silent old new text course e begins printed = (text, begins, subst (λ b. Prints b old new text) e printed)
-beginning (Some c) silent old new text course e begins printed = tt
+beginning (Some c) silent old new text course e begins printed = subst (λ b. Prints b old new text) e printed
 
 -- a run that a fault ended
 pub run_fault : (remaining : Option (List ℕ)) (profile : List ℕ) (sample : Bool) (trace : Option ℕ) (config : Config) (instructions : List Instruction) (sim : Simulated) (old new : Option (List ℕ)) (fault : Fault) → IfSome remaining (λ input. Says sample profile trace input config (Ok instructions))
@@ -125,20 +172,28 @@ flush_fault None profile sample trace config instructions old new fault says is 
 flush_fault (Some input) profile sample trace config instructions old new fault says is =
     subst (λ (f : Fault). HasSimFault sample profile trace input old new f) (sym is) (run_of config instructions, record { config = config; instructions = instructions; says = says; course_is = refl })
 
-unsaid : (trace : Option ℕ) (channel : ℕ) (course : Course) (old new : Option (List ℕ)) → trace ≡ Some channel → IsBeginning trace course old new
-unsaid None channel course old new e = absurd (let impossible = e in cc)
-unsaid (Some c) channel course old new e = tt
+-- a run whose trace is asked for printed nothing
+none_printed : (trace : Option ℕ) (channel : ℕ) (sim : Simulated) (old mid : Option (List ℕ)) (v : Unit {0}) (course : Course) → trace ≡ Some channel → sim.silent ≡ is_some trace → ComesTo old sim mid (Ok v) course → mid ≡ old
+none_printed trace channel sim old mid v course some silent is = subst (λ b. Prints b old mid is.0) (silent ∙ ap (λ (t : Option ℕ). is_some t) some) is.2
 
-pub end_fault : (remaining : Option (List ℕ)) (profile : List ℕ) (sample : Bool) (trace : Option ℕ) (channel : ℕ) (config : Config) (instructions : List Instruction) (old new : Option (List ℕ)) (fault : Fault) → trace ≡ Some channel → IfSome remaining (λ input. Says sample profile trace input config (Ok instructions))
-    → (fault ≡ faults.Write) ⊎ (fault ≡ faults.OutOfMemory) → IfSome remaining (λ input. HasSimFault sample profile trace input old new fault)
-end_fault None profile sample trace channel config instructions old new fault some says is = tt
-end_fault (Some input) profile sample trace channel config instructions old new faults.Write some says is = (run_of config instructions, record { config = config; instructions = instructions; says = says; course_is = refl })
-end_fault (Some input) profile sample trace channel config instructions old new faults.OutOfMemory some says is = inr (record {
-  course = run_of config instructions;
-  asks = record { config = config; instructions = instructions; says = says; course_is = refl };
-  written = unsaid trace channel (run_of config instructions) old new some;
-})
-end_fault (Some input) profile sample trace channel config instructions old new _ some says is = absurd (elim is as (λ _. ⊥) [ inl e ↦ cc | inr e ↦ cc ])
+pub end_fault : (remaining : Option (List ℕ)) (profile : List ℕ) (sample : Bool) (trace : Option ℕ) (channel : ℕ) (config : Config) (instructions : List Instruction) (sim : Simulated) (old mid new : Option (List ℕ)) (v : Unit {0}) (fault : Fault) → trace ≡ Some channel → IfSome remaining (λ input. Says sample profile trace input config (Ok instructions))
+    → sim.silent ≡ is_some trace → ComesTo old sim mid (Ok v) (run_of config instructions) → (fault ≡ faults.OutOfMemory → new ≡ mid) → (fault ≡ faults.Write) ⊎ (fault ≡ faults.OutOfMemory) → IfSome remaining (λ input. HasSimFault sample profile trace input old new fault)
+end_fault None profile sample trace channel config instructions sim old mid new v fault some says silent came spared is = tt
+end_fault (Some input) profile sample trace channel config instructions sim old mid new v faults.Write some says silent came spared is = (run_of config instructions, record { config = config; instructions = instructions; says = says; course_is = refl })
+end_fault (Some input) profile sample trace channel config instructions sim old mid new v faults.OutOfMemory some says silent came spared is =
+    inl (spared refl ∙ none_printed trace channel sim old mid v (run_of config instructions) some silent came)
+end_fault (Some input) profile sample trace channel config instructions sim old mid new v _ some says silent came spared is = absurd (elim is as (λ _. ⊥) [ inl e ↦ cc | inr e ↦ cc ])
+
+-- a run at whose end the core is not drained
+pub undrained_fault : (remaining : Option (List ℕ)) (profile : List ℕ) (sample : Bool) (trace : Option ℕ) (config : Config) (instructions : List Instruction) (sim : Simulated) (old mid new : Option (List ℕ)) (v : Unit {0}) (fault : Fault) → IfSome remaining (λ input. Says sample profile trace input config (Ok instructions))
+    → ComesTo old sim mid (Ok v) (run_of config instructions) → (fault ≡ faults.NotDrained) × (¬ IsDrained (state_of sim.world)) → IfSome remaining (λ input. HasSimFault sample profile trace input old new fault)
+undrained_fault None profile sample trace config instructions sim old mid new v fault says came is = tt
+undrained_fault (Some input) profile sample trace config instructions sim old mid new v fault says came is =
+    subst (λ (f : Fault). HasSimFault sample profile trace input old new f) (sym is.0) (record {
+      run = run_at sim came.0;
+      asks = record { config = config; instructions = instructions; says = says; course_is = came.1 };
+      undrained = is.1;
+    })
 
 kept_as_appended : (b c : Option (List ℕ)) → Keeps b c → Appends b c []
 kept_as_appended None c q = tt
@@ -157,20 +212,21 @@ end_written (Some c) silent old mid new run e printed last =
 
 run_written : (remaining : Option (List ℕ)) (profile : List ℕ) (sample : Bool) (trace : Option ℕ) (config : Config) (instructions : List Instruction) (sim : Simulated) (old mid new : Option (List ℕ)) (v : Unit {0}) → IfSome remaining (λ input. Says sample profile trace input config (Ok instructions))
     → sim.silent ≡ is_some trace → ComesTo old sim mid (Ok v) (run_of config instructions) → (elim trace as (λ _. Type 0) [ None ↦ Keeps mid new | Some c ↦ Appends mid new (channel_text (state_of sim.world) c) ])
-    → IfSome remaining (λ input. IsRun sample profile trace input old new)
-run_written None profile sample trace config instructions sim old mid new v says silent is last = tt
-run_written (Some input) profile sample trace config instructions sim old mid new v says silent is last = record {
+    → IsDrained (state_of sim.world) → IfSome remaining (λ input. IsRun sample profile trace input old new)
+run_written None profile sample trace config instructions sim old mid new v says silent is last drained = tt
+run_written (Some input) profile sample trace config instructions sim old mid new v says silent is last drained = record {
   run = run_at sim is.0;
   asks = record { config = config; instructions = instructions; says = says; course_is = is.1 };
+  drained = drained;
   written = end_written trace sim.silent old mid new (run_at sim is.0) silent is.2 last;
 }
 
 pub replies_written : (remaining : Option (List ℕ)) (profile : List ℕ) (sample : Bool) (trace : Option ℕ) (config : Config) (instructions : List Instruction) (sim : Simulated) (old mid new : Option (List ℕ)) (v : Unit {0}) → IfSome remaining (λ input. Says sample profile trace input config (Ok instructions))
-    → sim.silent ≡ is_some trace → trace ≡ None → ComesTo old sim mid (Ok v) (run_of config instructions) → Keeps mid new → IfSome remaining (λ input. IsRun sample profile trace input old new)
-replies_written remaining profile sample trace config instructions sim old mid new v says silent none is last =
-    run_written remaining profile sample trace config instructions sim old mid new v says silent is (subst (λ (t : Option ℕ). elim t as (λ _. Type 0) [ None ↦ Keeps mid new | Some c ↦ Appends mid new (channel_text (state_of sim.world) c) ]) (sym none) last)
+    → sim.silent ≡ is_some trace → trace ≡ None → ComesTo old sim mid (Ok v) (run_of config instructions) → Keeps mid new → IsDrained (state_of sim.world) → IfSome remaining (λ input. IsRun sample profile trace input old new)
+replies_written remaining profile sample trace config instructions sim old mid new v says silent none is last drained =
+    run_written remaining profile sample trace config instructions sim old mid new v says silent is (subst (λ (t : Option ℕ). elim t as (λ _. Type 0) [ None ↦ Keeps mid new | Some c ↦ Appends mid new (channel_text (state_of sim.world) c) ]) (sym none) last) drained
 
 pub trace_written : (remaining : Option (List ℕ)) (profile : List ℕ) (sample : Bool) (trace : Option ℕ) (channel : ℕ) (config : Config) (instructions : List Instruction) (sim : Simulated) (old mid new : Option (List ℕ)) (v : Unit {0}) → IfSome remaining (λ input. Says sample profile trace input config (Ok instructions))
-    → sim.silent ≡ is_some trace → trace ≡ Some channel → ComesTo old sim mid (Ok v) (run_of config instructions) → Appends mid new (channel_text (state_of sim.world) channel) → IfSome remaining (λ input. IsRun sample profile trace input old new)
-trace_written remaining profile sample trace channel config instructions sim old mid new v says silent some is last =
-    run_written remaining profile sample trace config instructions sim old mid new v says silent is (subst (λ (t : Option ℕ). elim t as (λ _. Type 0) [ None ↦ Keeps mid new | Some c ↦ Appends mid new (channel_text (state_of sim.world) c) ]) (sym some) last)
+    → sim.silent ≡ is_some trace → trace ≡ Some channel → ComesTo old sim mid (Ok v) (run_of config instructions) → Appends mid new (channel_text (state_of sim.world) channel) → IsDrained (state_of sim.world) → IfSome remaining (λ input. IsRun sample profile trace input old new)
+trace_written remaining profile sample trace channel config instructions sim old mid new v says silent some is last drained =
+    run_written remaining profile sample trace config instructions sim old mid new v says silent is (subst (λ (t : Option ℕ). elim t as (λ _. Type 0) [ None ↦ Keeps mid new | Some c ↦ Appends mid new (channel_text (state_of sim.world) c) ]) (sym some) last) drained

@@ -7,6 +7,7 @@ use Rattle.ddr_text.specs.declared.fault.Fault.TheVariants as faults
 use Rattle.ddr_text.specs.Body.{HasInputFault, IsOpened, parts_of}
 use Rattle.ddr_text.specs.Input.{IsText}
 use Rattle.ddr_text.specs.Instructions.{form_of, instructions_of}
+use Rattle.ddr_world.specs.State.{IsDrained}
 use Rattle.ddr_sim.specs.Rounds.{Run, Course, Stopped}
 use Rattle.ddr_sim.specs.Runs.{run_of, written_by}
 use Rattle.ddr_text.specs.Script.{Instruction}
@@ -45,11 +46,18 @@ pub record NamesNoChannel (sample : Bool) (profile : List ℕ) (trace : Option �
   pub opened : IsOpened (parts_of sample profile input) config body
   pub absent : has_channel config trace ≡ false
 
--- what a run without a fault writes
+-- what a run without a fault writes; at its end the core is drained
 pub record IsRun (sample : Bool) (profile : List ℕ) (trace : Option ℕ) (input : List ℕ) (old new : Option (List ℕ)) : Type 0 where
   pub run : Run
   pub asks : AsksFor sample profile trace input (Ok run)
+  pub drained : IsDrained run.state
   pub written : Appends old new (written_by trace (Ok run))
+
+-- the input asks for a run at whose end the core is not drained
+pub record LeavesUndrained (sample : Bool) (profile : List ℕ) (trace : Option ℕ) (input : List ℕ) : Type 0 where
+  pub run : Run
+  pub asks : AsksFor sample profile trace input (Ok run)
+  pub undrained : ¬ IsDrained run.state
 
 -- a fault stopped the run, and what was printed before it is written
 pub record IsStopped (sample : Bool) (profile : List ℕ) (trace : Option ℕ) (input : List ℕ) (old new : Option (List ℕ)) (fault : Fault) : Type 0 where
@@ -62,10 +70,10 @@ pub record IsStopped (sample : Bool) (profile : List ℕ) (trace : Option ℕ) (
 abbrev pub AsksForRun : Bool → List ℕ → Option ℕ → List ℕ → Type 0
 AsksForRun sample profile trace input = (course : Course) × AsksFor sample profile trace input course
 
--- what was written is what this run begins to print; of a trace that was cut short nothing is said
+-- what was written is what this run begins to print, and of a trace nothing
 abbrev pub IsBeginning : Option ℕ → Course → Option (List ℕ) → Option (List ℕ) → Type 0
 IsBeginning None course old new = (text : List ℕ) × BeginsWith (printed_in course) text × Appends old new text
-IsBeginning (Some channel) course old new = Unit {0}
+IsBeginning (Some channel) course old new = new ≡ old
 
 -- memory ran out in the run that the input asks for
 pub record IsCutShort (sample : Bool) (profile : List ℕ) (trace : Option ℕ) (input : List ℕ) (old new : Option (List ℕ)) : Type 0 where
@@ -75,7 +83,8 @@ pub record IsCutShort (sample : Bool) (profile : List ℕ) (trace : Option ℕ) 
 
 -- The input has the fault that a run ends by. Where the script has too many requests nothing is written, and where it needs
 -- too many rounds what was printed in those that are made; where memory runs out nothing is written, or what the run begins
--- to print; where writing fails the input asks for a run; and reading fails by itself.
+-- to print; where writing fails the input asks for a run; and where the core is not drained that is so at the run's end.
+-- Reading fails by itself.
 abbrev pub HasSimFault : Bool → List ℕ → Option ℕ → List ℕ → Option (List ℕ) → Option (List ℕ) → Fault → Type 0
 HasSimFault sample profile trace input old new faults.TraceNoSuch = NamesNoChannel sample profile trace input
 HasSimFault sample profile trace input old new (faults.ScriptLine line) = IsNoScript sample profile trace input (faults.ScriptLine line)
@@ -84,5 +93,6 @@ HasSimFault sample profile trace input old new faults.ScriptLimit =
 HasSimFault sample profile trace input old new faults.ClockSpent = IsStopped sample profile trace input old new faults.ClockSpent
 HasSimFault sample profile trace input old new faults.Write = AsksForRun sample profile trace input
 HasSimFault sample profile trace input old new faults.Read = Unit {0}
+HasSimFault sample profile trace input old new faults.NotDrained = LeavesUndrained sample profile trace input
 HasSimFault sample profile trace input old new faults.OutOfMemory = (new ≡ old) ⊎ IsCutShort sample profile trace input old new
 HasSimFault sample profile trace input old new fault = HasInputFault sample profile input fault

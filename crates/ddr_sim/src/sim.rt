@@ -1,20 +1,21 @@
 //! A run of a script: bytes in, replies or a trace out.
 //!
 //! `simulation` and `ddr_text` stand below, and `ddr_tool` above.
-ghost use Rattle.std.specs.Prelude.{◌≡◌, IsTrue, IfErr, IfSome, OnOk};
+ghost use Rattle.std.specs.Prelude.{◌≡◌, IsTrue, IfErr, IfSome, IsErrOf, OnOk};
 ghost use Rattle.ddr_text.specs.Fault.{is_before_output};
 ghost use Rattle.ddr_sim.specs.Sims.{HasSimFault, IsRun, has_channel};
 
 use crate::simulation::Simulation;
 use ddr_text::body::open;
 use ddr_text::fault::Fault;
-use ddr_text::input::{read_input, text_of};
+use ddr_text::input::{read_source, text_of};
 use ddr_text::instructions::{Form, instructions_of};
+use ddr_text::source::Source;
 use ddr_text::writing::flush;
 use ddr_timing::config::Config;
 use ddr_timing::profile::PROFILE_S;
 use std::alloc::Global;
-use std::io::{Read, Write};
+use std::io::Write;
 
 /// Reads a script and runs it.
 ///
@@ -25,8 +26,9 @@ use std::io::{Read, Write};
 /// Fails as `open` does, then as `TraceNoSuch` where there is no such channel, then as `ScriptLine` at the first
 /// line of the script that is at fault, or as `ScriptLimit` at the first request too many. At these nothing is written.
 /// A run that needs too many rounds fails as `ScriptLimit` too, and what was written before stands, as at every later
-/// fault.
-pub fn sim<R: Read, W: Write>(
+/// fault; of a trace nothing is written where memory runs out. At its end the core is drained and closed; one that is not
+/// drained would be told as `NotDrained`. Over bytes in memory it never fails as `Read`.
+pub fn sim<R: Source, W: Write>(
     alloc: Global,
     sample: bool,
     trace: Option<u32>,
@@ -34,12 +36,13 @@ pub fn sim<R: Read, W: Write>(
     writer: &mut W,
 ) -> Result<(), Fault>
     ensures untouched { IfErr result (λ fault. IsTrue (is_before_output fault) → writer.new ≡ writer.old) }
+    ensures sure { IsErrOf result Fault.Read → IsTrue R.may_fail }
     ensures fault { IfErr result (λ fault. IfSome (R.remaining reader.old) (λ input.
         HasSimFault sample PROFILE_S.now trace input (W.contents writer.old) (W.contents writer.new) fault)) }
     ensures written { OnOk result (IfSome (R.remaining reader.old) (λ input.
         IsRun sample PROFILE_S.now trace input (W.contents writer.old) (W.contents writer.new))) }
 {
-    let input = read_input(alloc, reader)?;
+    let input = read_source(alloc, reader)?;
     let text = text_of(input.as_slice())?;
     let (config, body) = open(alloc, sample, text)?;
     if !has_channel(&config, trace) {
@@ -56,7 +59,7 @@ pub fn sim<R: Read, W: Write>(
         None => flush(writer)?,
         Some(channel) => simulation.write_trace(alloc, channel, writer)?,
     }
-    simulation.close();
+    simulation.close()?;
     Ok(())
 }
 

@@ -7,13 +7,16 @@ ghost use Rattle.ddr_ports.specs.Asked.{asked_of};
 ghost use Rattle.ddr_world.specs.Answer.{IsAnswered};
 ghost use Rattle.ddr_world.specs.Events.{event_of};
 ghost use Rattle.ddr_world.specs.History.{front_of};
+ghost use Rattle.ddr_trace.specs.Text.{trace_text};
 ghost use Rattle.ddr_world.specs.Kept.{state_of};
+ghost use Rattle.ddr_world.specs.State.{IsDrained};
 ghost use Rattle.ddr_sim.specs.Rounds.{channel_served, channels_served, outstanding, port_served, ports_served, round, rounds, until_refused};
 ghost use Rattle.ddr_sim.specs.Runs.{all_followed, begun, channel_text, channels_ended, drained, followed, ports_ended, submitted, whole};
 ghost use Rattle.ddr_text.specs.Script.{view};
 ghost use Rattle.ddr_sim.specs.Simulated.{IsCycleFault, IsFrontPrinted, IsSameRun, Leads, added, is_popping, run_at};
 
 use crate::reply::{refused_text, reply_text};
+use ddr_channel::channel::Channel;
 use ddr_ports::request::Request;
 use ddr_text::fault::Fault;
 use ddr_text::script::Instruction;
@@ -334,7 +337,7 @@ impl Simulation {
         Ok(outcome)
     }
 
-    /// Writes the trace of a channel, and flushes.
+    /// Writes the trace of a channel, and flushes. Where memory runs out nothing is written.
     pub fn write_trace<W: Write>(
         &self,
         alloc: Global,
@@ -342,16 +345,47 @@ impl Simulation {
         writer: &mut W,
     ) -> Result<(), Fault>
         ensures written { OnOk result (Appends (W.contents writer.old) (W.contents writer.new) (channel_text (state_of self.now.world) channel)) }
+        ensures spared { IfErr result (λ fault. fault ≡ Fault.OutOfMemory → W.contents writer.new ≡ W.contents writer.old) }
         ensures fault { IfErr result (λ fault. (fault ≡ Fault.Write) ⊎ (fault ≡ Fault.OutOfMemory)) }
     {
         let Some(channel) = self.world.channel(channel) else {
             return Ok(());
         };
-        Ok(write_trace(alloc, channel.trace(), channel.now(), writer)?)
+        let text = text_of(alloc, channel)?;
+        write_bytes(writer, text.as_slice())
     }
 
-    /// Closes the core. It is drained where the run came to its end.
-    pub fn close(self) {
-        let _ = self.world.close();
+    /// Closes the core. Fails as `NotDrained` where it is not drained.
+    pub fn close(self) -> Result<(), Fault>
+        ensures drained { OnOk result (IsDrained (state_of self.world)) }
+        ensures refused { IfErr result (λ fault. (fault ≡ Fault.NotDrained) × (¬ IsDrained (state_of self.world))) }
+    {
+        match self.world.close() {
+            Ok(_) => Ok(()),
+            Err(_) => Err(Fault::NotDrained),
+        }
     }
+}
+
+/// The text of a channel's trace.
+fn text_of(alloc: Global, channel: &Channel) -> Result<Vec<u8>, Fault>
+    ensures text { IfOk result (λ v. v.items ≡ trace_text channel.now.trace channel.now.now) }
+    ensures refused { IfErr result (λ fault. fault ≡ Fault.OutOfMemory) }
+{
+    let mut text = Vec::new(alloc);
+    match write_trace(alloc, channel.trace(), channel.now(), &mut text) {
+        Ok(()) => Ok(text),
+        Err(_) => Err(Fault::OutOfMemory),
+    }
+}
+
+/// Writes bytes, and gives them on. Fails as `Write`.
+fn write_bytes<W: Write>(writer: &mut W, bytes: &[u8]) -> Result<(), Fault>
+    ensures written { OnOk result (Appends (W.contents writer.old) (W.contents writer.new) bytes.now) }
+    ensures refused { IfErr result (λ fault. fault ≡ Fault.Write) }
+{
+    if writer.write_all(bytes).is_err() || writer.flush().is_err() {
+        return Err(Fault::Write);
+    }
+    Ok(())
 }

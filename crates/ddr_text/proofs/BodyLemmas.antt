@@ -1,10 +1,11 @@
 -- Going over the lines of an input up to the mark.
-use Rattle.std.proofs.Common.{◌≡◌, ℕ, ◌+◌, ◌<◌, Bool, true, false, cond, ◌==◌, codes, List, [], ◌∷◌, ◌++◌, length, get_or, Option, None, Some, refl, sym, subst, ap, ap₂, ◌∙◌, ◌-◌, ◌||◌, slice_index, take, append_assoc, append-nil, arith}
+use Rattle.std.proofs.Common.{◌≡◌, ℕ, ◌+◌, ◌<◌, Bool, true, false, cond, ◌==◌, ◌≢◌, codes, List, [], ◌∷◌, ◌++◌, length, get_or, Option, None, Some, refl, sym, subst, ap, ap₂, ◌∙◌, ◌-◌, ◌||◌, slice_index, take, append_assoc, append-nil, arith}
 use Rattle.std.specs.List.{All, after_first, before_first, join_with_byte, list_any, position_or_len, slice_range, slice_split}
 use Rattle.std.specs.Str.{bytes_eq}
 use Rattle.std.specs.Str.Lines.{lines, lines_of_parts, strip_carriage_return}
 use Rattle.std.proofs.lemmas.Grind.{common_steps}
-use Rattle.std.proofs.lemmas.Bool.{eqb-true}
+use Rattle.std.proofs.lemmas.Bool.{eqb-true, false≢true}
+use Rattle.std.proofs.lemmas.Option.{none-some, same_Some}
 use Rattle.std.proofs.Math.Seq.{take-length}
 use Rattle.std.proofs.lemmas.List.{get_or-take, length-take, take_more}
 use Rattle.std.proofs.lemmas.List.Elements.{All-from_get_or}
@@ -12,7 +13,15 @@ use Rattle.std.proofs.lemmas.Slice.Eq.{bytes_eq-Decides}
 use Rattle.std.proofs.lemmas.List.Splits.{join_with_byte-slice_split, length-slice_split, slice_split_at, slice_split_first, slice_split_none}
 use Rattle.std.proofs.lemmas.List.Sums.{fails_before_first, passes_at_first, split_at_first}
 use Rattle.std.proofs.lemmas.List.Folds.{list_any-append}
-use Rattle.ddr_text.specs.Body.{has_mark, is_mark, split_from}
+use Rattle.std.specs.Prelude.{option_map}
+use Rattle.toml.specs.Parse.{parse_document}
+use Rattle.ddr_timing.specs.declared.error.ConfigError.{ConfigError}
+use Rattle.ddr_timing.specs.declared.error.ConfigError.TheVariants as refusals
+use Rattle.ddr_timing.specs.Refusals.{refusal_of}
+use Rattle.ddr_text.specs.declared.fault.Fault.{Fault}
+use Rattle.ddr_text.specs.declared.fault.Fault.TheVariants as faults
+use Rattle.ddr_text.specs.Fault.{fault_of}
+use Rattle.ddr_text.specs.Body.{HasConfigFault, IsRefused, has_mark, is_mark, split_from}
 
 abbrev is_feed : ℕ → Bool
 is_feed byte = byte == 10
@@ -157,3 +166,73 @@ unmarked_all text front rest seen whole lined none unfed other =
     go : (b : Bool) → are_marked (cond b [] (rest ∷ [])) ≡ false
     go true = refl
     go false = ap (λ b. b || false) other
+
+-- what may be at fault in the two parts of an input
+abbrev pub is_of_parts : Fault → Bool
+is_of_parts faults.ConfigSyntax = true
+is_of_parts (faults.ConfigMissing key) = true
+is_of_parts faults.ConfigUnknownKey = true
+is_of_parts (faults.ConfigRange key) = true
+is_of_parts (faults.ConfigNotPowerOfTwo key) = true
+is_of_parts (faults.ConfigRelation n) = true
+is_of_parts faults.ConfigUnserved = true
+is_of_parts faults.InputHasNoMark = true
+is_of_parts faults.OutOfMemory = true
+is_of_parts _ = false
+
+kind_of_refusal : (refusal : ConfigError) → is_of_parts (fault_of refusal) ≡ true
+kind_of_refusal refusals.Syntax = refl
+kind_of_refusal (refusals.Missing key) = refl
+kind_of_refusal refusals.UnknownKey = refl
+kind_of_refusal (refusals.Range key) = refl
+kind_of_refusal (refusals.NotPowerOfTwo key) = refl
+kind_of_refusal (refusals.Relation n) = refl
+kind_of_refusal refusals.OutOfMemory = refl
+
+kind_of_said : (refusal : Option ConfigError) (fault : Fault) → option_map fault_of refusal ≡ Some fault → is_of_parts fault ≡ true
+kind_of_said None fault e = absurd (none-some fault e)
+kind_of_said (Some refusal) fault e = ap is_of_parts (sym (same_Some (fault_of refusal) fault e)) ∙ kind_of_refusal refusal
+
+abbrev is_memory : Fault → Bool
+is_memory faults.OutOfMemory = true
+is_memory _ = false
+
+no_memory : (fault : Fault) → is_memory fault ≡ false → fault ≢ faults.OutOfMemory
+no_memory fault other e = false≢true (sym other ∙ ap is_memory e)
+
+kind_of_config : (text : List ℕ) (fault : Fault) → HasConfigFault text fault → is_of_parts fault ≡ true
+kind_of_config text faults.ConfigSyntax said = refl
+kind_of_config text (faults.ConfigMissing key) said = refl
+kind_of_config text faults.ConfigUnknownKey said = refl
+kind_of_config text (faults.ConfigRange key) said = refl
+kind_of_config text (faults.ConfigNotPowerOfTwo key) said = refl
+kind_of_config text (faults.ConfigRelation n) said = refl
+kind_of_config text faults.ConfigUnserved said = refl
+kind_of_config text faults.InputHasNoMark said = refl
+kind_of_config text faults.OutOfMemory said = refl
+kind_of_config text faults.InputTooLong said = kind_of_said (refusal_of (parse_document text)) faults.InputTooLong (said (no_memory faults.InputTooLong refl))
+kind_of_config text faults.InputNotUtf8 said = kind_of_said (refusal_of (parse_document text)) faults.InputNotUtf8 (said (no_memory faults.InputNotUtf8 refl))
+kind_of_config text (faults.ScriptLine line) said = kind_of_said (refusal_of (parse_document text)) (faults.ScriptLine line) (said (no_memory (faults.ScriptLine line) refl))
+kind_of_config text (faults.RequestLine line cause) said = kind_of_said (refusal_of (parse_document text)) (faults.RequestLine line cause) (said (no_memory (faults.RequestLine line cause) refl))
+kind_of_config text (faults.MapLine line) said = kind_of_said (refusal_of (parse_document text)) (faults.MapLine line) (said (no_memory (faults.MapLine line) refl))
+kind_of_config text faults.TraceHeader said = kind_of_said (refusal_of (parse_document text)) faults.TraceHeader (said (no_memory faults.TraceHeader refl))
+kind_of_config text (faults.TraceRow line) said = kind_of_said (refusal_of (parse_document text)) (faults.TraceRow line) (said (no_memory (faults.TraceRow line) refl))
+kind_of_config text (faults.TraceOrder line) said = kind_of_said (refusal_of (parse_document text)) (faults.TraceOrder line) (said (no_memory (faults.TraceOrder line) refl))
+kind_of_config text faults.TraceTruncated said = kind_of_said (refusal_of (parse_document text)) faults.TraceTruncated (said (no_memory faults.TraceTruncated refl))
+kind_of_config text faults.TraceTooLong said = kind_of_said (refusal_of (parse_document text)) faults.TraceTooLong (said (no_memory faults.TraceTooLong refl))
+kind_of_config text faults.TraceNoSuch said = kind_of_said (refusal_of (parse_document text)) faults.TraceNoSuch (said (no_memory faults.TraceNoSuch refl))
+kind_of_config text faults.ScriptLimit said = kind_of_said (refusal_of (parse_document text)) faults.ScriptLimit (said (no_memory faults.ScriptLimit refl))
+kind_of_config text faults.Read said = kind_of_said (refusal_of (parse_document text)) faults.Read (said (no_memory faults.Read refl))
+kind_of_config text faults.Write said = kind_of_said (refusal_of (parse_document text)) faults.Write (said (no_memory faults.Write refl))
+kind_of_config text faults.ClockSpent said = kind_of_said (refusal_of (parse_document text)) faults.ClockSpent (said (no_memory faults.ClockSpent refl))
+kind_of_config text faults.PortBroken said = kind_of_said (refusal_of (parse_document text)) faults.PortBroken (said (no_memory faults.PortBroken refl))
+kind_of_config text faults.NotDrained said = kind_of_said (refusal_of (parse_document text)) faults.NotDrained (said (no_memory faults.NotDrained refl))
+kind_of_config text faults.ThreadsRefused said = kind_of_said (refusal_of (parse_document text)) faults.ThreadsRefused (said (no_memory faults.ThreadsRefused refl))
+
+kind_of_parts : (parts : Option (List ℕ × List ℕ)) (fault : Fault) → IsRefused parts fault → is_of_parts fault ≡ true
+kind_of_parts None fault said = ap is_of_parts said
+kind_of_parts (Some p) fault said = kind_of_config p.0 fault said
+
+-- a fault of another kind is none of the parts
+pub not_of_parts : {X : Type 0} (parts : Option (List ℕ × List ℕ)) (fault : Fault) → IsRefused parts fault → is_of_parts fault ≡ false → X
+not_of_parts parts fault said other = absurd (false≢true (sym other ∙ kind_of_parts parts fault said))

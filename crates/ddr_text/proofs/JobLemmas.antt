@@ -20,7 +20,7 @@ use Rattle.clap.specs.declared.Error.{Error}
 use Rattle.clap.specs.declared.error.kind.ErrorKind.TheVariants.{OutOfMemory}
 use Rattle.clap.proofs.CallerReads.{signed_reads}
 use Rattle.clap.proofs.ValueTestLemmas.{accepts-Accepts}
-use Rattle.ddr_text.specs.declared.job.Job.TheVariants.{Sim}
+use Rattle.ddr_text.specs.declared.command.Job.TheVariants.{Sim}
 use Rattle.ddr_text.specs.Job.{Answers, AreTaken, IsTaken, ddr_app, is_subcommand, job_of, job_or, job_with, sample_rule, trace_rule}
 use Rattle.ddr_text.proofs.PassLemmas.{AllFit, AllSubsLike, IsLike, fit_subcommand, one_passes}
 

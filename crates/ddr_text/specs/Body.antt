@@ -6,8 +6,9 @@ use Rattle.std.specs.Str.Lines.{lines}
 use Rattle.toml.specs.Parse.{parse_document}
 use Rattle.ddr_timing.specs.Refusals.{refusal_of}
 use Rattle.ddr_timing.specs.declared.config.Config.{Config}
+use Rattle.ddr_text.specs.declared.body.TheConstants.{SERVED}
 use Rattle.ddr_text.specs.declared.fault.Fault.{Fault}
-use Rattle.ddr_text.specs.declared.fault.Fault.TheVariants.{InputHasNoMark, InputNotUtf8, InputTooLong, OutOfMemory}
+use Rattle.ddr_text.specs.declared.fault.Fault.TheVariants.{ConfigUnserved, InputHasNoMark, InputNotUtf8, InputTooLong, OutOfMemory}
 use Rattle.ddr_text.specs.Fault.{fault_of}
 use Rattle.ddr_text.specs.Input.{IsNoText, IsText, IsTooLong}
 use Rattle.ddr_timing.specs.Values.{IsReadAs}
@@ -37,14 +38,23 @@ parts_of sample profile input = if sample then Some (profile, input) else split_
 abbrev pub IsConfig : List ℕ → Config → Type 0
 IsConfig text config = IsReadAs (parse_document text) config
 
--- the configuration is what the first part says, and the body is the second
+-- the configuration is what the first part says, of a version that is served, and the body is the second
 abbrev pub IsOpened : Option (List ℕ × List ℕ) → Config → List ℕ → Type 0
-IsOpened parts config body = IsSomeAnd parts (λ p. IsConfig p.0 config × (body ≡ p.1))
+IsOpened parts config body = IsSomeAnd parts (λ p. IsConfig p.0 config × (body ≡ p.1) × (config.geometry.version ≡ SERVED))
 
--- there are no parts, or the first refusal of the configuration is this fault, or memory ran out
+-- the configuration is accepted, and of a version that is not served
+abbrev pub IsUnserved : List ℕ → Type 0
+IsUnserved text = (config : Config) × IsConfig text config × (config.geometry.version ≢ SERVED)
+
+-- the first refusal of the configuration is this fault, or its version, or memory ran out
+abbrev pub HasConfigFault : List ℕ → Fault → Type 0
+HasConfigFault text ConfigUnserved = IsUnserved text
+HasConfigFault text fault = fault ≢ OutOfMemory → option_map fault_of (refusal_of (parse_document text)) ≡ Some fault
+
+-- there are no parts, or the configuration has this fault
 abbrev pub IsRefused : Option (List ℕ × List ℕ) → Fault → Type 0
 IsRefused None fault = fault ≡ InputHasNoMark
-IsRefused (Some p) fault = fault ≢ OutOfMemory → option_map fault_of (refusal_of (parse_document p.0)) ≡ Some fault
+IsRefused (Some p) fault = HasConfigFault p.0 fault
 
 -- some line of the text is `---`
 abbrev pub has_mark : List ℕ → Bool

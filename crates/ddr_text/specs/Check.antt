@@ -51,6 +51,11 @@ HasTrace sample profile input = (config : Config) × (trace : Recorded) × SaysT
 abbrev pub RefusesTrace : Bool → List ℕ → List ℕ → TraceError → Type 0
 RefusesTrace sample profile input refusal = (config : Config) × SaysTrace sample profile input config (Err refusal)
 
+-- what refuses a text in memory, which is read without fail
+abbrev pub in_memory : TraceError → TraceError
+in_memory error.Read = error.OutOfMemory
+in_memory refusal = refusal
+
 -- the input has the fault that a check ends by; where writing fails it has a verdict, and reading and memory fail by
 -- themselves
 abbrev pub HasCheckFault : Bool → List ℕ → List ℕ → Fault → Type 0

@@ -7,13 +7,15 @@ use Rattle.ddr_trace.specs.declared.text.TraceError.TheVariants as traces
 use Rattle.ddr_text.specs.declared.fault.Fault.{Fault}
 use Rattle.ddr_text.specs.declared.fault.Fault.TheVariants as faults
 
--- the status that a run ends with: 3 where the device, the memory, the clock or a port is at fault, 2 where the input is
+-- the status that a run ends with: 3 where the device, the memory, the clock, a port or the system's threads are at fault, 2 where the input is
 abbrev pub status_of : Fault → ℕ
 status_of faults.Read = 3
 status_of faults.Write = 3
 status_of faults.OutOfMemory = 3
+status_of faults.NotDrained = 3
 status_of faults.ClockSpent = 3
 status_of faults.PortBroken = 3
+status_of faults.ThreadsRefused = 3
 status_of _ = 2
 
 -- a fault that comes before anything is written. That is another thing than a fault of the input: a reader that fails comes
@@ -25,6 +27,7 @@ is_before_output faults.ConfigUnknownKey = true
 is_before_output (faults.ConfigRange key) = true
 is_before_output (faults.ConfigNotPowerOfTwo key) = true
 is_before_output (faults.ConfigRelation n) = true
+is_before_output faults.ConfigUnserved = true
 is_before_output faults.InputTooLong = true
 is_before_output faults.InputNotUtf8 = true
 is_before_output faults.InputHasNoMark = true

@@ -12,8 +12,8 @@ use Rattle.clap.specs.declared.builder.ArgAction.TheVariants.{SetTrue}
 use Rattle.clap.specs.declared.builder.value_parser.ValueParser.TheVariants as parser
 use Rattle.clap.specs.declared.error.Error.{Error}
 use Rattle.clap.specs.declared.error.kind.ErrorKind.TheVariants.{OutOfMemory}
-use Rattle.ddr_text.specs.declared.job.Job.{Job}
-use Rattle.ddr_text.specs.declared.job.Job.TheVariants.{Sim, Run, Check, Map}
+use Rattle.ddr_text.specs.declared.command.Job.{Job}
+use Rattle.ddr_text.specs.declared.command.Job.TheVariants.{Sim, Run, Check, Map}
 
 -- the flag `--sample`
 abbrev pub sample_rule : Rule

@@ -3,12 +3,15 @@
 //! `fault` and `ddr_timing` stand below; every command opens its input by this.
 ghost use Rattle.std.specs.Prelude.{◌≡◌, ◌≤◌, ◌++◌, ◌∷◌, IfErr, IfOk, None, Some, false, length};
 ghost use Rattle.std.specs.Str.Lines.{lines};
-ghost use Rattle.ddr_text.specs.Body.{IsOpened, IsRefused, has_mark, is_mark, parts_of, split_of};
+ghost use Rattle.ddr_text.specs.Body.{HasConfigFault, IsConfig, IsOpened, IsRefused, has_mark, is_mark, parts_of, split_of};
 
 use crate::fault::Fault;
 use ddr_timing::config::Config;
 use ddr_timing::profile::PROFILE_S;
 use std::alloc::Global;
+
+/// The version of a configuration that the commands serve so far.
+pub const SERVED: u32 = 1;
 
 /// The line that ends a configuration.
 const MARK: &str = "---";
@@ -16,8 +19,8 @@ const MARK: &str = "---";
 /// The configuration of an input, and its body.
 ///
 /// With `sample` the configuration is the sample and the whole text is the body; else the text has both parts.
-/// Fails as `InputHasNoMark` where it has not, then by the first refusal of the configuration, and as
-/// `OutOfMemory`.
+/// Fails as `InputHasNoMark` where it has not, then by the first refusal of the configuration, then as
+/// `ConfigUnserved` where it is of version 2, and as `OutOfMemory`.
 pub fn open(alloc: Global, sample: bool, text: &str) -> Result<(Config, &str), Fault>
     ensures opened { IfOk result (λ opened. IsOpened (parts_of sample PROFILE_S.now text.now) opened.0 opened.1.now) }
     ensures short { IfOk result (λ opened. length opened.1.now ≤ length text.now) }
@@ -28,7 +31,19 @@ pub fn open(alloc: Global, sample: bool, text: &str) -> Result<(Config, &str), F
     } else {
         split(text)?
     };
-    Ok((Config::read(alloc, config)?, body))
+    Ok((configuration(alloc, config)?, body))
+}
+
+/// The configuration that a text says, of a version that is served.
+fn configuration(alloc: Global, text: &str) -> Result<Config, Fault>
+    ensures read { IfOk result (λ config. IsConfig text.now config × (config.geometry.version ≡ SERVED)) }
+    ensures refused { IfErr result (HasConfigFault text.now) }
+{
+    let config = Config::read(alloc, text)?;
+    if config.geometry.version != SERVED {
+        return Err(Fault::ConfigUnserved);
+    }
+    Ok(config)
 }
 
 /// The configuration's text and the body: what stands before the first line `---`, and what stands behind it.

@@ -1,23 +1,26 @@
 //! Whether a trace is legal: a configuration and a trace's text in, a verdict out.
 //!
 //! `input`, `body`, `writing`, `ddr_legality` and `ddr_trace` stand below, and the program above.
-ghost use Rattle.std.specs.Prelude.{◌≡◌, IfErr, IfOk, IfSome, IsErrOf, IsTrue, string_bytes};
+ghost use Rattle.std.specs.Prelude.{◌≡◌, ◌≢◌, IfErr, IfOk, IfSome, IsErrOf, IsTrue, string_bytes};
 ghost use Rattle.ddr_trace.specs.declared.checker.Fault as checker;
-ghost use Rattle.ddr_text.specs.Check.{HasCheckFault, IsChecked, IsVerdict, verdict_text};
+ghost use Rattle.ddr_trace.specs.Reader.{IsAnswer, records_in, trace_of};
+ghost use Rattle.ddr_text.specs.Check.{HasCheckFault, IsChecked, IsVerdict, in_memory, verdict_text};
 ghost use Rattle.ddr_text.specs.Fault.{is_before_output};
 
 use crate::body::open;
 use crate::fault::Fault;
-use crate::input::{read_input, text_of};
+use crate::input::{read_source, text_of};
+use crate::source::Source;
 use crate::writing::write_whole;
 use ddr_legality::checker::first_fault;
 use ddr_timing::config::Config;
 use ddr_timing::profile::PROFILE_S;
 use ddr_trace::checker;
 use ddr_trace::reader::read_trace;
+use ddr_trace::text::TraceError;
 use ddr_trace::trace::Trace;
 use std::alloc::{AllocError, Global};
-use std::io::{Read, Write};
+use std::io::Write;
 
 /// Reads a trace, and writes `legal`, or `fault PLACE RULE` for its first fault; answers whether it is legal. It
 /// is legal where it breaks no rule, the two on refresh among them.
@@ -26,29 +29,51 @@ use std::io::{Read, Write};
 /// configuration, a line `---` and the text. A place counts the commands from 0, and is their number where the
 /// trace's end is at fault.
 ///
-/// Fails as `open` does, and by the fault that comes first in the trace's text. Nothing is written before the
-/// verdict is there, so only `Write` may leave a part of it.
-pub fn check<R: Read, W: Write>(
+/// Fails as `open` does, and by the fault that comes first in the trace's text; as `Read` where the reader fails, and so
+/// never over bytes in memory. Nothing is written before the verdict is there, so only `Write` may leave a part of it.
+pub fn check<R: Source, W: Write>(
     alloc: Global,
     sample: bool,
     reader: &mut R,
     writer: &mut W,
 ) -> Result<bool, Fault>
     ensures untouched { IfErr result (λ fault. IsTrue (is_before_output fault) → writer.new ≡ writer.old) }
+    ensures sure { IsErrOf result Fault.Read → IsTrue R.may_fail }
     ensures spared { IsErrOf result Fault.OutOfMemory → writer.new ≡ writer.old }
     ensures fault { IfErr result (λ fault. IfSome (R.remaining reader.old) (λ input.
         HasCheckFault sample PROFILE_S.now input fault)) }
     ensures written { IfOk result (λ legal. IfSome (R.remaining reader.old) (λ input.
         IsChecked sample PROFILE_S.now input legal (W.contents writer.old) (W.contents writer.new))) }
 {
-    let input = read_input(alloc, reader)?;
+    let input = read_source(alloc, reader)?;
     let text = text_of(input.as_slice())?;
     let (config, body) = open(alloc, sample, text)?;
-    let trace = read_trace(alloc, body.as_bytes())?;
+    let trace = trace_in(alloc, body)?;
     let fault = verdict(alloc, &config, &trace)?;
     let line = verdict_text(alloc, fault)?;
     write_whole(writer, line.as_str())?;
     Ok(fault.is_none())
+}
+
+/// The trace of a body. Its text is in memory, and so it never fails as `Read`.
+fn trace_in(alloc: Global, body: &str) -> Result<Trace, TraceError>
+    ensures read { IsAnswer (trace_of (records_in body.now)) result }
+    ensures sure { IfErr result (λ refusal. refusal ≢ TraceError.Read) }
+{
+    match read_trace(alloc, body.as_bytes()) {
+        Ok(trace) => Ok(trace),
+        Err(refusal) => Err(in_memory(refusal)),
+    }
+}
+
+/// What refuses a text in memory. `Read` would be want of memory: no more may fail, though no clause says so.
+fn in_memory(refusal: TraceError) -> TraceError
+    ensures { result ≡ in_memory refusal }
+{
+    match refusal {
+        TraceError::Read => TraceError::OutOfMemory,
+        other => other,
+    }
 }
 
 /// The first fault of the trace.

@@ -26,6 +26,9 @@ pub enum Fault {
     ConfigNotPowerOfTwo { key: Key },
     #[error("config Relation {n}")]
     ConfigRelation { n: u32 },
+    /// The configuration is one of version 2, which no command serves yet.
+    #[error("config Unserved")]
+    ConfigUnserved,
     /// The input has more than 16,777,216 bytes.
     #[error("input too long")]
     InputTooLong,
@@ -71,12 +74,18 @@ pub enum Fault {
     Write,
     #[error("out of memory")]
     OutOfMemory,
+    /// A run came to its end, and its core is not drained.
+    #[error("core not drained")]
+    NotDrained,
     /// A channel's clock has come to its last cycle.
     #[error("clock spent")]
     ClockSpent,
     /// A completion came that its port did not wait for.
     #[error("port broken")]
     PortBroken,
+    /// The system gave too few threads.
+    #[error("threads refused")]
+    ThreadsRefused,
 }
 
 /// Why no port takes a request. The first that applies is told.
@@ -95,7 +104,7 @@ pub enum RequestError {
 
 impl Fault {
     /// The status that the program ends with: 2 where the input is at fault, 3 where the device, the memory,
-    /// the clock or a port is.
+    /// the clock, a port or the system's threads are.
     pub fn status(self) -> u8
         ensures { result ≡ status_of self }
     {
@@ -106,6 +115,7 @@ impl Fault {
             | Fault::ConfigRange { .. }
             | Fault::ConfigNotPowerOfTwo { .. }
             | Fault::ConfigRelation { .. }
+            | Fault::ConfigUnserved
             | Fault::InputTooLong
             | Fault::InputNotUtf8
             | Fault::InputHasNoMark
@@ -122,8 +132,10 @@ impl Fault {
             Fault::Read
             | Fault::Write
             | Fault::OutOfMemory
+            | Fault::NotDrained
             | Fault::ClockSpent
-            | Fault::PortBroken => 3,
+            | Fault::PortBroken
+            | Fault::ThreadsRefused => 3,
         }
     }
 }

@@ -1,27 +1,15 @@
 //! What the command line asks for.
 //!
-//! `help` and `clap` stand below, and the program above.
+//! `command`, `help` and `clap` stand below, and the program above.
 ghost use Rattle.std.specs.Prelude.{◌≡◌, ◌≤◌, IfOk, IsTrue, None, Ok, codes, false, length, map, true};
 ghost use Rattle.clap.specs.Words.{app_of, found_of, rows_of, rule_of, with_rule, with_subcommand};
 ghost use Rattle.clap.specs.declared.Command.TheViews.{out-Command as settings_of};
 ghost use Rattle.ddr_text.specs.Job.{Answers, AreTaken, channel_of, ddr_app, is_sample, is_subcommand, job_of, job_with, name_alone, trace_rule, with_sample};
 
+use crate::command::Job;
 use crate::help;
 use clap::{Arg, ArgAction, ArgMatches, Command, Error, value_parser};
 use std::alloc::{AllocError, Global};
-
-/// What the program is to do. Where `sample` is true, its configuration is the sample, and else the input has it.
-#[derive(Clone, Copy, Debug, PartialEq, Eq)]
-pub enum Job {
-    /// Runs a script. Where `trace` names a channel, the trace of that channel is written in place of the replies.
-    Sim { sample: bool, trace: Option<u32> },
-    /// Runs a script with a thread for each port and each channel.
-    Run { sample: bool },
-    /// Checks a trace.
-    Check { sample: bool },
-    /// Says where addresses lie.
-    Map { sample: bool },
-}
 
 /// The job that the words of a command line state, of which the first is the program's name.
 ///
@@ -30,7 +18,7 @@ pub enum Job {
 ///
 /// Fails with an error of `clap`, whose `Display` is the text for the user, where the words are of another form,
 /// where they ask for help, and where memory runs out.
-pub fn job_of(alloc: Global, words: &[&str]) -> Result<Job, Error>
+pub fn job(alloc: Global, words: &[&str]) -> Result<Job, Error>
     ensures said { Answers result (job_of (map (λ word. word.now) words.now)) }
     ensures alone { length words.now ≤ 1 → result ≡ Ok (Job.Sim true None) }
 {

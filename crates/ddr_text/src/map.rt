@@ -8,14 +8,15 @@ ghost use Rattle.ddr_text.specs.Lines.{Gives};
 
 use crate::body::open;
 use crate::fault::Fault;
-use crate::input::{LONGEST_INPUT, read_input, text_of};
+use crate::input::{LONGEST_INPUT, read_source, text_of};
 use crate::script::{LineError, number};
+use crate::source::Source;
 use crate::writing::write_whole;
 use ddr_address_map::map::Map;
 use ddr_timing::profile::PROFILE_S;
 use ddr_timing::units::LINE_COLUMNS;
 use std::alloc::{AllocError, Global};
-use std::io::{Read, Write};
+use std::io::Write;
 
 /// Reads addresses, one a line, and writes where each lies, in the order of the lines.
 ///
@@ -26,20 +27,21 @@ use std::io::{Read, Write};
 ///
 /// Fails as `open` does, and as `MapLine` at the first line that is no address. Nothing is written before the whole
 /// text is there, so only `Write` may leave a part of it.
-pub fn map<R: Read, W: Write>(
+pub fn map<R: Source, W: Write>(
     alloc: Global,
     sample: bool,
     reader: &mut R,
     writer: &mut W,
 ) -> Result<(), Fault>
     ensures untouched { IfErr result (λ fault. IsTrue (is_before_output fault) → writer.new ≡ writer.old) }
+    ensures sure { IsErrOf result Fault.Read → IsTrue R.may_fail }
     ensures spared { IsErrOf result Fault.OutOfMemory → writer.new ≡ writer.old }
     ensures fault { IfErr result (λ fault. IfSome (R.remaining reader.old) (λ input.
         HasMapFault sample PROFILE_S.now input fault)) }
     ensures written { OnOk result (IfSome (R.remaining reader.old) (λ input.
         IsMapped sample PROFILE_S.now input (W.contents writer.old) (W.contents writer.new))) }
 {
-    let input = read_input(alloc, reader)?;
+    let input = read_source(alloc, reader)?;
     let text = text_of(input.as_slice())?;
     let (config, body) = open(alloc, sample, text)?;
     let lines = map_text(alloc, &Map::new(&config), body)?;

@@ -6,7 +6,7 @@ use Rattle.clap.specs.Words.{HasKind, Text, fault_of, found_of, is_simple_and_fr
 use Rattle.clap.proofs.CallerLemmas.{subcommand_required}
 use Rattle.ddr_text.specs.Job.{ddr_app}
 use Rattle.ddr_text.proofs.JobLemmas.{is_simple_app, job_alone, job_further, job_met, met_named, met_of, met_taken, needs_subcommand, none_of, refused_by}
-use Rattle.ddr_text.proofs.job.job_of.Goals as goal
+use Rattle.ddr_text.proofs.job.job.Goals as goal
 
 abbrev texts_of : List (Bor (List ℕ)) → List Text
 texts_of = map (λ word. word.now)

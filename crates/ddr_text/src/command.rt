@@ -1,0 +1,16 @@
+//! The commands of the program.
+//!
+//! Nothing of the program stands below; `job` reads one off the command line, and the program performs it.
+
+/// What the program is to do. Where `sample` is true, its configuration is the sample, and else the input has it.
+#[derive(Clone, Copy, Debug, PartialEq, Eq)]
+pub enum Job {
+    /// Runs a script. Where `trace` names a channel, the trace of that channel is written in place of the replies.
+    Sim { sample: bool, trace: Option<u32> },
+    /// Runs a script with a thread for each port and each channel.
+    Run { sample: bool },
+    /// Checks a trace.
+    Check { sample: bool },
+    /// Says where addresses lie.
+    Map { sample: bool },
+}
