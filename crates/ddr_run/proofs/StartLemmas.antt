@@ -6,11 +6,12 @@ use Rattle.ddr_text.specs.declared.fault.Fault.{Fault}
 use Rattle.ddr_text.specs.declared.fault.Fault.TheVariants as faults
 use Rattle.ddr_run.specs.declared.flag.Stop.{Stop}
 use Rattle.ddr_run.specs.declared.flag.Stop.TheVariants as stops
-use Rattle.ddr_text.specs.Body.{IsOpened, parts_of}
+use Rattle.ddr_text.specs.Body.{IsOpened, IsRefused, parts_of}
 use Rattle.ddr_text.specs.Input.{IsText}
 use Rattle.ddr_text.specs.Instructions.{AreRead, form_of, instructions_of}
 use Rattle.ddr_text.specs.Requests.{IsTaken, first_fault}
 use Rattle.ddr_text.specs.Script.{Instruction}
+use Rattle.ddr_text.proofs.BodyLemmas.{not_of_parts}
 use Rattle.ddr_run.specs.Started.{AreChecked, HasChecked, HasRunFault, SaysRequests, stop_fault}
 
 -- what holds of the text that was read holds of the input, where that is known
@@ -28,6 +29,36 @@ checked text profile sample config body instructions fault is_text opened script
   says = says text profile sample config body (Ok instructions) is_text opened script;
   requests = requests;
 }
+
+-- the fault of a text whose parts are refused
+pub parts_fault : (text profile : List ℕ) (sample : Bool) (fault : Fault) → IsText text → IsRefused (parts_of sample profile text) fault → HasRunFault sample profile text fault
+parts_fault text profile sample faults.ConfigSyntax is_text refused = (is_text, refused)
+parts_fault text profile sample (faults.ConfigMissing key) is_text refused = (is_text, refused)
+parts_fault text profile sample faults.ConfigUnknownKey is_text refused = (is_text, refused)
+parts_fault text profile sample (faults.ConfigRange key) is_text refused = (is_text, refused)
+parts_fault text profile sample (faults.ConfigNotPowerOfTwo key) is_text refused = (is_text, refused)
+parts_fault text profile sample (faults.ConfigRelation n) is_text refused = (is_text, refused)
+parts_fault text profile sample faults.ConfigUnserved is_text refused = (is_text, refused)
+parts_fault text profile sample faults.InputHasNoMark is_text refused = (is_text, refused)
+parts_fault text profile sample faults.InputTooLong is_text refused = not_of_parts (parts_of sample profile text) faults.InputTooLong refused refl
+parts_fault text profile sample faults.InputNotUtf8 is_text refused = not_of_parts (parts_of sample profile text) faults.InputNotUtf8 refused refl
+parts_fault text profile sample (faults.ScriptLine line) is_text refused = not_of_parts (parts_of sample profile text) (faults.ScriptLine line) refused refl
+parts_fault text profile sample (faults.RequestLine line cause) is_text refused = not_of_parts (parts_of sample profile text) (faults.RequestLine line cause) refused refl
+parts_fault text profile sample (faults.MapLine line) is_text refused = not_of_parts (parts_of sample profile text) (faults.MapLine line) refused refl
+parts_fault text profile sample faults.TraceHeader is_text refused = not_of_parts (parts_of sample profile text) faults.TraceHeader refused refl
+parts_fault text profile sample (faults.TraceRow line) is_text refused = not_of_parts (parts_of sample profile text) (faults.TraceRow line) refused refl
+parts_fault text profile sample (faults.TraceOrder line) is_text refused = not_of_parts (parts_of sample profile text) (faults.TraceOrder line) refused refl
+parts_fault text profile sample faults.TraceTruncated is_text refused = not_of_parts (parts_of sample profile text) faults.TraceTruncated refused refl
+parts_fault text profile sample faults.TraceTooLong is_text refused = not_of_parts (parts_of sample profile text) faults.TraceTooLong refused refl
+parts_fault text profile sample faults.TraceNoSuch is_text refused = not_of_parts (parts_of sample profile text) faults.TraceNoSuch refused refl
+parts_fault text profile sample faults.ScriptLimit is_text refused = not_of_parts (parts_of sample profile text) faults.ScriptLimit refused refl
+parts_fault text profile sample faults.Read is_text refused = tt
+parts_fault text profile sample faults.Write is_text refused = not_of_parts (parts_of sample profile text) faults.Write refused refl
+parts_fault text profile sample faults.OutOfMemory is_text refused = tt
+parts_fault text profile sample faults.NotDrained is_text refused = not_of_parts (parts_of sample profile text) faults.NotDrained refused refl
+parts_fault text profile sample faults.ClockSpent is_text refused = not_of_parts (parts_of sample profile text) faults.ClockSpent refused refl
+parts_fault text profile sample faults.PortBroken is_text refused = not_of_parts (parts_of sample profile text) faults.PortBroken refused refl
+parts_fault text profile sample faults.ThreadsRefused is_text refused = not_of_parts (parts_of sample profile text) faults.ThreadsRefused refused refl
 
 -- a script that is at fault by a line alone
 pub no_requests : {X : Type 0} (view : X → List Instruction) (text profile : List ℕ) (sample : Bool) (config : Config) (body : List ℕ) (fault : Fault) → IsText text → IsOpened (parts_of sample profile text) config body → AreRead view (Err fault) (instructions_of (form_of config false) body)
@@ -51,3 +82,4 @@ stopped text profile sample stops.Told checked = checked
 stopped text profile sample stops.OutOfMemory checked = tt
 stopped text profile sample stops.ClockSpent checked = checked
 stopped text profile sample stops.PortBroken checked = checked
+stopped text profile sample stops.ThreadsRefused checked = checked

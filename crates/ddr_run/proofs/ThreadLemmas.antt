@@ -1,5 +1,5 @@
 -- The seats of a run's threads, before and afterwards.
-use Rattle.std.proofs.Common.{◌≡◌, ℕ, zero, suc, ◌+◌, ◌<◌, List, [], ◌∷◌, ◌++◌, length, take, get_or, Option, None, Some, slice_get, refl, sym, ap, subst, ◌∙◌, slice_index_or, string_bytes, arith}
+use Rattle.std.proofs.Common.{◌≡◌, ℕ, zero, suc, ◌+◌, ◌<◌, List, [], ◌∷◌, ◌++◌, length, take, get_or, Option, None, Some, Result, Ok, Err, IfOk, slice_get, refl, sym, ap, subst, ◌∙◌, slice_index_or, string_bytes, arith}
 use Rattle.std.specs.List.{cons_option, filter_map, fold}
 use Rattle.std.specs.Option.{option_to_list}
 use Rattle.std.proofs.Math.Seq.{take-append_seam}
@@ -8,7 +8,8 @@ use Rattle.std.proofs.lemmas.List.Elements.{filter_map-append}
 use Rattle.std.proofs.lemmas.List.Sums.{fold-append}
 use Rattle.ddr_workers.specs.Closing.{AreMatched}
 use Rattle.ddr_workers.specs.Port.{PortState, IsEndOfPort}
-use Rattle.ddr_workers.specs.Worker.{WorkerState, IsEndOf}
+use Rattle.ddr_workers.specs.declared.worker.Stopped.{Stopped}
+use Rattle.ddr_workers.specs.Worker.{WorkerState, WorkerEnded, IsEndOf}
 use Rattle.ddr_run.specs.declared.flag.Stop.{Stop}
 use Rattle.ddr_run.specs.declared.flag.Stop.TheVariants as stops
 use Rattle.ddr_run.specs.declared.hosting.Hosted.{Hosted}
@@ -16,7 +17,7 @@ use Rattle.ddr_run.specs.declared.threads.Seat.{Seat}
 use Rattle.ddr_run.specs.declared.threads.Seat.TheVariants as seats
 use Rattle.ddr_run.specs.Hosting.{AreAsked, IsNewPort, asks_of, replies_text}
 use Rattle.ddr_text.specs.Script.{Instruction}
-use Rattle.ddr_run.specs.Threads.{AreNewPorts, IsHostedFrom, IsNewSeat, Serves, cause_after, ended_in, first_cause, hosted_in, port_seats, seats_of, stop_in}
+use Rattle.ddr_run.specs.Threads.{AreNewPorts, IsHostedFrom, IsNewSeat, Serves, cause_after, ended_in, first_cause, hosted_in, port_seats, seat_after, seats_of, stop_in}
 
 pub hosted_from : (instructions : List Instruction) (number : ℕ) (port : PortState) (h : Hosted) → port.core.port ≡ number → IsEndOfPort port h.end → AreAsked port.core.geometry number (asks_of number instructions) h.end
     → string_bytes h.text ≡ replies_text number h.end.completions.took h.end.taken → IsHostedFrom instructions port h
@@ -26,6 +27,19 @@ hosted_from instructions number port h numbered end asked text =
       asked = subst (λ n. AreAsked port.core.geometry n (asks_of n instructions) h.end) same asked;
       text = text ∙ ap (λ n. replies_text n h.end.completions.took h.end.taken) same;
     }
+
+-- a thread that never served its seat
+pub not_served : (instructions : List Instruction) (seat : Seat) (stop : Stop) → IsNewSeat seat → Serves instructions seat (seats.Stopped stop)
+not_served instructions (seats.Port number port) stop new = tt
+not_served instructions (seats.Worker worker) stop new = tt
+not_served instructions (seats.PortEnd hosted) stop new = absurd new
+not_served instructions (seats.WorkerEnd end) stop new = absurd new
+not_served instructions (seats.Stopped cause) stop new = absurd new
+
+-- what a worker's thread leaves
+pub worker_served : (instructions : List Instruction) (worker : WorkerState) (worked : Result WorkerEnded Stopped) (after : Seat) → after ≡ seat_after worked → IfOk worked (IsEndOf worker) → Serves instructions (seats.Worker worker) after
+worker_served instructions worker (Ok end) after is ended = subst (Serves instructions (seats.Worker worker)) (sym is) ended
+worker_served instructions worker (Err left) after is ended = subst (Serves instructions (seats.Worker worker)) (sym is) tt
 
 -- ---- before
 
@@ -76,6 +90,7 @@ some_stays stops.Told (stop ∷ more) none = some_stays stop more none
 some_stays stops.OutOfMemory (stop ∷ more) none = some_stays stops.OutOfMemory more none
 some_stays stops.ClockSpent (stop ∷ more) none = some_stays stops.ClockSpent more none
 some_stays stops.PortBroken (stop ∷ more) none = some_stays stops.PortBroken more none
+some_stays stops.ThreadsRefused (stop ∷ more) none = some_stays stops.ThreadsRefused more none
 
 pub none_stopped : (causes : List Stop) → first_cause causes ≡ None → causes ≡ []
 none_stopped [] none = refl

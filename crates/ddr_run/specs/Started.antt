@@ -1,5 +1,5 @@
 -- What the command `run` writes, and by which faults it ends.
-use Rattle.std.specs.Prelude.{◌≡◌, ℕ, Bool, false, List, ◌++◌, map, Option, Some, None, Result, Ok, Err}
+use Rattle.std.specs.Prelude.{◌≡◌, ℕ, Bool, true, false, List, ◌++◌, map, Option, Some, None, Result, Ok, Err}
 use Rattle.std.specs.Io.KnownBytes.{Appends}
 use Rattle.std.specs.Str.Lines.{lines}
 use Rattle.ddr_timing.specs.declared.config.Config.{Config}
@@ -19,7 +19,7 @@ use Rattle.ddr_text.specs.Instructions.{form_of, instructions_of}
 use Rattle.ddr_run.specs.Outcome.{AreVerdicts, texts_of}
 use Rattle.ddr_text.specs.Requests.{first_fault}
 use Rattle.ddr_text.specs.Script.{Instruction}
-use Rattle.ddr_run.specs.Threads.{IsHostedFrom}
+use Rattle.ddr_run.specs.Threads.{HasStopped, IsHostedFrom}
 
 -- why a run ends where a thread stopped
 abbrev pub stop_fault : Stop → Fault
@@ -27,6 +27,13 @@ stop_fault stops.Told = faults.PortBroken
 stop_fault stops.OutOfMemory = faults.OutOfMemory
 stop_fault stops.ClockSpent = faults.ClockSpent
 stop_fault stops.PortBroken = faults.PortBroken
+stop_fault stops.ThreadsRefused = faults.ThreadsRefused
+
+-- a thread that stopped before it served its seat: it was told to, or others didn't come
+abbrev pub comes_from_start : Stop → Bool
+comes_from_start stops.Told = true
+comes_from_start stops.ThreadsRefused = true
+comes_from_start stop = false
 
 -- what an input says: its configuration, and its script's instructions, none of which makes rounds, or the script's first fault
 pub record SaysRequests (sample : Bool) (profile : List ℕ) (input : List ℕ) (config : Config) (said : Result (List Instruction) Fault) : Type 0 where
@@ -56,6 +63,7 @@ HasRunFault sample profile input faults.ScriptLimit = IsNoRequests sample profil
 HasRunFault sample profile input (faults.RequestLine line cause) = HasChecked sample profile input (Some (faults.RequestLine line cause))
 HasRunFault sample profile input faults.ClockSpent = HasChecked sample profile input None
 HasRunFault sample profile input faults.PortBroken = HasChecked sample profile input None
+HasRunFault sample profile input faults.ThreadsRefused = HasChecked sample profile input None
 HasRunFault sample profile input faults.Write = HasChecked sample profile input None
 HasRunFault sample profile input faults.Read = Unit {0}
 HasRunFault sample profile input faults.OutOfMemory = Unit {0}
@@ -77,6 +85,11 @@ pub record IsThreaded (config : Config) (instructions : List Instruction) (text 
   pub verdicts : List ℕ
   pub are_verdicts : AreVerdicts config 0 left.traces verdicts legal
   pub text_is : text ≡ texts_of hosted ++ verdicts
+
+-- Why the threads of a run stopped, on this configuration: ports and workers were opened, and one of their threads stopped
+-- before its end.
+abbrev pub IsStopped : Config → List Instruction → Stop → Type 0
+IsStopped config instructions stop = (ports : List PortState) × (workers : List WorkerState) × IsSystem config RUN ports workers × HasStopped ports workers instructions stop
 
 -- what a run without a fault writes and answers
 pub record IsRan (sample : Bool) (profile : List ℕ) (input : List ℕ) (legal : Bool) (old new : Option (List ℕ)) : Type 0 where

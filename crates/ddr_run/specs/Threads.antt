@@ -1,6 +1,9 @@
 -- All ports and workers of a run in threads: what each seat holds before, and what it holds afterwards.
-use Rattle.std.specs.Prelude.{◌≡◌, ℕ, ◌+◌, List, [], ◌∷◌, ◌++◌, map, Option, Some, None, slice_get, string_bytes}
-use Rattle.std.specs.List.{fold}
+use Rattle.std.specs.Prelude.{◌≡◌, ℕ, ◌+◌, List, [], ◌∷◌, ◌++◌, map, Option, Some, None, Result, Ok, Err, slice_get, string_bytes}
+use Rattle.std.specs.List.{filter_map, fold}
+use Rattle.ddr_workers.specs.declared.worker.Cause.{Cause}
+use Rattle.ddr_workers.specs.declared.worker.Cause.TheVariants as causes
+use Rattle.ddr_workers.specs.declared.worker.Stopped.{Stopped}
 use Rattle.ddr_workers.specs.Closing.{AreMatched}
 use Rattle.ddr_workers.specs.Port.{PortState, IsEndOfPort}
 use Rattle.ddr_workers.specs.Worker.{WorkerState, WorkerEnded, IsEndOf}
@@ -48,6 +51,17 @@ Serves instructions (seats.Worker worker) (seats.WorkerEnd end) = IsEndOf worker
 Serves instructions (seats.Worker worker) (seats.Stopped stop) = Unit {0}
 Serves instructions before after = ⊥
 
+-- why a worker's thread stopped
+abbrev pub stop_of : Cause → Stop
+stop_of causes.OutOfMemory = stops.OutOfMemory
+stop_of causes.ClockSpent = stops.ClockSpent
+stop_of causes.Told = stops.Told
+
+-- the seat of a worker's thread, once the worker came to its end or stopped before
+abbrev pub seat_after : Result WorkerEnded Stopped → Seat
+seat_after (Ok end) = seats.WorkerEnd end
+seat_after (Err left) = seats.Stopped (stop_of left.cause)
+
 -- the end that a seat holds, or why its thread stopped before its end
 abbrev pub hosted_in : Seat → Option Hosted
 hosted_in (seats.PortEnd hosted) = Some hosted
@@ -68,6 +82,7 @@ cause_after (Some stops.Told) stop = Some stop
 cause_after (Some stops.OutOfMemory) stop = Some stops.OutOfMemory
 cause_after (Some stops.ClockSpent) stop = Some stops.ClockSpent
 cause_after (Some stops.PortBroken) stop = Some stops.PortBroken
+cause_after (Some stops.ThreadsRefused) stop = Some stops.ThreadsRefused
 
 abbrev pub first_cause : List Stop → Option Stop
 first_cause stops = fold cause_after None stops
@@ -76,3 +91,10 @@ first_cause stops = fold cause_after None stops
 pub record AreEnded (ports : List PortState) (workers : List WorkerState) (instructions : List Instruction) (e : Ended) : Type 0 where
   pub hosted : AreMatched (IsHostedFrom instructions) ports e.ports.items
   pub worked : AreMatched IsEndOf workers e.workers.items
+
+-- A thread stopped before its end: what each left is there, in the order of seats, and why the first of them did that was
+-- not told to is said, or else that they were told.
+pub record HasStopped (ports : List PortState) (workers : List WorkerState) (instructions : List Instruction) (stop : Stop) : Type 0 where
+  pub after : List Seat
+  pub served : AreMatched (Serves instructions) (seats_of ports workers) after
+  pub first : first_cause (filter_map stop_in after) ≡ Some stop

@@ -1,9 +1,10 @@
-//! How the threads of a run stop one another.
+//! How the threads of a run begin together, and how they stop one another.
 //!
 //! `ddr_workers` stands below, whose workers ask a gate before each turn; `threads` raises the flag; `hosting` and the
 //! workers' gates look at it.
-ghost use Rattle.std.specs.Prelude.{◌≡◌};
+ghost use Rattle.std.specs.Prelude.{◌≡◌, IfErr, true};
 ghost use Rattle.ddr_run.specs.declared.flag.Stop.TheVariants.{OutOfMemory};
+ghost use Rattle.ddr_run.specs.Started.{comes_from_start};
 
 use ddr_text::fault::Fault;
 use ddr_workers::OpenError;
@@ -15,6 +16,12 @@ use std::thread;
 
 /// How many turns a worker makes before it lets other threads go on.
 const TURNS_AT_A_TIME: u64 = 64;
+
+/// How often a thread that has begun looks for the others before it lets other threads go on.
+const LOOKS: u64 = 100_000;
+
+/// How often it does so. Few, since each time takes long where the machine is busy.
+const ROUNDS: u64 = 10_000;
 
 /// Raised once a thread of a run has stopped before its end, so that all of them stop.
 #[derive(Drop)]
@@ -39,6 +46,53 @@ impl Flag {
     }
 }
 
+/// Where the threads of a run wait for one another before any of them serves its seat. Without it, where the system
+/// gives too few threads, those that it gives would wait for the others for ever.
+#[derive(Drop)]
+pub struct Start {
+    threads: u64,
+    begun: AtomicU64,
+}
+
+impl Start {
+    /// The start of so many threads, of which none has begun.
+    pub fn new(threads: usize) -> Start {
+        Start {
+            threads: threads as u64,
+            begun: AtomicU64::new(0),
+        }
+    }
+
+    /// Notes that a thread has begun, and waits until all have.
+    ///
+    /// Fails as `Told` where the flag is raised first, and as `ThreadsRefused` where the others didn't come for long.
+    pub fn wait(&self, flag: &Flag) -> Result<(), Stop>
+        ensures { IfErr result (λ stop. comes_from_start stop ≡ true) }
+    {
+        self.begun.fetch_add(1, Ordering::SeqCst);
+        for _ in 0..ROUNDS {
+            if self.have_all_begun() {
+                return Ok(());
+            }
+            if flag.is_raised() {
+                return Err(Stop::Told);
+            }
+            thread::yield_now();
+        }
+        Err(Stop::ThreadsRefused)
+    }
+
+    /// Whether all threads have begun, or do while it looks.
+    fn have_all_begun(&self) -> bool {
+        for _ in 0..LOOKS {
+            if self.begun.load(Ordering::SeqCst) >= self.threads {
+                return true;
+            }
+        }
+        false
+    }
+}
+
 /// Why a thread of a run stopped before its end.
 #[derive(Clone, Copy, Debug, PartialEq, Eq)]
 pub enum Stop {
@@ -50,6 +104,8 @@ pub enum Stop {
     ClockSpent,
     /// A completion came that the port did not wait for.
     PortBroken,
+    /// Not all threads of the run have begun: the system gave too few.
+    ThreadsRefused,
 }
 
 impl From<Stop> for Fault {
@@ -62,6 +118,7 @@ impl From<Stop> for Fault {
             Stop::OutOfMemory => Fault::OutOfMemory,
             Stop::ClockSpent => Fault::ClockSpent,
             Stop::Told | Stop::PortBroken => Fault::PortBroken,
+            Stop::ThreadsRefused => Fault::ThreadsRefused,
         }
     }
 }

@@ -4,7 +4,8 @@
 ghost use Rattle.std.specs.Prelude.{◌≡◌, IfErr, IfOk, IfSome, None, map, string_bytes};
 ghost use Rattle.ddr_text.specs.Input.{IsText};
 ghost use Rattle.ddr_text.specs.Script.{view};
-ghost use Rattle.ddr_run.specs.Started.{AreChecked, HasRunFault, IsRan, IsThreaded};
+ghost use Rattle.ddr_run.specs.declared.flag.Stop.TheVariants.{OutOfMemory};
+ghost use Rattle.ddr_run.specs.Started.{AreChecked, HasRunFault, IsRan, IsStopped, IsThreaded};
 
 use crate::flag::Stop;
 use crate::outcome::{replies_of, verdicts_of};
@@ -37,8 +38,8 @@ const RUN: u64 = 0;
 ///
 /// Fails as `open` does, then as `ScriptLine` at the first line of the script that is at fault, of which `cycle` is
 /// one, or as `ScriptLimit` at the first request too many, and then as `RequestLine` at the first request that no port
-/// takes. Where a thread stops before its end it fails as `OutOfMemory`, `ClockSpent` or `PortBroken`. Nothing is written
-/// before all threads ended.
+/// takes. Where a thread stops before its end it fails as `OutOfMemory`, `ClockSpent` or `PortBroken`, and where the system
+/// gives too few threads as `ThreadsRefused`. Nothing is written before all threads ended.
 pub fn run<H: Threads + Wait + Sync, R: Read, W: Write>(
     rt: &H,
     alloc: Global,
@@ -81,13 +82,16 @@ fn read_requests(
 }
 
 /// Runs a script that was checked, and gives the text that is to be written, and whether all traces are legal.
-fn run_threads<H: Threads + Wait + Sync>(
+///
+/// Fails as `run_all` does. A request that no port takes stops its port as `PortBroken`.
+pub fn run_threads<H: Threads + Wait + Sync>(
     rt: &H,
     alloc: Global,
     config: &Config,
     instructions: &[Instruction],
 ) -> Result<(String, bool), Stop>
-    ensures { IfOk result (λ ran. IsThreaded config.now (map view instructions.now) (string_bytes ran.0) ran.1) }
+    ensures ran { IfOk result (λ ran. IsThreaded config.now (map view instructions.now) (string_bytes ran.0) ran.1) }
+    ensures stopped { IfErr result (λ stop. (stop ≡ OutOfMemory → ⊥) → IsStopped config.now (map view instructions.now) stop) }
 {
     let _limits = config.limits;
     let (ports, workers) = open_system(alloc, config, RUN)?;

@@ -1,17 +1,18 @@
 //! All ports and workers of a run, each in a thread of its own.
 //!
 //! `hosting`, `flag` and `ddr_workers` stand below; `run` opens the system, hands it in here and closes it.
-ghost use Rattle.std.specs.Prelude.{◌≡◌, ◌++◌, ◌<◌, ◌^◌, ℕ, IfOk, OnOk, Some, length, map, slice_get, slice_index_or};
+ghost use Rattle.std.specs.Prelude.{◌≡◌, ◌++◌, ◌<◌, ◌^◌, ℕ, IfErr, IfOk, OnOk, Some, length, map, slice_get, slice_index_or};
 ghost use Rattle.std.specs.List.{filter_map, fold};
 ghost use Rattle.std.specs.Option.{option_to_list};
 ghost use Rattle.ddr_text.specs.Script.{view};
-ghost use Rattle.ddr_run.specs.Threads.{AreEnded, AreNewPorts, IsNewSeat, Serves, cause_after, ended_in, first_cause, hosted_in, port_seats, seats_of, stop_in};
+ghost use Rattle.ddr_run.specs.declared.flag.Stop.TheVariants.{OutOfMemory};
+ghost use Rattle.ddr_run.specs.Threads.{AreEnded, AreNewPorts, HasStopped, IsNewSeat, Serves, cause_after, ended_in, first_cause, hosted_in, port_seats, seat_after, seats_of, stop_in, stop_of};
 
-use crate::flag::{Flag, Stop, Watch};
+use crate::flag::{Flag, Start, Stop, Watch};
 use crate::hosting::{Hosted, run_port};
 use ddr_text::script::Instruction;
 use ddr_workers::port::Port;
-use ddr_workers::worker::{Cause, Worker, WorkerEnd};
+use ddr_workers::worker::{Cause, Stopped, Worker, WorkerEnd};
 use std::alloc::{AllocError, Global};
 use std::sync::Wait;
 use std::thread::Threads;
@@ -51,6 +52,7 @@ impl Ended {
 
 /// Runs ports and workers to their ends, each in a thread. The ports ask for what the script says.
 ///
+/// None begins before all threads are there; where the system gives too few of them this fails as `ThreadsRefused`.
 /// Where one stops before its end the others stop too, and it is told why the first one stopped by itself, in the
 /// order of channels and then of ports. While threads run, memory is asked for by the replies' texts and the
 /// channels' cycles alone.
@@ -63,7 +65,8 @@ pub fn run_all<R: Threads + Wait + Sync>(
 ) -> Result<Ended, Stop>
     requires few { length ports.items < 2 ^ 32 }
     requires numbers { AreNewPorts ports.items }
-    ensures { IfOk result (AreEnded ports.items workers.items (map view instructions.now)) }
+    ensures ended { IfOk result (AreEnded ports.items workers.items (map view instructions.now)) }
+    ensures stopped { IfErr result (λ stop. (stop ≡ OutOfMemory → ⊥) → HasStopped ports.items workers.items (map view instructions.now) stop) }
 {
     let mut seats = seated(alloc, ports, workers)?;
     run_seats(rt, alloc, instructions, seats.as_mut_slice());
@@ -123,6 +126,8 @@ fn run_seats<R: Threads + Wait + Sync>(
     }
     let flag = Flag::new();
     let flag = &flag;
+    let start = Start::new(seats.len());
+    let start = &start;
     thread::for_each_mut(
         rt,
         seats,
@@ -132,9 +137,27 @@ fn run_seats<R: Threads + Wait + Sync>(
             ensures { Serves (map view instructions.entry.now) seat.entry.now seat.exit.now }
         {
             let taken = mem::replace(seat, Seat::Stopped(Stop::Told));
-            *seat = served(rt, alloc, flag, instructions, taken);
+            *seat = begun(rt, alloc, flag, start, instructions, taken);
         },
     );
+}
+
+/// What the port or the worker of a seat leaves, which is served once all threads of the run have begun.
+fn begun<R: Wait>(
+    rt: &R,
+    alloc: Global,
+    flag: &Flag,
+    start: &Start,
+    instructions: &[Instruction],
+    seat: Seat,
+) -> Seat
+    requires { IsNewSeat seat }
+    ensures { Serves (map view instructions.now) seat result }
+{
+    match start.wait(flag) {
+        Ok(()) => served(rt, alloc, flag, instructions, seat),
+        Err(stop) => stopped(flag, stop),
+    }
 }
 
 /// What the port or the worker of a seat leaves. Where it stops before its end the flag is raised.
@@ -155,11 +178,18 @@ fn served<R: Wait>(
                 Err(stop) => stopped(flag, stop),
             }
         }
-        Seat::Worker(worker) => match worker.run(rt, &Watch::new(flag)) {
-            Ok(end) => Seat::WorkerEnd(end),
-            Err(left) => stopped(flag, stop_of(left.cause)),
-        },
+        Seat::Worker(worker) => left_by(flag, worker.run(rt, &Watch::new(flag))),
         Seat::PortEnd(_) | Seat::WorkerEnd(_) | Seat::Stopped(_) => unreachable!(),
+    }
+}
+
+/// The seat of a worker's thread: its end, or why it stopped before that. Then the flag is raised.
+pub fn left_by(flag: &Flag, worked: Result<WorkerEnd, Stopped>) -> Seat
+    ensures { result ≡ seat_after worked }
+{
+    match worked {
+        Ok(end) => Seat::WorkerEnd(end),
+        Err(left) => stopped(flag, stop_of(left.cause)),
     }
 }
 
@@ -172,7 +202,9 @@ fn stopped(flag: &Flag, stop: Stop) -> Seat
 }
 
 /// Why a worker's thread stopped.
-fn stop_of(cause: Cause) -> Stop {
+pub fn stop_of(cause: Cause) -> Stop
+    ensures { result ≡ stop_of cause }
+{
     match cause {
         Cause::OutOfMemory => Stop::OutOfMemory,
         Cause::ClockSpent => Stop::ClockSpent,
@@ -181,7 +213,7 @@ fn stop_of(cause: Cause) -> Stop {
 }
 
 /// Why the first thread stopped that stopped before its end, but for those that were told to, where there are others.
-fn first_stop(seats: &[Seat]) -> Option<Stop>
+pub fn first_stop(seats: &[Seat]) -> Option<Stop>
     ensures { result ≡ first_cause (filter_map stop_in seats.now) }
 {
     let mut cause = None;

@@ -1,5 +1,5 @@
-//! Whole runs of commands, their faults, and readers and writers that fail. Most are tables of inputs, with what a
-//! command writes of each and how it ends.
+//! Whole runs of commands, their faults, readers and writers that fail, and how the threads of a run stop. Most are tables
+//! of inputs, with what a command writes of each and how it ends.
 mod chance;
 mod check;
 mod configurations;
@@ -8,15 +8,17 @@ mod faults;
 mod map;
 mod ports;
 mod rows;
+mod stopping;
 mod threaded;
 
 use ddr_sim::sim::sim;
 use ddr_text::check::check;
 use ddr_text::fault::Fault;
 use ddr_text::map::map;
+use ddr_text::source::Source;
 use ddr_timing::profile::PROFILE_S;
 use std::alloc::{AllocError, Global};
-use std::io::{Read, Write};
+use std::io::Write;
 use std::process::Abort;
 use std::str;
 
@@ -45,7 +47,7 @@ enum Command {
 }
 
 /// How a command ends. Answers false where it is a check, and the trace is not legal.
-fn end_of<R: Read, W: Write>(
+fn end_of<R: Source, W: Write>(
     alloc: Global,
     command: Command,
     sample: bool,

@@ -28,12 +28,16 @@ const LIMITS: Limits = Limits {
     low: 2,
     high: 6,
     cap: 1000,
+    closed: false,
 };
 
-/// Profile S, but for its limits.
+/// Profile S, but for its limits, and with open rows.
 fn config_with(alloc: Global, limits: Limits) -> Result<Config, Fail> {
     let mut config = Config::read(alloc, PROFILE_S)?;
-    config.limits = limits;
+    config.limits = Limits {
+        closed: false,
+        ..limits
+    };
     Ok(config)
 }
 

@@ -2,6 +2,7 @@
 use super::{Command, REPLIES, TRACE, WRITE_THEN_READ, end_of, is_so};
 use ddr_run::run::run;
 use ddr_text::fault::Fault;
+use ddr_text::source::Device;
 use std::alloc::{AllocError, Global};
 use std::io;
 use std::io::{ErrorKind, Read, Write};
@@ -34,13 +35,9 @@ impl Read for Failing<'_> {
 }
 
 /// How a command ends whose reader fails where no call is left, and what it writes.
-fn read_in(
-    alloc: Global,
-    command: Command,
-    mut reader: Failing<'_>,
-) -> (Vec<u8>, Result<bool, Fault>) {
+fn read_in(alloc: Global, command: Command, reader: Failing<'_>) -> (Vec<u8>, Result<bool, Fault>) {
     let mut bytes = Vec::new(alloc);
-    let end = end_of(alloc, command, true, &mut reader, &mut bytes);
+    let end = end_of(alloc, command, true, &mut Device(reader), &mut bytes);
     (bytes, end)
 }
 
@@ -153,11 +150,11 @@ const COMMENTS: &[(u64, Result<bool, Fault>)] = &[
 
 /// That a run of so many bytes of comments ends so, writes nothing and asks for no more than the longest input.
 fn ends_so_in_comments(rt: &impl Abort, alloc: Global, left: u64, wanted: Result<bool, Fault>) {
-    let mut reader = Comments { left, asked: 0 };
+    let mut reader = Device(Comments { left, asked: 0 });
     let mut bytes = Vec::new(alloc);
     let end = end_of(alloc, Command::Sim, true, &mut reader, &mut bytes);
     assert_eq!(rt; (end, bytes.len()), (wanted, 0), "{left} bytes");
-    assert!(rt; reader.asked <= 16_777_218, "{left} bytes");
+    assert!(rt; reader.0.asked <= 16_777_218, "{left} bytes");
 }
 
 #[test]

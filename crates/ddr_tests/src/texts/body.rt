@@ -2,7 +2,7 @@
 use ddr_text::body::{open, split};
 use ddr_text::fault::Fault;
 use ddr_timing::key::Key;
-use ddr_timing::profile::PROFILE_S;
+use ddr_timing::profile::{PROFILE_S, PROFILE_S2};
 use std::alloc::{AllocError, Global};
 use std::process::Abort;
 use std::test::Fail;
@@ -103,6 +103,24 @@ fn refused(rt: HostRuntime) -> Result<(), Fail> {
         is_refused(&rt, rt.alloc(), text, *fault);
     }
     let text = input_of(rt.alloc(), "unknown = 1\n---\n")?;
+    is_refused(&rt, rt.alloc(), text.as_str(), Fault::ConfigUnknownKey);
+    Ok(())
+}
+
+/// Profile S2 with a line behind it, and the mark.
+fn second_of(alloc: Global, line: &str) -> Result<String, AllocError> {
+    let mut text = String::from_str(alloc, PROFILE_S2)?;
+    text.push_str(line)?;
+    text.push_str("---\n")?;
+    Ok(text)
+}
+
+/// Version 2 is served by no command yet; its own refusals come before.
+#[test]
+fn version_2(rt: HostRuntime) -> Result<(), Fail> {
+    let text = second_of(rt.alloc(), "")?;
+    is_refused(&rt, rt.alloc(), text.as_str(), Fault::ConfigUnserved);
+    let text = second_of(rt.alloc(), "unknown = 1\n")?;
     is_refused(&rt, rt.alloc(), text.as_str(), Fault::ConfigUnknownKey);
     Ok(())
 }

@@ -1,7 +1,7 @@
 //! The texts of the faults, and the statuses that they end the program with.
 use ddr_text::ending::Ending;
 use ddr_text::fault::{Fault, RequestError};
-use ddr_text::job::job_of;
+use ddr_text::job::job;
 use ddr_timing::key::Key;
 use std::alloc::{AllocError, Global};
 use std::process::Abort;
@@ -36,6 +36,7 @@ const TOLD: &[(Fault, &str, u8)] = &[
         2,
     ),
     (Fault::ConfigRelation { n: 7 }, "config Relation 7", 2),
+    (Fault::ConfigUnserved, "config Unserved", 2),
     // Of the input.
     (Fault::InputTooLong, "input too long", 2),
     (Fault::InputNotUtf8, "input not UTF-8", 2),
@@ -52,8 +53,10 @@ const TOLD: &[(Fault, &str, u8)] = &[
     (Fault::Read, "read failed", 3),
     (Fault::Write, "write failed", 3),
     (Fault::OutOfMemory, "out of memory", 3),
+    (Fault::NotDrained, "core not drained", 3),
     (Fault::ClockSpent, "clock spent", 3),
     (Fault::PortBroken, "port broken", 3),
+    (Fault::ThreadsRefused, "threads refused", 3),
 ];
 
 #[test]
@@ -112,7 +115,7 @@ fn statuses_of_what_ends_the_program(rt: HostRuntime) {
     assert_eq!(rt; Ending::from(Fault::TraceHeader).status(), 2);
     assert_eq!(rt; Ending::from(Fault::Read).status(), 3);
     assert_eq!(rt; Ending::from(AllocError).status(), 3);
-    let unknown = job_of(rt.alloc(), ["ddr", "erase"].as_slice());
+    let unknown = job(rt.alloc(), ["ddr", "erase"].as_slice());
     let status = unknown.err().map(|error| Ending::from(error).status());
     assert_eq!(rt; status, Some(2));
 }

@@ -1,6 +1,7 @@
 //! Command lines, and the jobs that they state.
 use clap::error::ErrorKind;
-use ddr_text::job::{Job, job_of};
+use ddr_text::command::Job;
+use ddr_text::job::job;
 use std::alloc::{AllocError, Global};
 use std::process::Abort;
 use std::test::Fail;
@@ -15,16 +16,16 @@ fn words_of(alloc: Global, line: &str) -> Result<Vec<&str>, AllocError> {
 }
 
 /// That a command line states a job.
-fn states(rt: &impl Abort, alloc: Global, line: &str, job: Job) -> Result<(), Fail> {
+fn states(rt: &impl Abort, alloc: Global, line: &str, wanted: Job) -> Result<(), Fail> {
     let words = words_of(alloc, line)?;
-    assert_eq!(rt; job_of(alloc, words.as_slice())?, job, "{line:?}");
+    assert_eq!(rt; job(alloc, words.as_slice())?, wanted, "{line:?}");
     Ok(())
 }
 
 /// That a command line gives an error of this kind.
 fn gives(rt: &impl Abort, alloc: Global, line: &str, kind: ErrorKind) -> Result<(), Fail> {
     let words = words_of(alloc, line)?;
-    let given = job_of(alloc, words.as_slice()).err();
+    let given = job(alloc, words.as_slice()).err();
     assert_eq!(rt; given.map(|error| error.kind()), Some(kind), "{line:?}");
     Ok(())
 }
@@ -58,11 +59,11 @@ const SIMS: &[(&str, bool, Option<u32>)] = &[
 #[test]
 fn sims(rt: HostRuntime) -> Result<(), Fail> {
     for (line, sample, trace) in SIMS {
-        let job = Job::Sim {
+        let wanted = Job::Sim {
             sample: *sample,
             trace: *trace,
         };
-        states(&rt, rt.alloc(), line, job)?;
+        states(&rt, rt.alloc(), line, wanted)?;
     }
     Ok(())
 }
@@ -73,14 +74,14 @@ fn no_words(rt: HostRuntime) -> Result<(), Fail> {
         sample: true,
         trace: None,
     };
-    assert_eq!(rt; job_of(rt.alloc(), [].as_slice())?, sample);
+    assert_eq!(rt; job(rt.alloc(), [].as_slice())?, sample);
     Ok(())
 }
 
 #[test]
 fn subcommands(rt: HostRuntime) -> Result<(), Fail> {
-    for (line, job) in JOBS {
-        states(&rt, rt.alloc(), line, *job)?;
+    for (line, wanted) in JOBS {
+        states(&rt, rt.alloc(), line, *wanted)?;
     }
     Ok(())
 }
@@ -124,8 +125,8 @@ const BAD_CHANNELS: &[&str] = &["x", "", "-1", "1.0", "0x1", " 1", "4294967296"]
 fn bad_channels(rt: HostRuntime) {
     for channel in BAD_CHANNELS {
         let words = ["ddr", "sim", "--sample", "--trace", *channel];
-        let job = job_of(rt.alloc(), words.as_slice());
-        assert!(rt; job.is_err(), "{channel:?}");
+        let read = job(rt.alloc(), words.as_slice());
+        assert!(rt; read.is_err(), "{channel:?}");
     }
 }
 
@@ -148,7 +149,7 @@ const TEXTS: &[(&str, &str)] = &[
 /// That a command line gives an error whose text begins with this line.
 fn says(rt: &impl Abort, alloc: Global, line: &str, text: &str) -> Result<(), Fail> {
     let words = words_of(alloc, line)?;
-    let error = job_of(alloc, words.as_slice()).err().ok_or("an error")?;
+    let error = job(alloc, words.as_slice()).err().ok_or("an error")?;
     let whole = error.to_string(alloc)?;
     assert_eq!(rt; whole.as_str().lines().next(), Some(text), "{line:?}");
     Ok(())

@@ -3,8 +3,13 @@ use Rattle.std.proofs.lemmas.Result.{err_from_is_err_and}
 use Rattle.ddr_timing.specs.declared.profile.TheConstants.{PROFILE_S}
 use Rattle.ddr_text.specs.declared.script.Instruction as kept
 use Rattle.ddr_text.specs.Script.{view}
-use Rattle.ddr_run.proofs.StartLemmas.{checked, no_requests, not_taken}
+use Rattle.ddr_run.proofs.StartLemmas.{checked, no_requests, not_taken, parts_fault}
 use Rattle.ddr_run.proofs.run.read_requests.Goals as goal
+
+pub returns-in_err-config-clause-err : goal.returns-in_err-config-clause-err
+returns-in_err-config-clause-err c =
+    let p = err_from_is_err_and c.from_residual-in_err-config.result c.from_residual-in_err-config.ensures.1 in
+    rw (p.1, p.2) (parts_fault c.args.text.now PROFILE_S.now c.args.sample c.in_err-config.field-0.0 c.requires c.in_err-config.ensures.refused)
 
 pub returns-in_err-instructions-clause-err : goal.returns-in_err-instructions-clause-err
 returns-in_err-instructions-clause-err c =

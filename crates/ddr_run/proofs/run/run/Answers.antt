@@ -40,6 +40,6 @@ returns-clause-written g c =
       instructions = map view c.in_ok-config.instructions.items;
       checked = c.in_ok-config.ensures.ok;
       text = text;
-      threaded = subst (λ (xs : List kept.Instruction). IsThreaded config (map view xs) text legal) c.as_slice-2.ensures.value c.in_ok-text-2.ensures;
+      threaded = subst (λ (xs : List kept.Instruction). IsThreaded config (map view xs) text legal) c.as_slice-2.ensures.value c.in_ok-text-2.ensures.ran;
       written = subst (Appends old new) c.as_str.ensures.value c.in_ok-write_whole.ensures.written;
     })

@@ -1,5 +1,6 @@
 use Rattle.std.proofs.Common.{rules, ◌++◌, List, map, string_bytes, sym, subst, ap₂, ◌∙◌}
 use Rattle.std.proofs.lemmas.Bool.{false≢true}
+use Rattle.std.proofs.lemmas.Result.{err_from_is_err_and}
 use Rattle.ddr_trace.specs.Traces.{Recorded}
 use Rattle.ddr_workers.specs.Closing.{IsClosed, Left}
 use Rattle.ddr_workers.specs.Port.{PortEnded}
@@ -13,20 +14,20 @@ pub run_all-requires-clause-numbers : goal.run_all-requires-clause-numbers
 run_all-requires-clause-numbers g c κs outlives = new_ports c.args.config.now RUN c.in_ok-ports.ports.items c.in_ok-ports.workers.items c.in_ok-ports.ensures
 
 pub close-requires : goal.close-requires
-close-requires g c = (complete c.all_ends_of_one_open.ensures c.args.config.now (map view c.args.instructions.now) c.in_ok-ports.ports.items c.in_ok-ports.workers.items c.in_ok-ended.ended c.in_ok-replies.replies.ends.items (search rules) (search rules) c.in_ok-ports.ensures c.in_ok-ended.ensures c.in_ok-replies.ensures.ends).one
+close-requires g c = (complete c.all_ends_of_one_open.ensures c.args.config.now (map view c.args.instructions.now) c.in_ok-ports.ports.items c.in_ok-ports.workers.items c.in_ok-ended.ended c.in_ok-replies.replies.ends.items (search rules) (search rules) c.in_ok-ports.ensures c.in_ok-ended.ensures.ended c.in_ok-replies.ensures.ends).one
 
 pub unreachable-requires : goal.unreachable-requires
 unreachable-requires g c =
-    let ends = complete c.all_ends_of_one_open.ensures c.args.config.now (map view c.args.instructions.now) c.in_ok-ports.ports.items c.in_ok-ports.workers.items c.in_ok-ended.ended c.in_ok-replies.replies.ends.items (search rules) (search rules) c.in_ok-ports.ensures c.in_ok-ended.ensures c.in_ok-replies.ensures.ends in
+    let ends = complete c.all_ends_of_one_open.ensures c.args.config.now (map view c.args.instructions.now) c.in_ok-ports.ports.items c.in_ok-ports.workers.items c.in_ok-ended.ended c.in_ok-replies.replies.ends.items (search rules) (search rules) c.in_ok-ports.ensures c.in_ok-ended.ensures.ended c.in_ok-replies.ensures.ends in
     false≢true (sym ends.own ∙ (rw c.in-Err-Foreign.field-0-is at c.in-Err-Foreign.ensures.err).0)
 
 pub unreachable-requires-in-Err-Missing : goal.unreachable-requires-in-Err-Missing
 unreachable-requires-in-Err-Missing g c =
-    let ends = complete c.all_ends_of_one_open.ensures c.args.config.now (map view c.args.instructions.now) c.in_ok-ports.ports.items c.in_ok-ports.workers.items c.in_ok-ended.ended c.in_ok-replies.replies.ends.items (search rules) (search rules) c.in_ok-ports.ensures c.in_ok-ended.ensures c.in_ok-replies.ensures.ends in
+    let ends = complete c.all_ends_of_one_open.ensures c.args.config.now (map view c.args.instructions.now) c.in_ok-ports.ports.items c.in_ok-ports.workers.items c.in_ok-ended.ended c.in_ok-replies.replies.ends.items (search rules) (search rules) c.in_ok-ports.ensures c.in_ok-ended.ensures.ended c.in_ok-replies.ensures.ends in
     false≢true (sym ends.whole ∙ (rw c.in-Err-Missing.field-0-is at c.in-Err-Missing.ensures.err).1)
 
-pub returns : goal.returns
-returns g c =
+pub returns-clause-ran : goal.returns-clause-ran
+returns-clause-ran g c =
     let worked = c.in_ok-ended.ended.workers.items in
     let left = c.in-Ok.closed in
     let verdicts = string_bytes c.in_ok-verdicts.verdicts in
@@ -35,9 +36,9 @@ returns g c =
       workers = c.in_ok-ports.workers.items;
       system = c.in_ok-ports.ensures;
       hosted = c.in_ok-ended.ended.ports.items;
-      asked = c.in_ok-ended.ensures.hosted;
+      asked = c.in_ok-ended.ensures.ended.hosted;
       worked = worked;
-      ended = c.in_ok-ended.ensures.worked;
+      ended = c.in_ok-ended.ensures.ended.worked;
       left = left;
       is_closed = subst (λ (es : List PortEnded). IsClosed RUN es worked left) c.in_ok-replies.ensures.ends c.in-Ok.ensures.ok;
       verdicts = verdicts;
@@ -45,3 +46,8 @@ returns g c =
           (subst (λ (ts : List Recorded). AreVerdicts c.args.config.now 0 ts verdicts c.in_ok-verdicts.legal) c.as_slice.ensures.value c.in_ok-verdicts.ensures);
       text_is = c.in_ok-push_str.ensures.bytes ∙ ap₂ ◌++◌ c.in_ok-replies.ensures.text c.as_str.ensures.value;
     }
+
+pub returns-in_err-ended-clause-stopped : goal.returns-in_err-ended-clause-stopped
+returns-in_err-ended-clause-stopped g c =
+    let p = err_from_is_err_and c.from_residual-in_err-ended.result c.from_residual-in_err-ended.ensures.1 in
+    rw (p.1, p.2) (λ not_memory. (c.in_ok-ports.ports.items, c.in_ok-ports.workers.items, c.in_ok-ports.ensures, c.in_err-ended.ensures.stopped not_memory))
