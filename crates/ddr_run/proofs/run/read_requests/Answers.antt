@@ -8,7 +8,7 @@ use Rattle.ddr_run.proofs.run.read_requests.Goals as goal
 
 pub returns-in_err-config-clause-err : goal.returns-in_err-config-clause-err
 returns-in_err-config-clause-err c =
-    let p = err_from_is_err_and c.from_residual-in_err-config.result c.from_residual-in_err-config.ensures.1 in
+    let p = err_from_is_err_and c.from_residual.result c.from_residual.ensures.1 in
     rw (p.1, p.2) (parts_fault c.args.text.now PROFILE_S.now c.args.sample c.in_err-config.field-0.0 c.requires c.in_err-config.ensures.refused)
 
 pub returns-in_err-instructions-clause-err : goal.returns-in_err-instructions-clause-err
