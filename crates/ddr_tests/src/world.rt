@@ -32,12 +32,10 @@ const LIMITS: Limits = Limits {
 };
 
 /// Profile S, but for its limits, and with open rows.
-fn config_with(alloc: Global, limits: Limits) -> Result<Config, Fail> {
+fn config_with(alloc: Global, mut limits: Limits) -> Result<Config, Fail> {
     let mut config = Config::read(alloc, PROFILE_S)?;
-    config.limits = Limits {
-        closed: false,
-        ..limits
-    };
+    limits.closed = false;
+    config.limits = limits;
     Ok(config)
 }
 
