@@ -1,12 +1,13 @@
 -- What a REF that is not legal says of the banks.
 use Rattle.std.proofs.Common.{◌≡◌, ◌≢◌, ◌+◌, true, false, Some, None, refl, sym, ap, ◌∙◌, inl, inr}
 use Rattle.std.specs.Option.{is_none}
-use Rattle.std.proofs.lemmas.Bool.{cases_Bool}
+use Rattle.std.proofs.lemmas.Bool.{cases_Bool, lt-ltb}
+use Rattle.ddr_timing.specs.declared.geometry.Geometry.{Geometry}
 use Rattle.ddr_trace.specs.declared.rule.Rule.{Rule}
 use Rattle.ddr_trace.specs.declared.rule.Rule.TheVariants as rule
 use Rattle.ddr_trace.specs.Commands.{entry}
 use Rattle.ddr_trace.specs.Legality.{lowest_rule}
-use Rattle.ddr_trace.specs.Rules.{breaks_order}
+use Rattle.ddr_trace.specs.Rules.{breaks_order, is_in}
 use Rattle.ddr_trace.proofs.LowestLemmas.{lowest_passes}
 use Rattle.ddr_legality.specs.Bus.{Bus, broken_now, is_legal_now}
 use Rattle.ddr_arbiter.specs.declared.choice.Choice.TheVariants as choice
@@ -19,10 +20,14 @@ out_of_order : (b : Bus) → breaks_order b.start (b.now + 1) b.trace (entry b.n
 unfolding lowest_rule
 out_of_order b broken = rw broken refl
 
+-- there is a rank 0
+refresh_in : (g : Geometry) → is_in g refresh ≡ true
+refresh_in g = lt-ltb 0 g.ranks g.ranks_range.0
+
 -- where the order is kept and some bank is active, STATE is the lowest rule that a REF breaks
 active_breaks_state : (b : Bus) → breaks_order b.start (b.now + 1) b.trace (entry b.now refresh) ≡ false → some_bank_active b ≡ true → broken_now b refresh ≡ Some rule.State
 unfolding lowest_rule
-active_breaks_state b kept active = rw (kept, active) refl
+active_breaks_state b kept active = rw (kept, refresh_in b.config.geometry, active) refl
 
 -- a legal REF finds all banks idle
 legal_idle : (b : Bus) → broken_now b refresh ≡ None → some_bank_active b ≡ false

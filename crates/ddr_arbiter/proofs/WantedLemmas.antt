@@ -8,13 +8,12 @@ use Rattle.std.proofs.lemmas.List.Elements.{All-get_or}
 use Rattle.std.proofs.lemmas.List.Folds.{list_any_more}
 use Rattle.std.proofs.lemmas.Option.{slice_get-get_or, get_or_from_slice_get, slice_get_within}
 use Rattle.ddr_timing.specs.declared.units.TheConstants.{GROUP_BANKS}
-use Rattle.ddr_trace.specs.Rules.{is_row_open, IsOpenRow}
 use Rattle.ddr_legality.specs.Bus.{Bus, is_legal_now}
 use Rattle.ddr_address_map.specs.declared.place.Place.{Place}
 use Rattle.ddr_hazards.specs.declared.waiting.Waiting.{Waiting}
 use Rattle.ddr_hazards.specs.PendingList.{IsInRank}
-use Rattle.ddr_arbiter.specs.Choice.{passes_at, wants_open_row, is_open_row_wanted, can_precharge, is_on_other_row}
-use Rattle.ddr_arbiter.specs.Commands.{activate_at, precharge_at}
+use Rattle.ddr_arbiter.specs.Choice.{passes_at, wants_open_row, is_open_row_wanted, can_precharge, is_on_other_row, is_row_open, open_row_at}
+use Rattle.ddr_arbiter.specs.Commands.{precharge_at}
 use Rattle.ddr_arbiter.specs.Wanted.{bank_number, bank_on_row, wanted_bank, IsMarked}
 use Rattle.ddr_arbiter.proofs.CommandLemmas.{on_row}
 
@@ -25,7 +24,7 @@ mark_of b waiting places marks p mark marked inside is = sym (get_or_from_slice_
 
 -- a bank with another row open is precharged where its mark is off and PRE is legal
 pub unmarked_precharged : (b : Bus) (waiting : List Waiting) (places : List ℕ) (marks : List Bool) (p : Place) (row : ℕ) → IsMarked b waiting places marks → IsInRank p →
-    IsOpenRow b.trace p.group p.bank (Some row) → eqb row p.row ≡ false → get_or marks (bank_number p) false ≡ false →
+    open_row_at b p ≡ Some row → eqb row p.row ≡ false → get_or marks (bank_number p) false ≡ false →
     is_legal_now b (precharge_at p) ≡ can_precharge b waiting places p
 unmarked_precharged b waiting places marks p row marked inside is other off =
     let moved : is_on_other_row b p ≡ true = on_row b p row is ∙ ap not other in
@@ -42,7 +41,7 @@ marked_kept b waiting places marks p marked inside on =
       | inr stays ↦ rw stays refl
     ]
 
-pub own_row_kept : (b : Bus) (waiting : List Waiting) (places : List ℕ) (p : Place) (row : ℕ) → IsOpenRow b.trace p.group p.bank (Some row) →
+pub own_row_kept : (b : Bus) (waiting : List Waiting) (places : List ℕ) (p : Place) (row : ℕ) → open_row_at b p ≡ Some row →
     eqb row p.row ≡ true → false ≡ can_precharge b waiting places p
 own_row_kept b waiting places p row is own =
     let stays : is_on_other_row b p ≡ false = on_row b p row is ∙ ap not own in
@@ -53,12 +52,12 @@ same_bank : (p q : Place) → IsInRank p → IsInRank q → bank_number p ≡ ba
 same_bank p q in_p in_q same = (omega (arith, in_p.1, in_q.1, same), omega (arith, in_p.1, in_q.1, same))
 
 -- where a request wants the open row of its own bank, it wants that of this bank, or its bank is another
-wants_own : (b : Bus) (p q : Place) → IsInRank p → IsInRank q → is_row_open b.trace (activate_at q) ≡ true → bank_number p ≡ bank_number q → wants_open_row b p q ≡ true
+wants_own : (b : Bus) (p q : Place) → IsInRank p → IsInRank q → is_row_open b q ≡ true → bank_number p ≡ bank_number q → wants_open_row b p q ≡ true
 wants_own b p q in_p in_q opened same =
     let bank = same_bank p q in_p in_q same in
     rw (eq-eqb q.group p.group (sym bank.0), eq-eqb q.bank p.bank (sym bank.1), opened) refl
 
-wants_none : (b : Bus) (p q : Place) → is_row_open b.trace (activate_at q) ≡ false → wants_open_row b p q ≡ false
+wants_none : (b : Bus) (p q : Place) → is_row_open b q ≡ false → wants_open_row b p q ≡ false
 wants_none b p q shut = elim (cases_Bool (eqb q.group p.group && eqb q.bank p.bank)) [
   | inl here ↦ rw (here, shut) refl
   | inr there ↦ rw there refl
@@ -87,11 +86,11 @@ in_rank_at waiting place w inside found =
     let w_is : get_or waiting place w ≡ w = get_or_from_slice_get waiting place w w found in
     rw w_is at (All-get_or (λ w. IsInRank w.request.place) waiting place w (slice_get_within waiting place w found) inside)
 
-on_row_none : (b : Bus) (q : Place) (w : Bool) → is_row_open b.trace (activate_at q) ≡ w → bank_on_row b q ≡ None → w ≡ false
+on_row_none : (b : Bus) (q : Place) (w : Bool) → is_row_open b q ≡ w → bank_on_row b q ≡ None → w ≡ false
 on_row_none b q true e none = let some : Some (bank_number q) ≡ None = rw e at none in cc
 on_row_none b q false e none = refl
 
-on_row_some : (b : Bus) (q : Place) (n : ℕ) (w : Bool) → is_row_open b.trace (activate_at q) ≡ w → bank_on_row b q ≡ Some n → (w ≡ true) × (bank_number q ≡ n)
+on_row_some : (b : Bus) (q : Place) (n : ℕ) (w : Bool) → is_row_open b q ≡ w → bank_on_row b q ≡ Some n → (w ≡ true) × (bank_number q ≡ n)
 on_row_some b q n true e some = let same : Some (bank_number q) ≡ Some n = rw e at some in (refl, cc)
 on_row_some b q n false e some = let none : None ≡ Some n = rw e at some in cc
 

@@ -2,20 +2,18 @@
 use Rattle.std.specs.Prelude.{◌≡◌, ℕ, ◌+◌, ◌*◌, Bool, List, Option, Some, None, if◌then◌else◌, slice_get}
 use Rattle.std.specs.Option.{option_and_then}
 use Rattle.ddr_timing.specs.declared.units.TheConstants.{GROUP_BANKS}
-use Rattle.ddr_trace.specs.Rules.{is_row_open}
 use Rattle.ddr_legality.specs.Bus.{Bus}
 use Rattle.ddr_address_map.specs.declared.place.Place.{Place}
 use Rattle.ddr_hazards.specs.declared.waiting.Waiting.{Waiting}
 use Rattle.ddr_hazards.specs.PendingList.{IsInRank}
-use Rattle.ddr_arbiter.specs.Choice.{is_open_row_wanted}
-use Rattle.ddr_arbiter.specs.Commands.{activate_at}
+use Rattle.ddr_arbiter.specs.Choice.{is_open_row_wanted, is_row_open}
 
 abbrev pub bank_number : Place → ℕ
 bank_number p = p.group * GROUP_BANKS + p.bank
 
 -- the bank of a place whose row is open
 abbrev pub bank_on_row : Bus → Place → Option ℕ
-bank_on_row b p = if is_row_open b.trace (activate_at p) then Some (bank_number p) else None
+bank_on_row b p = if is_row_open b p then Some (bank_number p) else None
 
 -- the bank whose open row the request at the place wants, if it does
 abbrev pub wanted_bank : Bus → List Waiting → ℕ → Option ℕ

@@ -154,7 +154,7 @@ fn can_precharge(legality: &Legality, wanted: &Marks, at: Place) -> bool
     ensures { (waiting : List Waiting) (places : List ℕ) → IsMarked legality.entry.now.bus waiting places wanted.now
         → result ≡ can_precharge legality.entry.now.bus waiting places at }
 {
-    match legality.open_row(at.group, at.bank) {
+    match legality.open_row(0, at.group, at.bank) {
         Some(row) => row != at.row && !wanted[bank_number(at)] && may(legality, precharge_at(at)),
         None => false,
     }

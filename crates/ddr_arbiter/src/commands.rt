@@ -1,8 +1,7 @@
 //! The commands that serve a request, which of them may be issued now, and the command of a choice.
 ghost use Rattle.std.specs.Prelude.{◌≡◌};
-ghost use Rattle.ddr_trace.specs.Rules.{is_row_open};
 ghost use Rattle.ddr_legality.specs.Bus.{is_legal_now};
-ghost use Rattle.ddr_arbiter.specs.Choice.{can_activate, is_on_other_row};
+ghost use Rattle.ddr_arbiter.specs.Choice.{can_activate, is_row_open};
 ghost use Rattle.ddr_arbiter.specs.Commands.{activate_at, precharge_at, column_at, column_of};
 ghost use Rattle.ddr_arbiter.specs.Laws.{command_of};
 
@@ -97,9 +96,9 @@ pub(crate) fn may(legality: &Legality, command: Command) -> bool
 
 /// Whether the place's row is open in its bank.
 pub(crate) fn is_row_open(legality: &Legality, place: Place) -> bool
-    ensures { result ≡ is_row_open legality.entry.now.bus.trace (activate_at place) }
+    ensures { result ≡ is_row_open legality.entry.now.bus place }
 {
-    match legality.open_row(place.group, place.bank) {
+    match legality.open_row(0, place.group, place.bank) {
         Some(row) => row == place.row,
         None => false,
     }
@@ -117,7 +116,7 @@ pub(crate) fn can_column(legality: &Legality, request: &Req) -> bool
 pub(crate) fn can_activate(legality: &Legality, place: Place) -> bool
     ensures { result ≡ can_activate legality.entry.now.bus place }
 {
-    match legality.open_row(place.group, place.bank) {
+    match legality.open_row(0, place.group, place.bank) {
         Some(_) => false,
         None => may(legality, activate_at(place)),
     }

@@ -1,5 +1,5 @@
 -- What opening, admission and the look at a cycle's situation make of a channel's fields.
-use Rattle.std.proofs.Common.{◌≡◌, ◌↔◌, IsTrue, ℕ, ◌+◌, ◌-◌, ◌*◌, ◌≤◌, Bool, true, false, eqb, ltb, leb, List, [], ◌∷◌, ◌++◌, Result, Ok, Err, IsErr, OnOk, IfErr, length, replicate, refl, sym, ap, subst, ◌∙◌, arith}
+use Rattle.std.proofs.Common.{◌≡◌, ◌↔◌, IsTrue, ℕ, ◌+◌, ◌-◌, ◌*◌, ◌≤◌, Bool, true, false, eqb, ltb, leb, List, [], ◌∷◌, ◌++◌, None, Result, Ok, Err, IsErr, OnOk, IfErr, length, replicate, refl, sym, ap, subst, ◌∙◌, arith}
 use Rattle.std.proofs.Math.Path.{fun_ext}
 use Rattle.std.specs.List.{filter}
 use Rattle.std.proofs.lemmas.Bool.{false≢true}
@@ -7,7 +7,8 @@ use Rattle.std.proofs.lemmas.List.{length-append}
 use Rattle.circular_buffer.specs.Buffer.{Buffer, buffer}
 use Rattle.ddr_timing.specs.declared.config.Config.{Config}
 use Rattle.ddr_timing.specs.declared.units.TheConstants.{CLOCK_STOP, LINE_BYTES}
-use Rattle.ddr_trace.specs.Rules.{IsOpenRow}
+use Rattle.ddr_trace.specs.Banks.{bank_behind, ready_row}
+use Rattle.ddr_trace.specs.declared.command.Command.TheVariants.{Pre}
 use Rattle.ddr_legality.specs.Bus.{Bus}
 use Rattle.ddr_legality.specs.Bus as bus
 use Rattle.ddr_legality.specs.Kept as legality
@@ -126,6 +127,11 @@ state_open config first spare rows fresh =
     let zeros : (λ (address : LineAddress). cells rows address.bank address.row address.line) ≡ (λ _. replicate LINE_BYTES 0) = fun_ext (λ address. fresh.zeros address.bank address.row address.line) in
     ap (λ (f : LineAddress → List ℕ). record (opened config first) { cells = f }) zeros
 
+-- before the first command no bank is ready
+no_command : (group bank : ℕ) → ready_row (bank_behind (Pre 0 group bank) []) ≡ None
+unfolding bank_behind
+no_command group bank = refl
+
 pub whole_open : (config : Config) (first spare : ℕ) (rows : Rows) → first ≤ CLOCK_STOP → IsFresh config rows → IsWhole (fields_open config first spare rows)
 whole_open config first spare rows clock fresh =
     let sound = IsSound-opened config first in
@@ -143,6 +149,6 @@ whole_open config first spare rows clock fresh =
         banks = fresh.banks;
         rows_are = fresh.rows;
         lines = fresh.lines;
-        opened = λ group bank g b. subst (IsOpenRow [] group bank) (sym (fresh.idle (group * 4 + bank))) refl;
+        opened = λ group bank g b. fresh.idle (group * 4 + bank) ∙ sym (no_command group bank);
       };
     }

@@ -1,23 +1,21 @@
 -- What a cycle makes of a channel's fields.
-use Rattle.std.proofs.Common.{◌≡◌, ℕ, ◌+◌, ◌-◌, ◌*◌, ◌<◌, ◌≤◌, Bool, true, false, ◌&&◌, not, cond, List, [], ◌∷◌, ◌++◌, Option, Some, None, All, length, refl, sym, ap, subst, ◌∙◌, inl, inr, arith}
+use Rattle.std.proofs.Common.{◌≡◌, ℕ, ◌+◌, ◌-◌, ◌*◌, ◌<◌, ◌≤◌, Bool, true, false, ◌&&◌, ◌||◌, cond, List, [], ◌∷◌, ◌++◌, Option, Some, None, All, length, refl, sym, ap, subst, ◌∙◌, inl, inr, arith}
 use Rattle.std.proofs.Math.Path.{fun_ext}
 use Rattle.std.specs.List.{slice_get}
-use Rattle.std.specs.Option.{option_map, IfSome}
-use Rattle.std.proofs.lemmas.Bool.{not-false, eqb-true, eq-eqb, ltb-true, cases_Bool, false≢true, true≢false}
+use Rattle.std.specs.Option.{is_none, option_map, IfSome}
+use Rattle.std.proofs.lemmas.Bool.{eq-eqb, ltb-true, cases_Bool, false≢true}
 use Rattle.std.proofs.lemmas.List.Sums.{sum_by_push}
 use Rattle.circular_buffer.specs.Buffer.{Buffer}
 use Rattle.ddr_timing.specs.declared.config.Config.{Config}
 use Rattle.ddr_timing.specs.declared.geometry.Digit.TheVariants.{Bank, Column, Group}
 use Rattle.ddr_timing.specs.declared.units.TheConstants.{CLOCK_STOP, GROUP_BANKS}
 use Rattle.ddr_trace.specs.declared.command.Command.{Command}
-use Rattle.ddr_trace.specs.declared.command.Command.TheVariants.{Act}
+use Rattle.ddr_trace.specs.declared.command.Command.TheVariants.{Pre}
 use Rattle.ddr_trace.specs.declared.command.Entry.{Entry}
 use Rattle.ddr_trace.specs.declared.rule.Rule.TheVariants as rule
 use Rattle.ddr_trace.specs.Commands.{entry, is_refresh, is_same_rank, rank_of}
-use Rattle.ddr_trace.specs.Rules.{is_row_open, refresh_count}
-use Rattle.ddr_rank.specs.Breaks.{is_open}
-use Rattle.ddr_rank.proofs.OpenLemmas.{row_told}
-use Rattle.ddr_rank.proofs.PlaceLemmas.{rank_in}
+use Rattle.ddr_trace.specs.Banks.{bank_behind, ready_row}
+use Rattle.ddr_trace.specs.Rules.{breaks, refresh_count}
 use Rattle.ddr_legality.specs.Bus.{Bus, broken_now, is_legal_now}
 use Rattle.ddr_legality.specs.Bus as bus
 use Rattle.ddr_legality.specs.Kept as legality
@@ -35,7 +33,7 @@ use Rattle.ddr_arbiter.specs.declared.choice.Choice.{Choice}
 use Rattle.ddr_arbiter.specs.declared.choice.Choice.TheVariants as choice
 use Rattle.ddr_arbiter.specs.Commands.{activate_at, precharge_at, column_at, column_of, refresh}
 use Rattle.ddr_arbiter.specs.Laws.{IsLawful, column_place_of, command_of}
-use Rattle.ddr_arbiter.proofs.CommandLemmas.{legal_keeps, legal_none}
+use Rattle.ddr_arbiter.proofs.CommandLemmas.{column_bank, column_open, legal_keeps, legal_none}
 use Rattle.ddr_arbiter.proofs.LawLemmas.{lawful_where}
 use Rattle.ddr_channel.specs.declared.channel.Channel.TheInside.{Inside}
 use Rattle.ddr_channel.specs.Choice.{bus_of, has_room, refreshes_of, situation_of, choice_of}
@@ -47,8 +45,9 @@ use Rattle.ddr_channel.specs.Served.{CanServe, MayServe, Holds}
 use Rattle.ddr_channel.specs.Sound.{IsServed, IsSound}
 use Rattle.ddr_channel.specs.State.{State}
 use Rattle.ddr_channel.specs.View.{kept_of, IsWhole}
+use Rattle.ddr_channel.proofs.BankLemmas.{ready_for}
 use Rattle.ddr_channel.proofs.HistoryLemmas.{served_alike}
-use Rattle.ddr_channel.proofs.IssueLemmas.{agrees_ready, legal_in, number_small}
+use Rattle.ddr_channel.proofs.IssueLemmas.{agrees_ready, number_small}
 use Rattle.ddr_channel.proofs.ListLemmas.{All-at}
 use Rattle.ddr_channel.proofs.SoundLemmas.{IsSound-after_cycle}
 
@@ -74,6 +73,26 @@ pub chosen_legal : (a : Inside) (ch : Choice) (o : Option Command) → IsWhole a
 chosen_legal a ch o whole is command =
     subst (λ (x : Option Command). IfSome x (λ c. broken_now a.legality.bus c ≡ None)) (sym command)
     (if_legal (bus_of (choosing a)) a.legality.bus (bus_is a whole) (command_of a.pending.waiting ch) (lawful_where (situation_of (choosing a)) ch is).legal)
+
+rank_of_some : (f : Waiting → Command) (o : Option Waiting) → ((w : Waiting) → rank_of (f w) ≡ 0) → IfSome (option_map f o) (λ c. rank_of c ≡ 0)
+rank_of_some f None zero_rank = tt
+rank_of_some f (Some w) zero_rank = zero_rank w
+
+column_rank : (kind : Kind) (p : Place) → rank_of (column_at kind p) ≡ 0
+column_rank Read p = refl
+column_rank Write p = refl
+
+rank_by_choice : (pending : List Waiting) (ch : Choice) → IfSome (command_of pending ch) (λ c. rank_of c ≡ 0)
+rank_by_choice pending choice.Nothing = tt
+rank_by_choice pending choice.Refresh = refl
+rank_by_choice pending choice.PreAll = refl
+rank_by_choice pending (choice.Act place) = rank_of_some (λ w. activate_at w.request.place) (slice_get pending place) (λ w. refl)
+rank_by_choice pending (choice.Pre place) = rank_of_some (λ w. precharge_at w.request.place) (slice_get pending place) (λ w. refl)
+rank_by_choice pending (choice.Column place) = rank_of_some (λ w. column_of w.request) (slice_get pending place) (λ w. column_rank w.request.echo.kind w.request.place)
+
+-- every command that is chosen is of rank 0
+pub chosen_rank : (pending : List Waiting) (ch : Choice) (o : Option Command) → o ≡ command_of pending ch → IfSome o (λ c. rank_of c ≡ 0)
+chosen_rank pending ch o command = subst (λ (x : Option Command). IfSome x (λ c. rank_of c ≡ 0)) (sym command) (rank_by_choice pending ch)
 
 no_refresh_of : (X : Type 0) (f : Waiting → Command) (o : Option Waiting) → ((w : Waiting) → is_refresh (f w) ≡ false) → IfSome (option_map f o) (λ c. is_refresh c ≡ true → X)
 no_refresh_of X f None none = tt
@@ -112,23 +131,24 @@ chosen_room a ch flight whole is items capacity =
 
 -- a column command
 
--- a legal column command finds its row open
-column_open : (b : Bus) (kind : Kind) (p : Place) → is_legal_now b (column_at kind p) ≡ true → is_row_open b.trace (Act 0 p.group p.bank p.row) ≡ true
-column_open b Read p legal = not-false _ (legal_keeps b (column_at Read p) legal rule.Row refl)
-column_open b Write p legal = not-false _ (legal_keeps b (column_at Write p) legal rule.Row refl)
+alone : (x : Bool) → (x || false) ≡ false → x ≡ false
+alone true none = none
+alone false none = refl
 
-opened_is : (o : Option ℕ) (row : ℕ) → is_open o row ≡ true → o ≡ Some row
-opened_is None row is = absurd (false≢true is)
-opened_is (Some opened) row is = ap Some (sym (eqb-true row opened is))
+-- STATE of a column command, whichever kind it is
+column_state : (b : Bus) (kind : Kind) (p : Place) → breaks b.config b.start (b.now + 1) rule.State b.trace (entry b.now (column_at kind p)) ≡ false → is_none (ready_row (bank_behind (column_at kind p) b.trace)) ≡ false
+column_state b Read p kept = alone _ kept
+column_state b Write p kept = alone _ kept
+
+-- a legal column command finds its bank ready for its row
+column_ready : (b : Bus) (kind : Kind) (p : Place) → is_legal_now b (column_at kind p) ≡ true → ready_row (bank_behind (Pre 0 p.group p.bank) b.trace) ≡ Some p.row
+column_ready b kind p legal =
+    let ready = column_state b kind p (legal_keeps b (column_at kind p) legal rule.State refl) in
+    ready_for b.config.timing b.now p.row (bank_behind (Pre 0 p.group p.bank) b.trace) (sym (ap (λ bank. is_none (ready_row bank)) (column_bank kind p b.trace)) ∙ ready) (column_open b kind p legal)
 
 left_open : (kind : Kind) (p : Place) (group bank : ℕ) (o : Option ℕ) → row_after group bank (column_at kind p) o ≡ o
 left_open Read p group bank o = refl
 left_open Write p group bank o = refl
-
-not_same : (x y : Bool) → not x ≡ not y → y ≡ true → x ≡ true
-not_same true y same is = refl
-not_same false true same is = absurd (true≢false same)
-not_same false false same is = absurd (false≢true is)
 
 -- the row of a request that is read or written is open, and its line is in it
 can_serve : (config : Config) (b : Bus) (old new : Rows) (w : Waiting) → AgreesWith config b.trace old → IsServed config w.request.place → is_legal_now b (column_of w.request) ≡ true →
@@ -140,9 +160,7 @@ can_serve config b old new w agrees served legal opened shape =
     let group = inside.digits Group in
     let bank = inside.digits Bank in
     let here : open_row old (bank_number p) ≡ Some p.row =
-    opened_is (open_row old (bank_number p)) p.row
-    (not_same (is_open (open_row old (bank_number p)) p.row) (is_row_open b.trace (Act 0 p.group p.bank p.row))
-    (row_told b.trace p.group p.bank p.row (open_row old (bank_number p)) (agrees.opened p.group p.bank group bank)) (column_open b w.request.echo.kind p legal)) in
+    agrees.opened p.group p.bank group bank ∙ column_ready b w.request.echo.kind p legal in
     record {
       bank = number_small config b.trace old (bank_number p) agrees (omega (arith, group, bank, agrees.banks));
       opened = opened p.group p.bank bank ∙ left_open w.request.echo.kind p p.group p.bank (open_row old (bank_number p)) ∙ here;
@@ -214,10 +232,6 @@ state_after a ch o pending drain debt flight done legality rows made =
 
 -- the debt after a cycle
 
-rank_zero : (b : Bus) (o : Option Command) → IfSome o (λ c. broken_now b c ≡ None) → IfSome o (λ c. rank_of c ≡ 0)
-rank_zero b None legal = tt
-rank_zero b (Some c) legal = rank_in b.config.geometry c (legal_in b c legal)
-
 one_more : (counts : Bool) (r : Refreshes) (n : ℕ) → n ≡ r.issued + cond counts 1 0 → cond counts (record r { issued = r.issued + 1 }) r ≡ record r { issued = n }
 one_more true r n is = ap (λ m. record r { issued = m }) (sym is)
 one_more false r n is = let same : r.issued ≡ n = omega (arith, is) in ap (λ m. record r { issued = m }) same
@@ -246,13 +260,13 @@ ticks_alike (Some c) r = by_test (is_refresh c)
 refreshes_at : Config → ℕ → ℕ → Refreshes
 refreshes_at config ticks issued = record { refi = config.timing.refi; postpone = config.timing.postpone; ticks = ticks; issued = issued }
 
-debt_after : (a : Inside) (o : Option Command) (debt : Refreshes) (b : Bus) → IsWhole a → IfSome o (λ c. broken_now a.legality.bus c ≡ None) → b ≡ bus.ticked (bus_with o a.legality.bus) →
+debt_after : (a : Inside) (o : Option Command) (debt : Refreshes) (b : Bus) → IsWhole a → IfSome o (λ c. rank_of c ≡ 0) → b ≡ bus.ticked (bus_with o a.legality.bus) →
     debt ≡ refreshes_with o (after_tick a.debt) →
     debt ≡ record { refi = a.config.timing.refi; postpone = a.config.timing.postpone; ticks = b.now - b.start; issued = refresh_count b.trace refresh }
 unfolding refreshes_at
-debt_after a o debt b whole legal on_bus is =
+debt_after a o debt b whole zero_rank on_bus is =
     let s = state_of (kept_of a) in
-    let counted = ticks_alike o (refreshes_of s) ∙ ap after_tick (debt_counts s o (rank_zero a.legality.bus o legal)) in
+    let counted = ticks_alike o (refreshes_of s) ∙ ap after_tick (debt_counts s o zero_rank) in
     let later : (s.now - s.start) + 1 ≡ (s.now + 1) - s.start = omega (arith, whole.sound.begun) in
     is ∙ ap (λ (r : Refreshes). refreshes_with o (after_tick r)) whole.debt ∙ counted
     ∙ ap (λ n. refreshes_at a.config n (refresh_count (with_command s.now o s.trace) refresh)) later
@@ -269,7 +283,7 @@ whole_after a ch o pending drain debt flight done legality rows whole made clock
   clock = omega (arith, clock, ap (λ (x : Bus). x.now) made.on_bus);
   reads = reads ∙ whole.reads;
   writes = writes ∙ whole.writes;
-  debt = debt_after a o debt legality.bus whole (chosen_legal a ch o whole made.chosen made.command) made.on_bus debt_is;
+  debt = debt_after a o debt legality.bus whole (chosen_rank a.pending.waiting ch o made.command) made.on_bus debt_is;
   flight_room = flight_room ∙ whole.flight_room;
   done_room = done_room ∙ whole.done_room;
   agrees = agrees;

@@ -1,26 +1,27 @@
 -- What a command that is legal now needs, and what the rows are after it.
-use Rattle.std.proofs.Common.{◌≡◌, ℕ, zero, suc, ◌+◌, ◌*◌, ◌^◌, ◌<◌, ◌≤◌, Bool, true, false, ◌&&◌, cond, eqb, ltb, List, [], ◌∷◌, ◌++◌, Option, Some, None, length, refl, sym, ap, ap₂, subst, ◌∙◌, inl, inr, arith}
+use Rattle.std.proofs.Common.{◌≡◌, ℕ, zero, suc, ◌+◌, ◌*◌, ◌^◌, ◌<◌, ◌≤◌, Bool, true, false, ◌&&◌, ◌||◌, cond, eqb, ltb, List, [], ◌∷◌, ◌++◌, Option, Some, None, length, refl, sym, ap, subst, ◌∙◌, inl, inr, arith}
 use Rattle.std.specs.List.{slice_index_or}
-use Rattle.std.proofs.lemmas.Bool.{and_parts, not-false, eqb-true, eq-eqb, ne_eqb, ltb-true, lt-ltb, cases_eq, cases_order, true≢false, false≢true}
+use Rattle.std.proofs.lemmas.Bool.{and_parts, not-false, eq-eqb, ne_eqb, ltb-true, lt-ltb, cases_eq, cases_order}
 use Rattle.std.proofs.lemmas.Bool.Decides.{nat_tests}
 use Rattle.ddr_timing.specs.declared.config.Config.{Config}
 use Rattle.ddr_timing.specs.declared.geometry.Geometry.{Geometry}
 use Rattle.ddr_timing.specs.declared.units.TheConstants.{GROUP_BANKS}
 use Rattle.ddr_trace.specs.declared.command.Command.{Command}
-use Rattle.ddr_trace.specs.declared.command.Command.TheVariants.{Act, Rd, Wr, Pre, PreAll, Refresh}
+use Rattle.ddr_trace.specs.declared.command.Command.TheVariants.{Act, Rd, Wr, RdAuto, WrAuto, Pre, PreAll, Refresh}
 use Rattle.ddr_trace.specs.declared.command.Entry.{Entry}
 use Rattle.ddr_trace.specs.declared.rule.Rule.TheVariants as rule
-use Rattle.ddr_trace.specs.Commands.{entry, is_activate, is_same_bank}
-use Rattle.ddr_trace.specs.Rules.{IsOpenRow, is_bank_active, is_in, is_bank_in}
+use Rattle.ddr_trace.specs.Banks.{bank_behind, is_active, ready_row}
+use Rattle.ddr_trace.specs.Commands.{entry, rank_of}
+use Rattle.ddr_trace.specs.Rules.{is_in, is_bank_in, is_line_in}
+use Rattle.ddr_trace.proofs.BankLemmas.{bank_behind-append}
 use Rattle.ddr_legality.specs.Bus.{Bus, broken_now}
 use Rattle.ddr_legality.proofs.LegalLemmas.{keeps_from_none}
-use Rattle.ddr_rank.proofs.OpenLemmas.{open_after, active_told}
-use Rattle.ddr_rank.proofs.PlaceLemmas.{rank_in, group_in, bank_in}
 use Rattle.ddr_row_array.specs.Changes.{SameShape}
 use Rattle.ddr_row_array.specs.Rows.{Rows, bank_count, row_count, open_row}
-use Rattle.ddr_channel.specs.Issue.{IsReadyFor, MayFollow, row_after, refreshes_after}
+use Rattle.ddr_channel.specs.Issue.{IsBank, IsReadyFor, MayFollow, row_after, refreshes_after}
 use Rattle.ddr_refresh.specs.Refreshes.{Refreshes}
 use Rattle.ddr_channel.specs.Kept.{AgreesWith}
+use Rattle.ddr_channel.proofs.BankLemmas.{activate_bank, idle_not_ready, ready_after}
 
 -- a legal command lies in the geometry
 pub legal_in : (b : Bus) (c : Command) → broken_now b c ≡ None → is_in b.config.geometry c ≡ true
@@ -32,25 +33,36 @@ pub record IsThere (rows : Rows) (group bank row : ℕ) : Type 0 where
   pub number : group * GROUP_BANKS + bank < bank_count rows
   pub row_in : row < row_count rows
 
-act_row : (g : Geometry) (rank group bank row : ℕ) → is_in g (Act rank group bank row) ≡ true → row < g.rows
-act_row g rank group bank row placed = ltb-true row g.rows (and_parts (is_bank_in g rank group bank) (ltb row g.rows) placed).1
+act_in : (g : Geometry) (rank group bank row : ℕ) → is_in g (Act rank group bank row) ≡ true → (is_bank_in g rank group bank ≡ true) × (row < g.rows)
+act_in g rank group bank row placed =
+    let parts = and_parts (is_bank_in g rank group bank) (ltb row g.rows) placed in
+    (parts.0, ltb-true row g.rows parts.1)
+
+line_bank : (g : Geometry) (rank group bank row line : ℕ) → is_line_in g rank group bank row line ≡ true → is_bank_in g rank group bank ≡ true
+line_bank g rank group bank row line placed = (and_parts _ _ (and_parts _ _ placed).0).0
+
+group_in : (g : Geometry) (rank group bank : ℕ) → is_bank_in g rank group bank ≡ true → group < g.groups
+group_in g rank group bank placed = ltb-true _ _ (and_parts _ _ (and_parts _ _ placed).0).1
+
+bank_there : (config : Config) (trace : List Entry) (rows : Rows) (rank group bank : ℕ) → AgreesWith config trace rows → is_bank_in config.geometry rank group bank ≡ true →
+    (bank < GROUP_BANKS) × (group * GROUP_BANKS + bank < bank_count rows)
+bank_there config trace rows rank group bank agrees placed =
+    let low : bank < GROUP_BANKS = ltb-true _ _ (and_parts _ _ placed).1 in
+    let in_group = group_in config.geometry rank group bank placed in
+    (low, omega (arith, agrees.banks))
+
+one_bank : (config : Config) (trace : List Entry) (rows : Rows) (rank group bank : ℕ) → rank ≡ 0 → AgreesWith config trace rows → is_bank_in config.geometry rank group bank ≡ true → IsBank rows rank group bank
+one_bank config trace rows rank group bank zero_rank agrees placed = let there = bank_there config trace rows rank group bank agrees placed in (zero_rank, there.0, there.1)
 
 pub act_there : (config : Config) (trace : List Entry) (rows : Rows) (rank group bank row : ℕ) → AgreesWith config trace rows → is_in config.geometry (Act rank group bank row) ≡ true → IsThere rows group bank row
 act_there config trace rows rank group bank row agrees placed =
-    let low = bank_in config.geometry (Act rank group bank row) placed in
-    let in_group = group_in config.geometry (Act rank group bank row) placed in
+    let parts = act_in config.geometry rank group bank row placed in
+    let there = bank_there config trace rows rank group bank agrees parts.0 in
     record {
-      small = low;
-      number = omega (arith, agrees.banks);
-      row_in = omega (arith, act_row config.geometry rank group bank row placed, agrees.rows_are);
+      small = there.0;
+      number = there.1;
+      row_in = omega (arith, parts.1, agrees.rows_are);
     }
-
-pub pre_there : (config : Config) (trace : List Entry) (rows : Rows) (rank group bank : ℕ) → AgreesWith config trace rows → is_in config.geometry (Pre rank group bank) ≡ true →
-    (bank < GROUP_BANKS) × (group * GROUP_BANKS + bank < bank_count rows)
-pre_there config trace rows rank group bank agrees placed =
-    let low = bank_in config.geometry (Pre rank group bank) placed in
-    let in_group = group_in config.geometry (Pre rank group bank) placed in
-    (low, omega (arith, agrees.banks))
 
 -- a rank has few banks
 pub number_small : (config : Config) (trace : List Entry) (rows : Rows) (n : ℕ) → AgreesWith config trace rows → n < bank_count rows → n < 2 ^ 32
@@ -62,37 +74,44 @@ agrees_ready config trace old new agrees shape opened = record {
   banks = shape.banks ∙ agrees.banks;
   rows_are = shape.rows ∙ agrees.rows_are;
   lines = shape.lines ∙ agrees.lines;
-  opened = λ group bank g b. subst (IsOpenRow trace group bank) (sym (opened (group * GROUP_BANKS + bank))) (agrees.opened group bank g b);
+  opened = λ group bank g b. opened (group * GROUP_BANKS + bank) ∙ agrees.opened group bank g b;
 }
 
 -- an ACT finds its bank idle
 
-no_row : (trace : List Entry) (group bank : ℕ) (o : Option ℕ) → IsOpenRow trace group bank o → is_bank_active trace (Pre 0 group bank) ≡ false → o ≡ None
-no_row trace group bank None kept idle = refl
-no_row trace group bank (Some row) kept idle = absurd (true≢false (active_told trace group bank (Some row) kept ∙ idle))
+no_other : (x : Bool) → ((x || false) || false) ≡ false → x ≡ false
+no_other true none = none
+no_other false none = refl
 
-act_idle : (b : Bus) (rank group bank row : ℕ) → rank ≡ 0 → broken_now b (Act rank group bank row) ≡ None → is_bank_active b.trace (Pre 0 group bank) ≡ false
+act_idle : (b : Bus) (rank group bank row : ℕ) → rank ≡ 0 → broken_now b (Act rank group bank row) ≡ None → ready_row (bank_behind (Pre 0 group bank) b.trace) ≡ None
 act_idle b rank group bank row zero_rank none =
-    let kept : is_bank_active b.trace (Act rank group bank row) ≡ false = keeps_from_none b.config b.start (b.now + 1) b.trace (entry b.now (Act rank group bank row)) none rule.State refl in
-    sym (ap (λ r. is_bank_active b.trace (Act r group bank row)) zero_rank) ∙ kept
+    let kept = keeps_from_none b.config b.start (b.now + 1) b.trace (entry b.now (Act rank group bank row)) none rule.State refl in
+    let idle = no_other (is_active b.config.timing b.now (bank_behind (Act rank group bank row) b.trace)) kept in
+    ap (λ r. ready_row (bank_behind (Pre r group bank) b.trace)) (sym zero_rank)
+    ∙ ap ready_row (sym (activate_bank rank group bank row b.trace))
+    ∙ idle_not_ready b.config.timing b.now (bank_behind (Act rank group bank row) b.trace) idle
 
--- the rows can do as a legal command says
-pub may_follow : (config : Config) (b : Bus) (rows : Rows) (spare : ℕ) (c : Command) → b.config ≡ config → broken_now b c ≡ None → AgreesWith config b.trace rows → IsReadyFor spare rows c → MayFollow rows c
-may_follow config b rows spare (Act rank group bank row) of_config none agrees ready =
+-- the rows can do as a legal command of rank 0 says
+pub may_follow : (config : Config) (b : Bus) (rows : Rows) (spare : ℕ) (c : Command) → b.config ≡ config → broken_now b c ≡ None → rank_of c ≡ 0 → AgreesWith config b.trace rows → IsReadyFor spare rows c → MayFollow rows c
+may_follow config b rows spare (Act rank group bank row) of_config none zero_rank agrees ready =
     let placed = subst (λ (x : Config). is_in x.geometry (Act rank group bank row) ≡ true) of_config (legal_in b (Act rank group bank row) none) in
     let there = act_there config b.trace rows rank group bank row agrees placed in
-    let zero_rank = rank_in config.geometry (Act rank group bank row) placed in
-    let in_group = group_in config.geometry (Act rank group bank row) placed in
-    let idle = no_row b.trace group bank (open_row rows (group * GROUP_BANKS + bank)) (agrees.opened group bank in_group there.small) (act_idle b rank group bank row zero_rank none) in
+    let in_group = group_in config.geometry rank group bank (act_in config.geometry rank group bank row placed).0 in
+    let idle = agrees.opened group bank in_group there.small ∙ act_idle b rank group bank row zero_rank none in
     (zero_rank, there.small, there.number, there.row_in, idle, ready.stored)
-may_follow config b rows spare (Pre rank group bank) of_config none agrees ready =
+may_follow config b rows spare (Pre rank group bank) of_config none zero_rank agrees ready =
     let placed = subst (λ (x : Config). is_in x.geometry (Pre rank group bank) ≡ true) of_config (legal_in b (Pre rank group bank) none) in
-    let there = pre_there config b.trace rows rank group bank agrees placed in
-    (rank_in config.geometry (Pre rank group bank) placed, there.0, there.1)
-may_follow config b rows spare (PreAll rank) of_config none agrees ready = rank_in b.config.geometry (PreAll rank) (legal_in b (PreAll rank) none)
-may_follow config b rows spare (Refresh rank) of_config none agrees ready = rank_in b.config.geometry (Refresh rank) (legal_in b (Refresh rank) none)
-may_follow config b rows spare (Rd rank group bank row line) of_config none agrees ready = rank_in b.config.geometry (Rd rank group bank row line) (legal_in b (Rd rank group bank row line) none)
-may_follow config b rows spare (Wr rank group bank row line) of_config none agrees ready = rank_in b.config.geometry (Wr rank group bank row line) (legal_in b (Wr rank group bank row line) none)
+    one_bank config b.trace rows rank group bank zero_rank agrees placed
+may_follow config b rows spare (RdAuto rank group bank row line) of_config none zero_rank agrees ready =
+    let placed = subst (λ (x : Config). is_in x.geometry (RdAuto rank group bank row line) ≡ true) of_config (legal_in b (RdAuto rank group bank row line) none) in
+    one_bank config b.trace rows rank group bank zero_rank agrees (line_bank config.geometry rank group bank row line placed)
+may_follow config b rows spare (WrAuto rank group bank row line) of_config none zero_rank agrees ready =
+    let placed = subst (λ (x : Config). is_in x.geometry (WrAuto rank group bank row line) ≡ true) of_config (legal_in b (WrAuto rank group bank row line) none) in
+    one_bank config b.trace rows rank group bank zero_rank agrees (line_bank config.geometry rank group bank row line placed)
+may_follow config b rows spare (PreAll rank) of_config none zero_rank agrees ready = zero_rank
+may_follow config b rows spare (Refresh rank) of_config none zero_rank agrees ready = zero_rank
+may_follow config b rows spare (Rd rank group bank row line) of_config none zero_rank agrees ready = zero_rank
+may_follow config b rows spare (Wr rank group bank row line) of_config none zero_rank agrees ready = zero_rank
 
 -- the rows after a command
 
@@ -118,23 +137,16 @@ pub row_after_all : (rank g b : ℕ) (o : Option ℕ) → rank ≡ 0 → None �
 row_after_all rank g b o zero_rank = rw (eq-eqb rank 0 zero_rank) refl
 
 -- and they agree with the trace as before
-idle_before : (b : Bus) (c : Command) (group bank : ℕ) → broken_now b c ≡ None → (is_activate c && is_same_bank c (Pre 0 group bank)) ≡ true → is_bank_active b.trace (Pre 0 group bank) ≡ false
-idle_before b (Act rank g n row) group bank none same =
-    let parts = and_parts (eqb rank 0) (eqb g group && eqb n bank) same in
-    let both = and_parts (eqb g group) (eqb n bank) parts.1 in
-    let here = act_idle b rank g n row (eqb-true rank 0 parts.0) none in
-    ap₂ (λ x y. is_bank_active b.trace (Pre 0 x y)) (sym (eqb-true g group both.0)) (sym (eqb-true n bank both.1)) ∙ here
-idle_before b c group bank none same = absurd (false≢true same)
-
-pub agrees_after : (config : Config) (b : Bus) (c : Command) (old new : Rows) → broken_now b c ≡ None → AgreesWith config b.trace old → SameShape old new →
+pub agrees_after : (config : Config) (b : Bus) (c : Command) (old new : Rows) → AgreesWith config b.trace old → SameShape old new →
     ((group bank : ℕ) → bank < GROUP_BANKS → open_row new (group * GROUP_BANKS + bank) ≡ row_after group bank c (open_row old (group * GROUP_BANKS + bank))) →
     AgreesWith config (b.trace ++ entry b.now c ∷ []) new
-agrees_after config b c old new none agrees shape opened = record {
+agrees_after config b c old new agrees shape opened = record {
   banks = shape.banks ∙ agrees.banks;
   rows_are = shape.rows ∙ agrees.rows_are;
   lines = shape.lines ∙ agrees.lines;
-  opened = λ group bank g n. subst (IsOpenRow (b.trace ++ entry b.now c ∷ []) group bank) (sym (opened group bank n))
-      (open_after b.trace b.now c group bank (open_row old (group * GROUP_BANKS + bank)) (agrees.opened group bank g n) (idle_before b c group bank none));
+  opened = λ group bank g n. opened group bank n ∙ ap (row_after group bank c) (agrees.opened group bank g n)
+      ∙ sym (ready_after group bank (bank_behind (Pre 0 group bank) b.trace) (entry b.now c))
+      ∙ sym (ap ready_row (bank_behind-append (Pre 0 group bank) b.trace (entry b.now c)));
 }
 
 -- closing the banks one after another
@@ -169,6 +181,8 @@ pub no_refresh : (c : Command) (r : Refreshes) → ((rank : ℕ) → c ≡ Refre
 no_refresh (Act rank group bank row) r other = refl
 no_refresh (Rd rank group bank row line) r other = refl
 no_refresh (Wr rank group bank row line) r other = refl
+no_refresh (RdAuto rank group bank row line) r other = refl
+no_refresh (WrAuto rank group bank row line) r other = refl
 no_refresh (Pre rank group bank) r other = refl
 no_refresh (PreAll rank) r other = refl
 no_refresh (Refresh rank) r other = absurd (other rank refl)

@@ -5,6 +5,7 @@ pub mod SoundLemmas
 pub mod HistoryLemmas
 pub mod PromiseLemmas
 pub mod QueueLemmas
+pub mod BankLemmas
 pub mod IssueLemmas
 pub mod ServeLemmas
 pub mod CycleLemmas

@@ -3,7 +3,8 @@ use Rattle.std.specs.Prelude.{◌≡◌, ℕ, ◌+◌, ◌*◌, ◌/◌, ◌<◌
 use Rattle.ddr_timing.specs.declared.config.Config.{Config}
 use Rattle.ddr_timing.specs.declared.units.TheConstants.{GROUP_BANKS, LINE_COLUMNS}
 use Rattle.ddr_trace.specs.declared.command.Entry.{Entry}
-use Rattle.ddr_trace.specs.Rules.{IsOpenRow}
+use Rattle.ddr_trace.specs.declared.command.Command.TheVariants.{Pre}
+use Rattle.ddr_trace.specs.Banks.{bank_behind, ready_row}
 use Rattle.ddr_address_map.specs.Requests.{Completion}
 use Rattle.ddr_row_array.specs.Rows.{Rows, bank_count, row_count, line_count, open_row, cells}
 use Rattle.ddr_hazards.specs.declared.waiting.Waiting.{Waiting}
@@ -36,9 +37,10 @@ state_of k = record {
   cells = λ address. cells k.rows address.bank address.row address.line;
 }
 
--- the rows have the geometry's shape, and the open rows that the trace leaves
+-- the rows have the geometry's shape, and of rank 0 the open rows that the trace leaves for reads and writes
 pub record AgreesWith (config : Config) (trace : List Entry) (rows : Rows) : Type 0 where
   pub banks : bank_count rows ≡ config.geometry.groups * GROUP_BANKS
   pub rows_are : row_count rows ≡ config.geometry.rows
   pub lines : line_count rows ≡ config.geometry.columns / LINE_COLUMNS
-  pub opened : (group bank : ℕ) → group < config.geometry.groups → bank < GROUP_BANKS → IsOpenRow trace group bank (open_row rows (group * GROUP_BANKS + bank))
+  pub opened : (group bank : ℕ) → group < config.geometry.groups → bank < GROUP_BANKS →
+      open_row rows (group * GROUP_BANKS + bank) ≡ ready_row (bank_behind (Pre 0 group bank) trace)

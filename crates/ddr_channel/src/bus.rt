@@ -2,7 +2,7 @@
 ghost use Rattle.std.specs.Prelude.{◌≡◌, ℕ, ◌+◌, ◌*◌, ◌^◌, ◌≤◌, ◌<◌, true, false, length, None, IfSome, IsOk, IsTrue, OnErr, OnOk};
 ghost use Rattle.std.specs.Option.{option_map_or};
 ghost use Rattle.ddr_timing.specs.declared.units.TheConstants.{GROUP_BANKS};
-ghost use Rattle.ddr_trace.specs.Commands.{is_refresh};
+ghost use Rattle.ddr_trace.specs.Commands.{is_refresh, rank_of};
 ghost use Rattle.ddr_refresh.specs.Refreshes.{debt_of};
 ghost use Rattle.ddr_legality.specs.Bus.{broken_now, recorded};
 ghost use Rattle.ddr_row_array.specs.Changes.{SameBytes, SameShape};
@@ -96,7 +96,7 @@ fn close_all(rows: &mut RowArray, banks: u32)
     }
 }
 
-/// Opens and closes rows as the command says.
+/// Opens and closes rows as the command says. An RDA or WRA closes its row at once.
 fn follow(rows: &mut RowArray, banks: u32, command: Command)
     requires all { bank_count rows.old ≡ banks }
     requires may { MayFollow rows.old command }
@@ -111,11 +111,9 @@ fn follow(rows: &mut RowArray, banks: u32, command: Command)
             bank,
             row,
         } => rows.activate(bank_number(group, bank), row),
-        Command::Pre {
-            rank: _,
-            group,
-            bank,
-        } => rows.precharge(bank_number(group, bank)),
+        Command::Pre { group, bank, .. }
+        | Command::RdAuto { group, bank, .. }
+        | Command::WrAuto { group, bank, .. } => rows.precharge(bank_number(group, bank)),
         Command::PreAll { rank: _ } => close_all(rows, banks),
         Command::Rd { .. } | Command::Wr { .. } | Command::Refresh { .. } => {}
     }
@@ -131,6 +129,7 @@ fn issue_command(
 )
     requires of_config { legality.old.bus.config ≡ config.now }
     requires legal { broken_now legality.old.bus command ≡ None }
+    requires ranked { rank_of command ≡ 0 }
     requires agrees { AgreesWith config.now legality.old.bus.trace rows.old }
     requires ready { IsReadyFor legality.old.spare rows.old command }
     requires due { is_refresh command ≡ true → 1 ≤ debt_of debt.old }
@@ -159,6 +158,7 @@ pub(crate) fn issue(
 )
     requires of_config { legality.old.bus.config ≡ config.now }
     requires legal { IfSome command (λ c. broken_now legality.old.bus c ≡ None) }
+    requires ranked { IfSome command (λ c. rank_of c ≡ 0) }
     requires agrees { AgreesWith config.now legality.old.bus.trace rows.old }
     requires ready { IfSome command (IsReadyFor legality.old.spare rows.old) }
     requires due { IfSome command (λ c. is_refresh c ≡ true → 1 ≤ debt_of debt.old) }

@@ -1,5 +1,5 @@
 -- Lemmas on legal traces that grow, and on what may be issued.
-use Rattle.std.proofs.Common.{◌≡◌, ℕ, zero, suc, ◌+◌, ◌<◌, ◌≤◌, Bool, true, false, ◌&&◌, not, eqb, ltb, leb, List, [], ◌∷◌, ◌++◌, Option, Some, None, length, take, refl, sym, ap, ◌∙◌, inl, inr, arith}
+use Rattle.std.proofs.Common.{◌≡◌, ℕ, zero, suc, ◌+◌, ◌<◌, Bool, true, false, ◌&&◌, not, eqb, ltb, leb, List, [], ◌∷◌, ◌++◌, Option, Some, None, length, take, refl, sym, ap, ◌∙◌, inl, inr, arith}
 use Rattle.std.specs.List.{slice_get}
 use Rattle.std.proofs.lemmas.Bool.{and_parts, and_from, not-false, ltb-true, lt-ltb, and_right, cases_order, false≢true}
 use Rattle.std.proofs.lemmas.List.{take-append-le, take_at, length_push}
@@ -28,6 +28,10 @@ kept_later c start end r history e kept = kept
 pub not_at_end : (c : Config) (start end : ℕ) (entries : List Entry) (r : Rule) → is_on_commands r ≡ true → breaks_at_end c start end entries r ≡ false
 not_at_end c start end entries rule.RefLate on_commands = absurd (false≢true on_commands)
 not_at_end c start end entries r on_commands = refl
+
+-- the empty trace is legal
+pub IsLegal-empty : (c : Config) (start end : ℕ) → IsLegal c start end []
+IsLegal-empty c start end place r on_commands = and_right (eqb place 0) _ (not_at_end c start end [] r on_commands)
 
 where_later : (c : Config) (start end : ℕ) (entries : List Entry) (o : Option Entry) (place : ℕ) (r : Rule) → is_on_commands r ≡ true →
     breaks_where c start end entries o place r ≡ false → breaks_where c start (end + 1) entries o place r ≡ false

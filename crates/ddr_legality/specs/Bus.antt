@@ -5,6 +5,7 @@ use Rattle.ddr_timing.specs.declared.config.Config.{Config}
 use Rattle.ddr_trace.specs.declared.command.Command.{Command}
 use Rattle.ddr_trace.specs.declared.command.Entry.{Entry}
 use Rattle.ddr_trace.specs.declared.rule.Rule.{Rule}
+use Rattle.ddr_trace.specs.Banks.{bank_behind, open_row}
 use Rattle.ddr_trace.specs.Commands.{entry}
 use Rattle.ddr_trace.specs.Legality.{lowest_broken}
 
@@ -25,6 +26,10 @@ broken_now b c = lowest_broken b.config b.start (b.now + 1) b.trace (entry b.now
 -- the command is legal now
 abbrev pub is_legal_now : Bus → Command → Bool
 is_legal_now b c = is_none (broken_now b c)
+
+-- the open row of a bank now
+abbrev pub open_row_now : Bus → Command → Option ℕ
+open_row_now b bank = open_row b.config.timing b.now (bank_behind bank b.trace)
 
 -- the command is issued now
 abbrev pub recorded : Command → Bus → Bus

@@ -1,9 +1,11 @@
 -- The commands for which stands what is kept of them.
-use Rattle.std.specs.Prelude.{◌≡◌, ℕ, Bool, true, ◌&&◌, nat_lt, nat_le, List, Option, Some, None}
+use Rattle.std.specs.Prelude.{◌≡◌, ℕ, Bool, true, ◌&&◌, ◌==◌, nat_lt, nat_le, if◌then◌else◌, List, Option, Some, None}
 use Rattle.ddr_trace.specs.declared.command.Entry.{Entry}
 use Rattle.ddr_trace.specs.Rules.{last_cycle_below}
 use Rattle.ddr_rank.specs.Stands.{StandsFor}
+use Rattle.ddr_legality.specs.declared.columns.Columns.{Columns}
 use Rattle.ddr_legality.specs.declared.issued.Issued.{Issued}
+use Rattle.ddr_legality.specs.Columns.{KeepsColumns}
 
 -- the cycle is above the last one, if there is one
 abbrev pub is_later : Option ℕ → ℕ → Bool
@@ -14,7 +16,14 @@ is_later (Some last) cycle = nat_lt last cycle
 abbrev pub is_in_order : Option ℕ → ℕ → ℕ → ℕ → Bool
 is_in_order last start end cycle = is_later last cycle && nat_le start cycle && nat_lt cycle end
 
+-- the reads and writes of the rank that isn't this one
+abbrev pub other_columns : Issued → ℕ → Columns
+other_columns i rank = if rank == 0 then i.second_columns else i.first_columns
+
 -- these commands were issued, in this order, and no others
 pub record HasIssued (i : Issued) (history : List Entry) : Type 0 where
   pub last : (cycle : ℕ) → is_later i.last cycle ≡ last_cycle_below history cycle
-  pub rank : StandsFor i.rank history
+  pub first : StandsFor i.first 0 history
+  pub second : StandsFor i.second 1 history
+  pub first_columns : KeepsColumns 0 history i.first_columns
+  pub second_columns : KeepsColumns 1 history i.second_columns

@@ -1,4 +1,5 @@
 pub mod Bus
+pub mod Columns
 pub mod Issued
 pub mod Kept
 pub mod Refreshes

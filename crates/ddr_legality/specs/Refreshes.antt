@@ -21,7 +21,7 @@ abbrev pub breaks_gap : Timing → Option ℕ → ℕ → Bool
 breaks_gap t None cycle = false
 breaks_gap t (Some last) cycle = nat_lt (last + 9 * t.refi) cycle
 
--- the REFs of rank 0 in the history are counted, and the last one tells REF_GAP of the next
-pub record HasCounted (r : Refreshes) (history : List Entry) : Type 0 where
-  pub count : r.count ≡ refresh_count history (Refresh 0)
-  pub gap : (t : Timing) (e : Entry) → rank_of e.command ≡ 0 → breaks_ref_gap t history e ≡ (is_refresh e.command && breaks_gap t r.last e.cycle)
+-- the rank's REFs in the history are counted, and the last one tells REF_GAP of the next
+pub record HasCounted (rank : ℕ) (r : Refreshes) (history : List Entry) : Type 0 where
+  pub count : r.count ≡ refresh_count history (Refresh rank)
+  pub gap : (t : Timing) (e : Entry) → rank_of e.command ≡ rank → breaks_ref_gap t history e ≡ (is_refresh e.command && breaks_gap t r.last e.cycle)

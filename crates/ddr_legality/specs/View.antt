@@ -1,9 +1,8 @@
 -- What the fields of a legality stand for.
-use Rattle.std.specs.Prelude.{ℕ, ◌+◌, ◌-◌, ◌≤◌, vec_len, vec_capacity}
+use Rattle.std.specs.Prelude.{◌+◌, ◌-◌, ◌≤◌, vec_len, vec_capacity}
 use Rattle.ddr_timing.specs.declared.units.TheConstants.{CLOCK_STOP}
 use Rattle.ddr_trace.specs.Legality.{IsLegal}
 use Rattle.ddr_legality.specs.declared.legality.Legality.TheInside.{Inside}
-use Rattle.ddr_legality.specs.Bus.{Bus}
 use Rattle.ddr_legality.specs.Issued.{HasIssued}
 use Rattle.ddr_legality.specs.Kept.{Kept}
 

@@ -1,19 +1,20 @@
 //! The checker of a whole trace, in one pass.
 //!
 //! It finds what `ddr_trace`'s checker finds, which compares each entry with all those before it. Up to the first
-//! fault every rule is kept, so `issued` tells each rule on commands of the next entry, and `refreshes` the two on
-//! refresh.
+//! fault every rule is kept, so `issued` tells each rule on commands of the next entry, and the `refreshes` of its rank
+//! the two on refresh.
 ghost use Rattle.std.specs.Prelude.{◌≡◌, ℕ, ◌+◌, ◌<◌, ◌^◌, ◌↔◌, List, [], ◌∷◌, ◌++◌, None, IsTrue, IfNone, IfOk, IfSome, IsNone};
 ghost use Rattle.ddr_trace.specs.declared.command.Entry.{Entry};
 ghost use Rattle.ddr_trace.specs.Bus.{KeepsBus};
 ghost use Rattle.ddr_trace.specs.Rules.{breaks, ends_late, is_in};
+ghost use Rattle.ddr_trace.specs.Commands.{rank_of};
 ghost use Rattle.ddr_trace.specs.Legality.{IsFirstFault, IsLegal, IsRefreshed, lowest_rule};
 
-use crate::issued::Issued;
+use crate::issued::{Issued, rank_of};
 use crate::refreshes::Refreshes;
 use ddr_timing::config::Config;
 use ddr_trace::checker::Fault;
-use ddr_trace::command::Entry;
+use ddr_trace::command::{Command, Entry};
 use ddr_trace::rule::Rule;
 use std::alloc::{AllocError, Global};
 
@@ -53,11 +54,14 @@ pub fn first_fault(
 #[derive(Drop)]
 struct SoFar {
     issued: Issued,
-    refreshes: Refreshes,
+    /// The REFs of rank 0.
+    first: Refreshes,
+    /// The REFs of rank 1.
+    second: Refreshes,
 }
 
 impl SoFar {
-    ghost use Rattle.ddr_legality.specs.SoFar.{HasPassed};
+    ghost use Rattle.ddr_legality.specs.SoFar.{HasPassed, refreshes_of};
 
     /// Before the first entry.
     fn open(alloc: Global, config: &Config, start: u64) -> Result<SoFar, AllocError>
@@ -67,7 +71,8 @@ impl SoFar {
     {
         Ok(SoFar {
             issued: Issued::open(alloc, config, start)?,
-            refreshes: Refreshes::NONE,
+            first: Refreshes::NONE,
+            second: Refreshes::NONE,
         })
     }
 
@@ -80,13 +85,25 @@ impl SoFar {
             return Some(rule);
         }
         let timing = &self.issued.config.timing;
-        self.refreshes.broken_by(entry, timing, self.issued.start)
+        self.refreshes_of(&entry.command)
+            .broken_by(entry, timing, self.issued.start)
+    }
+
+    /// The REFs of the command's rank.
+    fn refreshes_of(&self, command: &Command) -> &Refreshes
+        ensures { result.now ≡ refreshes_of self.now (rank_of command.now) }
+    {
+        match rank_of(command) {
+            0 => &self.first,
+            _ => &self.second,
+        }
     }
 
     /// Passes an entry that breaks no rule.
     fn pass(&mut self, entry: &Entry)
         requires placed { IsTrue (is_in self.old.issued.config.geometry entry.now.command) }
-        requires countable { self.old.refreshes.count + 1 < 2 ^ 64 }
+        requires first_countable { self.old.first.count + 1 < 2 ^ 64 }
+        requires second_countable { self.old.second.count + 1 < 2 ^ 64 }
         ensures config { self.new.issued.config ≡ self.old.issued.config }
         ensures start { self.new.issued.start ≡ self.old.issued.start }
         ensures passed { (history : List Entry) (end : ℕ) → HasPassed self.old history
@@ -94,15 +111,20 @@ impl SoFar {
             → HasPassed self.new (history ++ entry.now ∷ []) }
     {
         self.issued.issue(entry);
-        self.refreshes.note(entry);
+        match rank_of(&entry.command) {
+            0 => self.first.note(entry),
+            _ => self.second.note(entry),
+        }
     }
 
-    /// Whether the trace, if it ends here, ends after the deadline of the REF that it would need next.
+    /// Whether the trace, if it ends here, ends after the deadline of the REF that some rank would need next.
     fn ends_late(&self, end: u64) -> bool
         ensures { (history : List Entry) → HasPassed self.now history
-            → result ≡ ends_late self.now.issued.config.timing self.now.issued.start end history }
+            → result ≡ ends_late self.now.issued.config self.now.issued.start end history }
     {
-        let timing = &self.issued.config.timing;
-        self.refreshes.ends_late(timing, self.issued.start, end)
+        let config = &self.issued.config;
+        let start = self.issued.start;
+        self.first.ends_late(&config.timing, start, end)
+            || (config.geometry.ranks == 2 && self.second.ends_late(&config.timing, start, end))
     }
 }

@@ -1,29 +1,40 @@
 //! What is kept of the commands issued so far: as much as the next one is tested against, and no list of them.
-ghost use Rattle.std.specs.Prelude.{◌≡◌, ℕ, List, [], ◌∷◌, ◌++◌, None, IsTrue, IfOk};
+ghost use Rattle.std.specs.Prelude.{◌≡◌, ℕ, List, [], ◌∷◌, ◌++◌, IsTrue, IfOk};
+ghost use Rattle.ddr_trace.specs.declared.command.Command.TheVariants.{Pre};
 ghost use Rattle.ddr_trace.specs.declared.command.Entry.{Entry};
-ghost use Rattle.ddr_trace.specs.Rules.{IsOpenRow, is_in};
+ghost use Rattle.ddr_trace.specs.Banks.{bank_behind, open_row};
+ghost use Rattle.ddr_trace.specs.Commands.{rank_of};
+ghost use Rattle.ddr_trace.specs.Rules.{breaks_rtrs, is_in};
 ghost use Rattle.ddr_trace.specs.Legality.{lowest_broken};
+ghost use Rattle.ddr_rank.specs.Stands.{IsAfter, lowest_on_rank};
 
+use crate::columns::Columns;
 use ddr_rank::rank::Rank;
 use ddr_timing::config::Config;
-use ddr_trace::command::Entry;
+use ddr_trace::command::{Command, Entry};
 use ddr_trace::rule::Rule;
 use std::alloc::{AllocError, Global};
 
-/// The cycle of the last command, and the readiness of its rank. Contracts speak of every list of commands that was
-/// issued so.
+/// The cycle of the last command, and of each rank its readiness and its last read and write. Contracts speak of every
+/// list of commands that was issued so.
 #[derive(Drop)]
 pub(crate) struct Issued {
     pub config: Config,
     /// The first cycle in which a command may stand.
     pub start: u64,
     last: Option<u64>,
-    rank: Rank,
-    ghost same_config: { rank.config ≡ config },
+    /// Rank 0.
+    first: Rank,
+    /// Rank 1. Where the geometry has one rank no command is of this one.
+    second: Rank,
+    first_columns: Columns,
+    second_columns: Columns,
+    ghost first_config: { first.config ≡ config },
+    ghost second_config: { second.config ≡ config },
 }
 
 impl Issued {
-    ghost use Rattle.ddr_legality.specs.Issued.{HasIssued, is_in_order, is_later};
+    ghost use Rattle.ddr_legality.specs.Issued.{HasIssued, is_in_order, is_later, other_columns};
 
     /// Nothing was issued.
     pub fn open(alloc: Global, config: &Config, start: u64) -> Result<Issued, AllocError>
@@ -35,7 +46,10 @@ impl Issued {
             config: *config,
             start,
             last: None,
-            rank: Rank::open(alloc, config)?,
+            first: Rank::open(alloc, config)?,
+            second: Rank::open(alloc, config)?,
+            first_columns: Columns::NONE,
+            second_columns: Columns::NONE,
         })
     }
 
@@ -44,14 +58,19 @@ impl Issued {
         ensures { (history : List Entry) → HasIssued self.now history
             → result ≡ lowest_broken self.now.config self.now.start end history entry.now }
     {
-        let cycle = entry.cycle;
-        if !self.is_in_order(cycle, end) {
+        if !self.is_in_order(entry.cycle, end) {
             return Some(Rule::Order);
         }
         if !entry.command.is_in(&self.config.geometry) {
             return Some(Rule::Place);
         }
-        self.rank.fault(cycle, entry.command)
+        if let Some(rule) = self.fault(entry) {
+            return Some(rule);
+        }
+        if self.is_switched_too_soon(entry) {
+            return Some(Rule::Rtrs);
+        }
+        None
     }
 
     /// Whether the cycle is above that of the last command, not below the start, and below the end.
@@ -71,23 +90,84 @@ impl Issued {
         }
     }
 
-    /// Issues a command that breaks no rule.
+    /// The lowest rule on its rank that a command would break behind the last one.
+    fn fault(&self, entry: &Entry) -> Option<Rule>
+        requires { IsTrue (is_in self.now.config.geometry entry.now.command) }
+        ensures { (history : List Entry) → HasIssued self.now history → IsAfter history entry.now.cycle
+            → result ≡ lowest_on_rank self.now.config history entry.now }
+    {
+        match rank_of(&entry.command) {
+            0 => self.first.fault(entry.cycle, entry.command),
+            _ => self.second.fault(entry.cycle, entry.command),
+        }
+    }
+
+    /// Whether the entry is a read or a write too close behind one of the other rank.
+    fn is_switched_too_soon(&self, entry: &Entry) -> bool
+        requires { IsTrue (is_in self.now.config.geometry entry.now.command) }
+        ensures { (history : List Entry) → HasIssued self.now history
+            → result ≡ breaks_rtrs self.now.config.timing history entry.now }
+    {
+        self.other_columns(&entry.command)
+            .are_left_too_soon(entry, &self.config.timing)
+    }
+
+    /// The last read and write of the rank that the command isn't of.
+    fn other_columns(&self, command: &Command) -> &Columns
+        ensures { result.now ≡ other_columns self.now (rank_of command.now) }
+    {
+        match rank_of(command) {
+            0 => &self.second_columns,
+            _ => &self.first_columns,
+        }
+    }
+
+    /// Issues a command behind the last one, whether or not it breaks a rule on ranks.
     pub fn issue(&mut self, entry: &Entry)
         requires { IsTrue (is_in self.old.config.geometry entry.now.command) }
         ensures config { self.new.config ≡ self.old.config }
         ensures start { self.new.start ≡ self.old.start }
-        ensures issued { (history : List Entry) (end : ℕ) → HasIssued self.old history
-            → lowest_broken self.old.config self.old.start end history entry.now ≡ None
+        ensures issued { (history : List Entry) → HasIssued self.old history → IsAfter history entry.now.cycle
             → HasIssued self.new (history ++ entry.now ∷ []) }
     {
-        self.rank.issue(entry.cycle, entry.command);
         self.last = Some(entry.cycle);
+        match rank_of(&entry.command) {
+            0 => {
+                self.first.issue(entry.cycle, entry.command);
+                self.first_columns.note(entry);
+            }
+            _ => {
+                self.second.issue(entry.cycle, entry.command);
+                self.second_columns.note(entry);
+            }
+        }
     }
 
-    /// The open row of a bank, if it is active. `None` also outside the geometry.
-    pub fn open_row(&self, group: u32, bank: u32) -> Option<u32>
-        ensures { (history : List Entry) → HasIssued self.now history → IsOpenRow history group bank result }
+    /// The open row of a bank in this cycle, if it is active then. `None` also outside the geometry.
+    pub fn open_row(&self, cycle: u64, rank: u32, group: u32, bank: u32) -> Option<u32>
+        ensures { (history : List Entry) → HasIssued self.now history
+            → result ≡ open_row self.now.config.timing cycle (bank_behind (Pre rank group bank) history) }
     {
-        self.rank.open_row(group, bank)
+        match rank {
+            0 => self.first.open_row(cycle, group, bank),
+            1 => self.second.open_row(cycle, group, bank),
+            _ => None,
+        }
+    }
+}
+
+/// The rank that the command is of.
+pub(crate) fn rank_of(command: &Command) -> u32
+    ensures { result ≡ rank_of command.now }
+{
+    match *command {
+        Command::Act { rank, .. }
+        | Command::Rd { rank, .. }
+        | Command::Wr { rank, .. }
+        | Command::RdAuto { rank, .. }
+        | Command::WrAuto { rank, .. }
+        | Command::Pre { rank, .. }
+        | Command::PreAll { rank }
+        | Command::Refresh { rank } => rank,
     }
 }

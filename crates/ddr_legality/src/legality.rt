@@ -2,10 +2,10 @@
 ghost use Rattle.std.specs.Prelude.{◌≡◌, ◌+◌, ◌-◌, ◌<◌, ◌≤◌, ◌↔◌, [], ◌∷◌, ◌++◌, None, Some, IsOk, IfOk, OnErr, OnOk, MatchResult};
 ghost use Rattle.ddr_timing.specs.declared.units.TheConstants.{CLOCK_STOP};
 ghost use Rattle.ddr_trace.specs.Bus.{KeepsBus};
+ghost use Rattle.ddr_trace.specs.declared.command.Command.TheVariants.{Pre};
 ghost use Rattle.ddr_trace.specs.Commands.{entry};
 ghost use Rattle.ddr_trace.specs.Legality.{IsLegal};
-ghost use Rattle.ddr_trace.specs.Rules.{IsOpenRow};
-ghost use Rattle.ddr_legality.specs.Bus.{broken_now, opened, recorded, ticked};
+ghost use Rattle.ddr_legality.specs.Bus.{broken_now, open_row_now, opened, recorded, ticked};
 
 use crate::issued::Issued;
 use ddr_timing::config::Config;
@@ -118,11 +118,11 @@ impl Legality {
         self.now += 1;
     }
 
-    /// The open row of a bank, if it is active. `None` also outside the geometry.
-    pub fn open_row(&self, group: u32, bank: u32) -> Option<u32>
-        ensures { IsOpenRow self.entry.now.bus.trace group bank result }
+    /// The open row of a bank now, if it is active. `None` also outside the geometry.
+    pub fn open_row(&self, rank: u32, group: u32, bank: u32) -> Option<u32>
+        ensures { result ≡ open_row_now self.entry.now.bus (Pre rank group bank) }
     {
-        self.issued.open_row(group, bank)
+        self.issued.open_row(self.now, rank, group, bank)
     }
 
     /// The commands so far. They are legal, in a trace that ends behind this cycle, and no two of their bursts

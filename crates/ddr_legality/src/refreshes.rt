@@ -1,8 +1,9 @@
-//! The REFs of a trace so far, as much as the two rules on refresh ask of them.
-ghost use Rattle.std.specs.Prelude.{◌≡◌, ℕ, ◌+◌, ◌<◌, ◌^◌, List, [], ◌∷◌, ◌++◌};
+//! The REFs of a rank so far, as much as the two rules on refresh ask of them.
+ghost use Rattle.std.specs.Prelude.{◌≡◌, ℕ, ◌+◌, ◌*◌, ◌<◌, ◌^◌, nat_lt, List, [], ◌∷◌, ◌++◌};
+ghost use Rattle.ddr_trace.specs.declared.command.Command.TheVariants.{Refresh};
 ghost use Rattle.ddr_trace.specs.declared.command.Entry.{Entry};
 ghost use Rattle.ddr_trace.specs.Commands.{is_refresh, rank_of};
-ghost use Rattle.ddr_trace.specs.Rules.{ends_late};
+ghost use Rattle.ddr_trace.specs.Rules.{refresh_count};
 ghost use Rattle.ddr_legality.specs.Refreshes.{HasCounted, breaks_gap, refresh_broken};
 
 use ddr_timing::timing::Timing;
@@ -10,7 +11,7 @@ use ddr_trace::command::{Command, Entry};
 use ddr_trace::refresh::{is_gap_too_long, is_overdue};
 use ddr_trace::rule::Rule;
 
-/// How many REFs there were, and the cycle of the last one.
+/// How many REFs of a rank there were, and the cycle of the last one.
 #[derive(Clone, Copy)]
 pub(crate) struct Refreshes {
     count: usize,
@@ -24,9 +25,9 @@ impl Refreshes {
         last: None,
     };
 
-    /// The rule on refresh that an entry of rank 0 would break.
+    /// The rule on refresh that an entry of the rank would break.
     pub fn broken_by(&self, entry: &Entry, timing: &Timing, start: u64) -> Option<Rule>
-        ensures { (history : List Entry) → HasCounted self.now history → rank_of entry.now.command ≡ 0
+        ensures { (history : List Entry) → HasCounted (rank_of entry.now.command) self.now history
             → result ≡ refresh_broken timing.now start history entry.now }
     {
         if !is_refresh(entry) {
@@ -51,19 +52,19 @@ impl Refreshes {
         }
     }
 
-    /// Whether a trace that ends here, at `end`, ends after the deadline of the REF that it would need next.
+    /// Whether a trace that ends here, at `end`, ends after the deadline of the REF that the rank would need next.
     pub fn ends_late(&self, timing: &Timing, start: u64, end: u64) -> bool
-        ensures { (history : List Entry) → HasCounted self.now history
-            → result ≡ ends_late timing.now start end history }
+        ensures { (rank : ℕ) (history : List Entry) → HasCounted rank self.now history
+            → result ≡ nat_lt (start + (refresh_count history (Refresh rank) + 9) * timing.now.refi) end }
     {
         is_overdue(self.count, timing, start, end)
     }
 
-    /// Counts the entry, where it is a REF.
+    /// Counts an entry of the rank, where it is a REF.
     pub fn note(&mut self, entry: &Entry)
         requires { self.old.count + 1 < 2 ^ 64 }
-        ensures { (history : List Entry) → HasCounted self.old history → rank_of entry.now.command ≡ 0
-            → HasCounted self.new (history ++ entry.now ∷ []) }
+        ensures { (history : List Entry) → HasCounted (rank_of entry.now.command) self.old history
+            → HasCounted (rank_of entry.now.command) self.new (history ++ entry.now ∷ []) }
     {
         if is_refresh(entry) {
             self.count += 1;

@@ -10,22 +10,22 @@ use Rattle.ddr_timing.specs.declared.timing.Timing.{Timing}
 use Rattle.ddr_trace.specs.declared.command.Command.{Command}
 use Rattle.ddr_trace.specs.declared.command.Command.TheVariants.{Act}
 use Rattle.ddr_trace.specs.declared.command.Entry.{Entry}
-use Rattle.ddr_trace.specs.Commands.{is_activate}
+use Rattle.ddr_trace.specs.Commands.{entry, is_activate}
 use Rattle.ddr_trace.specs.Rules.{breaks_faw, some_earlier}
 use Rattle.ddr_trace.proofs.WindowLemmas.{no_faw}
 use Rattle.ddr_rank.specs.Latest.{is_within}
 use Rattle.ddr_rank.specs.Readiness.{Readiness, fourth_activate}
-use Rattle.ddr_rank.specs.Stands.{activates_of, entry, is_of_rank}
+use Rattle.ddr_rank.specs.Stands.{activates_of, is_of_rank}
 
-abbrev is_rank_act : Entry → Bool
-is_rank_act e = is_activate e.command && is_of_rank e.command
+abbrev is_rank_act : ℕ → Entry → Bool
+is_rank_act k e = is_activate e.command && is_of_rank k e.command
 
-count_is_length : (history : List Entry) → count_by is_rank_act history ≡ length (activates_of history)
-count_is_length [] = refl
-count_is_length (a ∷ history) =
-    sum_by-append (λ e. cond (is_rank_act e) 1 0) (a ∷ []) history ∙ by_kind (is_rank_act a) refl (count_is_length history)
+count_is_length : (k : ℕ) (history : List Entry) → count_by (is_rank_act k) history ≡ length (activates_of k history)
+count_is_length k [] = refl
+count_is_length k (a ∷ history) =
+    sum_by-append (λ e. cond (is_rank_act k e) 1 0) (a ∷ []) history ∙ by_kind (is_rank_act k a) refl (count_is_length k history)
   where
-    by_kind : (w : Bool) → is_rank_act a ≡ w → count_by is_rank_act history ≡ length (activates_of history) → (0 + cond (is_rank_act a) 1 0) + count_by is_rank_act history ≡ length (activates_of (a ∷ history))
+    by_kind : (w : Bool) → is_rank_act k a ≡ w → count_by (is_rank_act k) history ≡ length (activates_of k history) → (0 + cond (is_rank_act k a) 1 0) + count_by (is_rank_act k) history ≡ length (activates_of k (a ∷ history))
     by_kind true e rest = rw (e, rest) (omega arith)
     by_kind false e rest = rw (e, rest) (omega arith)
 
@@ -65,13 +65,13 @@ step_here n d y x xs = by_place (cases_lt (length xs) n) (cases_lt n (length xs)
         or_none false = refl
 
 -- so many ACTs stand between, and the distance is too short
-counted : (n d y : ℕ) (history : List Entry) → some_earlier (λ a between. is_activate a.command && true && is_of_rank a.command && (count_by is_rank_act between == n) && nat_lt y (a.cycle + d)) history ≡ is_within d y (from_back n (activates_of history))
-counted n d y [] = grind (arith, nat_tests)
-counted n d y (a ∷ history) =
-    rw (counted n d y history, count_is_length history) (by_kind (is_activate a.command) (is_of_rank a.command) refl refl)
+counted : (k n d y : ℕ) (history : List Entry) → some_earlier (λ a between. is_activate a.command && true && is_of_rank k a.command && (count_by (is_rank_act k) between == n) && nat_lt y (a.cycle + d)) history ≡ is_within d y (from_back n (activates_of k history))
+counted k n d y [] = grind (arith, nat_tests)
+counted k n d y (a ∷ history) =
+    rw (counted k n d y history, count_is_length k history) (by_kind (is_activate a.command) (is_of_rank k a.command) refl refl)
   where
-    by_kind : (x w : Bool) → is_activate a.command ≡ x → is_of_rank a.command ≡ w → ((x && true && w && (length (activates_of history) == n) && nat_lt y (a.cycle + d)) || is_within d y (from_back n (activates_of history))) ≡ is_within d y (from_back n (activates_of (a ∷ history)))
-    by_kind true true e f = rw (e, f) (step_here n d y a.cycle (activates_of history))
+    by_kind : (x w : Bool) → is_activate a.command ≡ x → is_of_rank k a.command ≡ w → ((x && true && w && (length (activates_of k history) == n) && nat_lt y (a.cycle + d)) || is_within d y (from_back n (activates_of k history))) ≡ is_within d y (from_back n (activates_of k (a ∷ history)))
+    by_kind true true e f = rw (e, f) (step_here n d y a.cycle (activates_of k history))
     by_kind true false e f = rw (e, f) refl
     by_kind false w e f = rw e refl
 
@@ -100,11 +100,11 @@ kept_fourth xs = by_size (cases_lt 3 (length xs))
         let b : nat_lt 3 (length xs) ≡ false = grind (arith, nat_tests) in
         rw (a, b) refl
 
-pub faw_told : (r : Readiness) (history : List Entry) (t : Timing) (cycle g b w : ℕ) → r.activates ≡ keep_last 4 (activates_of history) → is_within t.faw cycle (fourth_activate r) ≡ breaks_faw t history (entry cycle (Act 0 g b w))
-faw_told r history t cycle g b w kept =
+pub faw_told : (r : Readiness) (k : ℕ) (history : List Entry) (t : Timing) (cycle g b w : ℕ) → r.activates ≡ keep_last 4 (activates_of k history) → is_within t.faw cycle (fourth_activate r) ≡ breaks_faw t history (entry cycle (Act k g b w))
+faw_told r k history t cycle g b w kept =
     ap (λ (xs : List ℕ). is_within t.faw cycle (if length xs == 4 then slice_get xs 0 else None)) kept
-    ∙ ap (λ o. is_within t.faw cycle o) (kept_fourth (activates_of history))
-    ∙ sym (counted 3 t.faw cycle history)
+    ∙ ap (λ o. is_within t.faw cycle o) (kept_fourth (activates_of k history))
+    ∙ sym (counted k 3 t.faw cycle history)
 
 -- only an ACT breaks the rule
 pub faw_untold : (t : Timing) (history : List Entry) (cycle : ℕ) (c : Command) → is_activate c ≡ false → false ≡ breaks_faw t history (entry cycle c)

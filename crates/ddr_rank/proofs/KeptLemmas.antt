@@ -60,27 +60,27 @@ alone true true = refl
 alone true false = refl
 alone false r = refl
 
-pub other_groups_told : (r : Readiness) (history : List Entry) → StandsFor r history → (kind : Kind) (g : ℕ) → other_groups r kind g ≡ latest (λ a. is_kind kind a && is_other_group a (Pre 0 g 0)) history
-other_groups_told r history s kind g =
-    latest_among-latest (λ i. if i == g then None else last_of kind (group_at r i)) (λ i a. not (i == g) && (is_kind kind a && is_of_group i a)) history r.config.geometry.groups
-    (λ i within. unless (i == g) _ (λ a. is_kind kind a && is_of_group i a) history (last_told _ history _ (s.groups i within) kind))
+pub other_groups_told : (r : Readiness) (k : ℕ) (history : List Entry) → StandsFor r k history → (kind : Kind) (g : ℕ) → other_groups r kind g ≡ latest (λ a. is_kind kind a && is_other_group a (Pre k g 0)) history
+other_groups_told r k history s kind g =
+    latest_among-latest (λ i. if i == g then None else last_of kind (group_at r i)) (λ i a. not (i == g) && (is_kind kind a && is_of_group k i a)) history r.config.geometry.groups
+    (λ i within. unless (i == g) _ (λ a. is_kind kind a && is_of_group k i a) history (last_told _ history _ (s.groups i within) kind))
     ∙ latest-alike r.config.geometry _ _ history s.placed (λ a placed.
-    any_below-one (λ i. not (i == g) && (is_kind kind a && is_of_group i a)) r.config.geometry.groups (group_of a) (group_in r.config.geometry a placed) (λ i apart. rw (other_number i (group_of a) apart) (dead (not (i == g)) (is_kind kind a) (rank_of a == 0)))
-    ∙ rw (same_number (group_of a)) (moved (not (group_of a == g)) (is_kind kind a) (rank_of a == 0)))
+    any_below-one (λ i. not (i == g) && (is_kind kind a && is_of_group k i a)) r.config.geometry.groups (group_of a) (group_in r.config.geometry a placed) (λ i apart. rw (other_number i (group_of a) apart) (dead (not (i == g)) (is_kind kind a) (rank_of a == k)))
+    ∙ rw (same_number (group_of a)) (moved (not (group_of a == g)) (is_kind kind a) (rank_of a == k)))
 
-pub all_groups_told : (r : Readiness) (history : List Entry) → StandsFor r history → (kind : Kind) → all_groups r kind ≡ latest (λ a. is_kind kind a && is_of_rank a) history
-all_groups_told r history s kind =
-    latest_among-latest (λ i. last_of kind (group_at r i)) (λ i a. is_kind kind a && is_of_group i a) history r.config.geometry.groups
+pub all_groups_told : (r : Readiness) (k : ℕ) (history : List Entry) → StandsFor r k history → (kind : Kind) → all_groups r kind ≡ latest (λ a. is_kind kind a && is_of_rank k a) history
+all_groups_told r k history s kind =
+    latest_among-latest (λ i. last_of kind (group_at r i)) (λ i a. is_kind kind a && is_of_group k i a) history r.config.geometry.groups
     (λ i within. last_told _ history _ (s.groups i within) kind)
     ∙ latest-alike r.config.geometry _ _ history s.placed (λ a placed.
-    any_below-one (λ i. is_kind kind a && is_of_group i a) r.config.geometry.groups (group_of a) (group_in r.config.geometry a placed) (λ i apart. rw (other_number i (group_of a) apart) (dead_all (is_kind kind a) (rank_of a == 0)))
-    ∙ rw (same_number (group_of a)) (alone (is_kind kind a) (rank_of a == 0)))
+    any_below-one (λ i. is_kind kind a && is_of_group k i a) r.config.geometry.groups (group_of a) (group_in r.config.geometry a placed) (λ i apart. rw (other_number i (group_of a) apart) (dead_all (is_kind kind a) (rank_of a == k)))
+    ∙ rw (same_number (group_of a)) (alone (is_kind kind a) (rank_of a == k)))
 
 -- an ACT is of one bank
-one_bank : (g b n : ℕ) (a : Command) → bank_of a < n → any_below (λ i. not (i == b) && (is_activate a && is_of_bank g i a)) n ≡ (is_activate a && is_other_bank a (Pre 0 g b))
-one_bank g b n (Act k g' b' w) within =
-    any_below-one (λ i. not (i == b) && (is_activate (Act k g' b' w) && is_of_bank g i (Act k g' b' w))) n b' within (λ i apart. rw (other_number i b' apart) (dead (not (i == b)) (k == 0) (g' == g)))
-    ∙ rw (same_number b') (moved_bank (not (b' == b)) (k == 0) (g' == g))
+one_bank : (k g b n : ℕ) (a : Command) → bank_of a < n → any_below (λ i. not (i == b) && (is_activate a && is_of_bank k g i a)) n ≡ (is_activate a && is_other_bank a (Pre k g b))
+one_bank k g b n (Act k' g' b' w) within =
+    any_below-one (λ i. not (i == b) && (is_activate (Act k' g' b' w) && is_of_bank k g i (Act k' g' b' w))) n b' within (λ i apart. rw (other_number i b' apart) (dead (not (i == b)) (k' == k) (g' == g)))
+    ∙ rw (same_number b') (moved_bank (not (b' == b)) (k' == k) (g' == g))
   where
     moved_bank : (n r g : Bool) → (n && (r && (g && true))) ≡ ((r && g) && n)
     moved_bank true true true = refl
@@ -89,44 +89,44 @@ one_bank g b n (Act k g' b' w) within =
     moved_bank false true true = refl
     moved_bank false true false = refl
     moved_bank false false g = refl
-one_bank g b n _ within = any_below-none _ n (λ i _. none (not (i == b)))
+one_bank k g b n _ within = any_below-none _ n (λ i _. none (not (i == b)))
   where
     none : (x : Bool) → (x && false) ≡ false
     none true = refl
     none false = refl
 
-pub other_banks_told : (r : Readiness) (history : List Entry) → StandsFor r history → (g b : ℕ) → g < r.config.geometry.groups → other_banks r g b ≡ latest (λ a. is_activate a && is_other_bank a (Pre 0 g b)) history
-other_banks_told r history s g b group =
-    latest_among-latest (λ i. if i == b then None else (bank_at r g i).last.activate) (λ i a. not (i == b) && (is_activate a && is_of_bank g i a)) history GROUP_BANKS
-    (λ i within. unless (i == b) _ (λ a. is_activate a && is_of_bank g i a) history (s.banks g i group within).last.activate)
-    ∙ latest-alike r.config.geometry _ _ history s.placed (λ a placed. one_bank g b GROUP_BANKS a (bank_in r.config.geometry a placed))
+pub other_banks_told : (r : Readiness) (k : ℕ) (history : List Entry) → StandsFor r k history → (g b : ℕ) → g < r.config.geometry.groups → other_banks r g b ≡ latest (λ a. is_activate a && is_other_bank a (Pre k g b)) history
+other_banks_told r k history s g b group =
+    latest_among-latest (λ i. if i == b then None else (bank_at r g i).last.activate) (λ i a. not (i == b) && (is_activate a && is_of_bank k g i a)) history GROUP_BANKS
+    (λ i within. unless (i == b) _ (λ a. is_activate a && is_of_bank k g i a) history (s.banks g i group within).last.activate)
+    ∙ latest-alike r.config.geometry _ _ history s.placed (λ a placed. one_bank k g b GROUP_BANKS a (bank_in r.config.geometry a placed))
 
 -- a precharge is of one bank or of all
-some_bank : (n : ℕ) (a : Command) → group_of a * GROUP_BANKS + bank_of a < n → bank_of a < GROUP_BANKS → any_below (λ i. is_precharge a && is_of_bank (i / 4) (i % 4) a) n ≡ (is_precharge a && is_of_rank a)
-some_bank n (Pre k g b) within bank =
+some_bank : (k n : ℕ) (a : Command) → group_of a * GROUP_BANKS + bank_of a < n → bank_of a < GROUP_BANKS → any_below (λ i. is_precharge a && is_of_bank k (i / 4) (i % 4) a) n ≡ (is_precharge a && is_of_rank k a)
+some_bank k n (Pre k' g b) within bank =
     let group_is : (g * 4 + b) / 4 ≡ g = omega arith in
     let bank_is : (g * 4 + b) % 4 ≡ b = omega arith in
-    by_rank (k == 0) refl
+    by_rank (k' == k) refl
   where
-    by_rank : (w : Bool) → (k == 0) ≡ w → any_below (λ i. is_of_bank (i / 4) (i % 4) (Pre k g b)) n ≡ w
+    by_rank : (w : Bool) → (k' == k) ≡ w → any_below (λ i. is_of_bank k (i / 4) (i % 4) (Pre k' g b)) n ≡ w
     by_rank true e =
         let group_is : (g * 4 + b) / 4 ≡ g = omega arith in
         let bank_is : (g * 4 + b) % 4 ≡ b = omega arith in
         any_below-some _ n (g * 4 + b) within (rw (group_is, bank_is, e, same_number g, same_number b) refl)
     by_rank false e = any_below-none _ n (λ i _. rw e refl)
-some_bank n (PreAll k) within bank = by_rank (k == 0) refl
+some_bank k n (PreAll k') within bank = by_rank (k' == k) refl
   where
-    by_rank : (w : Bool) → (k == 0) ≡ w → any_below (λ i. is_of_bank (i / 4) (i % 4) (PreAll k)) n ≡ w
+    by_rank : (w : Bool) → (k' == k) ≡ w → any_below (λ i. is_of_bank k (i / 4) (i % 4) (PreAll k')) n ≡ w
     by_rank true e = any_below-some _ n 0 within (rw e refl)
     by_rank false e = any_below-none _ n (λ i _. rw e refl)
-some_bank n _ within bank = any_below-none _ n (λ i _. refl)
+some_bank k n _ within bank = any_below-none _ n (λ i _. refl)
 
-pub any_precharge_told : (r : Readiness) (history : List Entry) → StandsFor r history → any_precharge r ≡ latest (λ a. is_precharge a && is_of_rank a) history
-any_precharge_told r history s =
-    latest_among-latest _ (λ i a. is_precharge a && is_of_bank (i / 4) (i % 4) a) history (length r.banks) kept
-    ∙ latest-alike r.config.geometry _ _ history s.placed (λ a placed. some_bank (length r.banks) a (place a placed) (bank_in r.config.geometry a placed))
+pub any_precharge_told : (r : Readiness) (k : ℕ) (history : List Entry) → StandsFor r k history → any_precharge r ≡ latest (λ a. is_precharge a && is_of_rank k a) history
+any_precharge_told r k history s =
+    latest_among-latest _ (λ i a. is_precharge a && is_of_bank k (i / 4) (i % 4) a) history (length r.banks) kept
+    ∙ latest-alike r.config.geometry _ _ history s.placed (λ a placed. some_bank k (length r.banks) a (place a placed) (bank_in r.config.geometry a placed))
   where
-    kept : (i : ℕ) → i < length r.banks → (slice_index_or r.banks i record { row = None; precharge = None; last = record { activate = None; read = None; write = None } }).precharge ≡ latest (λ a. is_precharge a && is_of_bank (i / 4) (i % 4) a) history
+    kept : (i : ℕ) → i < length r.banks → (slice_index_or r.banks i record { opened = None; precharge = None; last = record { activate = None; read = None; write = None } }).precharge ≡ latest (λ a. is_precharge a && is_of_bank k (i / 4) (i % 4) a) history
     kept i within =
         let place : i / 4 * 4 + i % 4 ≡ i = omega arith in
         let group : i / 4 < r.config.geometry.groups = omega (arith, s.whole.banks) in

@@ -9,7 +9,7 @@ use Rattle.ddr_trace.specs.declared.command.Command.{Command}
 use Rattle.ddr_trace.specs.declared.command.Entry.{Entry}
 use Rattle.ddr_trace.specs.Rules.{Spacing, breaks_spacing, is_in, speaks_of}
 use Rattle.ddr_rank.specs.Latest.{is_within, later, latest, latest_among}
-use Rattle.ddr_rank.specs.Stands.{entry}
+use Rattle.ddr_trace.specs.Commands.{entry}
 
 later_none : (a : Option ℕ) → later a None ≡ a
 later_none None = refl

@@ -1,88 +1,88 @@
 -- What is kept after one more command stands for the history with that command.
-use Rattle.std.proofs.Common.{◌≡◌, ℕ, ◌+◌, ◌*◌, ◌<◌, Bool, true, false, ◌&&◌, ◌==◌, if◌then◌else◌, List, [], ◌∷◌, ◌++◌, length, map, filter, Option, Some, None, refl, sym, ap, arith, ◌∙◌}
+use Rattle.std.proofs.Common.{◌≡◌, ℕ, zero, suc, ◌+◌, ◌*◌, ◌<◌, Bool, true, false, ◌&&◌, ◌==◌, if◌then◌else◌, List, [], ◌∷◌, ◌++◌, length, map, filter, Option, Some, None, slice_index_or, replicate, refl, sym, ap, arith, ◌∙◌}
 use Rattle.std.specs.List.{AllByRecursion}
 use Rattle.std.proofs.lemmas.Bool.{ltb-true}
 use Rattle.std.proofs.lemmas.Bool.Decides.{nat_tests}
-use Rattle.std.proofs.lemmas.List.{get_or-map, length-map, map-append, append-nil}
+use Rattle.std.proofs.lemmas.List.{length-replicate, get_or-map, length-map, map-append, append-nil}
 use Rattle.std.proofs.lemmas.List.Elements.{filter-append}
 use Rattle.std.proofs.Math.ListN.{length-set}
 use Rattle.circular_buffer.specs.Buffer.{keep_last}
 use Rattle.ddr_timing.specs.declared.geometry.Geometry.{Geometry}
 use Rattle.ddr_timing.specs.declared.units.TheConstants.{GROUP_BANKS}
 use Rattle.ddr_trace.specs.declared.command.Command.{Command}
-use Rattle.ddr_trace.specs.declared.command.Command.TheVariants.{Act, Rd, Wr, Pre, PreAll, Refresh}
+use Rattle.ddr_trace.specs.declared.command.Command.TheVariants.{Act, Rd, Wr, RdAuto, WrAuto, Pre, PreAll, Refresh}
 use Rattle.ddr_trace.specs.declared.command.Entry.{Entry}
-use Rattle.ddr_trace.specs.Commands.{is_activate, is_precharge, is_read, is_refresh, is_write}
-use Rattle.ddr_trace.specs.Rules.{breaks_state, is_bank_active, is_in}
+use Rattle.ddr_trace.specs.Banks.{bank_behind, changed_by}
+use Rattle.ddr_trace.specs.Commands.{entry, is_activate, is_precharge, is_read, is_refresh, is_write, rank_of}
+use Rattle.ddr_trace.specs.Rules.{is_in}
+use Rattle.ddr_trace.proofs.BankLemmas.{bank_behind-append}
 use Rattle.ddr_trace.proofs.WindowLemmas.{last_cycle_below-append}
 use Rattle.ddr_rank.proofs.FawLemmas.{keep_last-more}
 use Rattle.ddr_rank.proofs.LatestLemmas.{latest-append}
-use Rattle.ddr_rank.proofs.OpenLemmas.{open_after, row_after}
-use Rattle.ddr_rank.proofs.PlaceLemmas.{bank_in, bank_written, group_in, group_written, rank_in}
+use Rattle.ddr_rank.proofs.PlaceLemmas.{bank_in, bank_written, group_in, group_written, same_number}
 use Rattle.ddr_rank.specs.declared.bank.Bank.{Bank}
-use Rattle.ddr_rank.specs.declared.last.Kind.TheVariants.{Activate, Read, Write}
 use Rattle.ddr_rank.specs.declared.last.Last.{Last}
 use Rattle.ddr_rank.specs.Latest.{latest}
-use Rattle.ddr_rank.specs.Noted.{activated, noted, precharged, with_last}
+use Rattle.ddr_rank.specs.Noted.{bank_noted, last_noted, noted, noted_at, noted_by}
 use Rattle.ddr_rank.specs.Readiness.{IsWhole, Readiness, bank_at, group_at, idle, never}
-use Rattle.ddr_rank.specs.Stands.{IsAfter, KeepsBank, KeepsLast, StandsFor, activates_of, entry, is_of_bank, is_of_group, is_of_rank}
-
--- what is kept of a place, after one more command
-abbrev time_after : Bool → ℕ → Option ℕ → Option ℕ
-time_after b cycle o = if b then Some cycle else o
-
-abbrev last_after : (Command → Bool) → Command → ℕ → Last → Last
-last_after place c cycle last = record {
-  activate = time_after (is_activate c && place c) cycle last.activate;
-  read = time_after (is_read c && place c) cycle last.read;
-  write = time_after (is_write c && place c) cycle last.write;
-}
-
-abbrev bank_after : ℕ → ℕ → Command → ℕ → Bank → Bank
-bank_after g b c cycle bank = record {
-  row = row_after g b c bank.row;
-  precharge = time_after (is_precharge c && is_of_bank g b c) cycle bank.precharge;
-  last = last_after (is_of_bank g b) c cycle bank.last;
-}
+use Rattle.ddr_rank.specs.Stands.{IsAfter, KeepsBank, KeepsLast, StandsFor, activates_of, is_of_bank, is_of_group, is_of_rank}
 
 abbrev AllBelow : ℕ → List Entry → Type 0
 AllBelow cycle history = AllByRecursion (λ e. e.cycle < cycle) history
 
-time_step : (p : Command → Bool) (history : List Entry) (cycle : ℕ) (c : Command) (o : Option ℕ) → AllBelow cycle history → o ≡ latest p history → time_after (p c) cycle o ≡ latest p (history ++ entry cycle c ∷ [])
-time_step p history cycle c o below kept =
-    ap (λ t. time_after (p c) cycle t) kept ∙ sym (latest-append p history (entry cycle c) below)
+and_true : (a : Bool) → (a && true) ≡ a
+and_true true = refl
+and_true false = refl
 
-last_step : (place : Command → Bool) (history : List Entry) (cycle : ℕ) (c : Command) (last : Last) → AllBelow cycle history → KeepsLast place history last → KeepsLast place (history ++ entry cycle c ∷ []) (last_after place c cycle last)
-last_step place history cycle c last below kept = record {
-  activate = time_step (λ a. is_activate a && place a) history cycle c last.activate below kept.activate;
-  read = time_step (λ a. is_read a && place a) history cycle c last.read below kept.read;
-  write = time_step (λ a. is_write a && place a) history cycle c last.write below kept.write;
+and_false : (a : Bool) → (a && false) ≡ false
+and_false true = refl
+and_false false = refl
+
+-- the last command of a kind at a place, after one more command: here, or away from the place
+time_step : (p : Command → Bool) (history : List Entry) (e : Entry) (o : Option ℕ) → AllBelow e.cycle history → o ≡ latest p history → (if p e.command then Some e.cycle else o) ≡ latest p (history ++ e ∷ [])
+time_step p history e o below kept =
+    ap (λ t. if p e.command then Some e.cycle else t) kept ∙ sym (latest-append p history e below)
+
+here_step : (kind place : Command → Bool) (history : List Entry) (e : Entry) (o : Option ℕ) → AllBelow e.cycle history → place e.command ≡ true → o ≡ latest (λ a. kind a && place a) history → (if kind e.command then Some e.cycle else o) ≡ latest (λ a. kind a && place a) (history ++ e ∷ [])
+here_step kind place history e o below here kept =
+    sym (ap (λ w. if w then Some e.cycle else o) (ap (λ w. kind e.command && w) here ∙ and_true (kind e.command)))
+    ∙ time_step (λ a. kind a && place a) history e o below kept
+
+away_step : (kind place : Command → Bool) (history : List Entry) (e : Entry) (o : Option ℕ) → AllBelow e.cycle history → place e.command ≡ false → o ≡ latest (λ a. kind a && place a) history → o ≡ latest (λ a. kind a && place a) (history ++ e ∷ [])
+away_step kind place history e o below away kept =
+    sym (ap (λ w. if w then Some e.cycle else o) (ap (λ w. kind e.command && w) away ∙ and_false (kind e.command)))
+    ∙ time_step (λ a. kind a && place a) history e o below kept
+
+last_step : (place : Command → Bool) (history : List Entry) (e : Entry) (last : Last) (w : Bool) → AllBelow e.cycle history → place e.command ≡ w → KeepsLast place history last → KeepsLast place (history ++ e ∷ []) (if w then last_noted e last else last)
+last_step place history e last true below here kept = record {
+  activate = here_step is_activate place history e last.activate below here kept.activate;
+  read = here_step is_read place history e last.read below here kept.read;
+  write = here_step is_write place history e last.write below here kept.write;
+}
+last_step place history e last false below away kept = record {
+  activate = away_step is_activate place history e last.activate below away kept.activate;
+  read = away_step is_read place history e last.read below away kept.read;
+  write = away_step is_write place history e last.write below away kept.write;
 }
 
-bank_step : (g b : ℕ) (history : List Entry) (cycle : ℕ) (c : Command) (bank : Bank) → AllBelow cycle history → ((is_activate c && is_of_bank g b c) ≡ true → is_bank_active history (Pre 0 g b) ≡ false) → KeepsBank g b history bank → KeepsBank g b (history ++ entry cycle c ∷ []) (bank_after g b c cycle bank)
-bank_step g b history cycle c bank below idle_before kept = record {
-  row = open_after history cycle c g b bank.row kept.row idle_before;
-  precharge = time_step (λ a. is_precharge a && is_of_bank g b a) history cycle c bank.precharge below kept.precharge;
-  last = last_step (is_of_bank g b) history cycle c bank.last below kept.last;
+opened_step : (k g b : ℕ) (history : List Entry) (e : Entry) (w : Bool) → is_of_bank k g b e.command ≡ w → bank_behind (Pre k g b) (history ++ e ∷ []) ≡ (if w then changed_by e (bank_behind (Pre k g b) history) else bank_behind (Pre k g b) history)
+opened_step k g b history e w place =
+    bank_behind-append (Pre k g b) history e
+    ∙ ap (λ here. if here then changed_by e (bank_behind (Pre k g b) history) else bank_behind (Pre k g b) history) place
+
+bank_step : (k g b : ℕ) (history : List Entry) (e : Entry) (bank : Bank) (w : Bool) → AllBelow e.cycle history → is_of_bank k g b e.command ≡ w → KeepsBank k g b history bank → KeepsBank k g b (history ++ e ∷ []) (if w then bank_noted e bank else bank)
+bank_step k g b history e bank true below here kept = record {
+  opened = ap (changed_by e) kept.opened ∙ sym (opened_step k g b history e true here);
+  precharge = here_step is_precharge (is_of_bank k g b) history e bank.precharge below here kept.precharge;
+  last = last_step (is_of_bank k g b) history e bank.last true below here kept.last;
+}
+bank_step k g b history e bank false below away kept = record {
+  opened = kept.opened ∙ sym (opened_step k g b history e false away);
+  precharge = away_step is_precharge (is_of_bank k g b) history e bank.precharge below away kept.precharge;
+  last = last_step (is_of_bank k g b) history e bank.last false below away kept.last;
 }
 
--- a bank that a command is of, and one that it is not of
-act_bank : (x : Bool) (cycle w : ℕ) (mine old : Bank) → (x ≡ true → mine ≡ old) → (if x then activated cycle w mine else old) ≡ record { row = if x then Some w else old.row; precharge = old.precharge; last = record { activate = time_after x cycle old.last.activate; read = old.last.read; write = old.last.write } }
-act_bank true cycle w mine old same = rw (same refl) refl
-act_bank false cycle w mine old same = refl
-
-pre_bank : (x : Bool) (cycle : ℕ) (mine old : Bank) → (x ≡ true → mine ≡ old) → (if x then precharged cycle mine else old) ≡ record { row = if x then None else old.row; precharge = time_after x cycle old.precharge; last = old.last }
-pre_bank true cycle mine old same = rw (same refl) refl
-pre_bank false cycle mine old same = refl
-
-read_bank : (x : Bool) (cycle : ℕ) (mine old : Bank) → (x ≡ true → mine ≡ old) → (if x then record mine { last = with_last Read cycle mine.last } else old) ≡ record old { last = record old.last { read = time_after x cycle old.last.read } }
-read_bank true cycle mine old same = rw (same refl) refl
-read_bank false cycle mine old same = refl
-
-write_bank : (x : Bool) (cycle : ℕ) (mine old : Bank) → (x ≡ true → mine ≡ old) → (if x then record mine { last = with_last Write cycle mine.last } else old) ≡ record old { last = record old.last { write = time_after x cycle old.last.write } }
-write_bank true cycle mine old same = rw (same refl) refl
-write_bank false cycle mine old same = refl
-
+-- a command of one bank changes that one
 same_bank : (r : Readiness) (g b g' b' : ℕ) → (g == g' && b == b') ≡ true → bank_at r g b ≡ bank_at r g' b'
 same_bank r g b g' b' h =
     let group : g ≡ g' = grind (arith, nat_tests) in
@@ -92,125 +92,178 @@ same_bank r g b g' b' h =
 same_group : (r : Readiness) (g g' : ℕ) → (g == g') ≡ true → group_at r g ≡ group_at r g'
 same_group r g g' h = let group : g ≡ g' = grind (arith, nat_tests) in rw group refl
 
-bank_noted : (r : Readiness) (cycle : ℕ) (c : Command) → IsWhole r → is_in r.config.geometry c ≡ true → (g' b' : ℕ) → g' < r.config.geometry.groups → b' < GROUP_BANKS → bank_at (noted r cycle c) g' b' ≡ bank_after g' b' c cycle (bank_at r g' b')
-bank_noted r cycle (Act k g b w) whole placed g' b' group bank =
-    rw (rank_in r.config.geometry (Act k g b w) placed)
-    (bank_written r.banks r.config.geometry.groups g b g' b' _ idle whole.banks (group_in r.config.geometry (Act k g b w) placed) (bank_in r.config.geometry (Act k g b w) placed) bank
-    ∙ act_bank (g == g' && b == b') cycle w (bank_at r g b) (bank_at r g' b') (same_bank r g b g' b'))
-bank_noted r cycle (Rd k g b w l) whole placed g' b' group bank =
-    rw (rank_in r.config.geometry (Rd k g b w l) placed)
-    (bank_written r.banks r.config.geometry.groups g b g' b' _ idle whole.banks (group_in r.config.geometry (Rd k g b w l) placed) (bank_in r.config.geometry (Rd k g b w l) placed) bank
-    ∙ read_bank (g == g' && b == b') cycle (bank_at r g b) (bank_at r g' b') (same_bank r g b g' b'))
-bank_noted r cycle (Wr k g b w l) whole placed g' b' group bank =
-    rw (rank_in r.config.geometry (Wr k g b w l) placed)
-    (bank_written r.banks r.config.geometry.groups g b g' b' _ idle whole.banks (group_in r.config.geometry (Wr k g b w l) placed) (bank_in r.config.geometry (Wr k g b w l) placed) bank
-    ∙ write_bank (g == g' && b == b') cycle (bank_at r g b) (bank_at r g' b') (same_bank r g b g' b'))
-bank_noted r cycle (Pre k g b) whole placed g' b' group bank =
-    rw (rank_in r.config.geometry (Pre k g b) placed)
-    (bank_written r.banks r.config.geometry.groups g b g' b' _ idle whole.banks (group_in r.config.geometry (Pre k g b) placed) (bank_in r.config.geometry (Pre k g b) placed) bank
-    ∙ pre_bank (g == g' && b == b') cycle (bank_at r g b) (bank_at r g' b') (same_bank r g b g' b'))
-bank_noted r cycle (PreAll k) whole placed g' b' group bank =
+one_changed : {X : Type 0} (f : X → X) (w : Bool) (mine old : X) → (w ≡ true → mine ≡ old) → (if w then f mine else old) ≡ (if w then f old else old)
+one_changed f true mine old same = ap f (same refl)
+one_changed f false mine old same = refl
+
+bank_noted_at : (r : Readiness) (e : Entry) (k g b g' b' : ℕ) → IsWhole r → g < r.config.geometry.groups → b < GROUP_BANKS → b' < GROUP_BANKS
+    → bank_at (noted_at r e g b) g' b' ≡ (if k == k && (g == g' && b == b') then bank_noted e (bank_at r g' b') else bank_at r g' b')
+bank_noted_at r e k g b g' b' whole group bank bank' =
+    rw (same_number k)
+    (bank_written r.banks r.config.geometry.groups g b g' b' _ idle whole.banks group bank bank'
+    ∙ one_changed (bank_noted e) (g == g' && b == b') (bank_at r g b) (bank_at r g' b') (same_bank r g b g' b'))
+
+group_noted_at : (r : Readiness) (e : Entry) (k g b g' : ℕ) → IsWhole r → g < r.config.geometry.groups
+    → group_at (noted_at r e g b) g' ≡ (if k == k && g == g' then last_noted e (group_at r g') else group_at r g')
+group_noted_at r e k g b g' whole group =
+    rw (same_number k)
+    (group_written r.groups r.config.geometry.groups g g' _ never whole.groups group
+    ∙ one_changed (last_noted e) (g == g') (group_at r g) (group_at r g') (same_group r g g'))
+
+-- REF and PREA leave the last commands as they were, and REF the banks
+kept_last : (e : Entry) (last : Last) → is_activate e.command ≡ false → is_read e.command ≡ false → is_write e.command ≡ false → last_noted e last ≡ last
+kept_last e last act read write = rw (act, read, write) refl
+
+either_way : {X : Type 0} (w : Bool) (new old : X) → new ≡ old → old ≡ (if w then new else old)
+either_way true new old same = sym same
+either_way false new old same = refl
+
+refreshed_bank : (e : Entry) (k : ℕ) (bank : Bank) → e.command ≡ Refresh k → bank_noted e bank ≡ bank
+refreshed_bank e k bank is = rw is refl
+
+bank_after : (r : Readiness) (e : Entry) (c : Command) → e.command ≡ c → IsWhole r → is_in r.config.geometry c ≡ true → (g' b' : ℕ) → g' < r.config.geometry.groups → b' < GROUP_BANKS
+    → bank_at (noted_by r e c) g' b' ≡ (if is_of_bank (rank_of c) g' b' c then bank_noted e (bank_at r g' b') else bank_at r g' b')
+bank_after r e (Act k g b w) is whole placed g' b' group bank = bank_noted_at r e k g b g' b' whole (group_in r.config.geometry (Act k g b w) placed) (bank_in r.config.geometry (Act k g b w) placed) bank
+bank_after r e (Rd k g b w l) is whole placed g' b' group bank = bank_noted_at r e k g b g' b' whole (group_in r.config.geometry (Rd k g b w l) placed) (bank_in r.config.geometry (Rd k g b w l) placed) bank
+bank_after r e (Wr k g b w l) is whole placed g' b' group bank = bank_noted_at r e k g b g' b' whole (group_in r.config.geometry (Wr k g b w l) placed) (bank_in r.config.geometry (Wr k g b w l) placed) bank
+bank_after r e (RdAuto k g b w l) is whole placed g' b' group bank = bank_noted_at r e k g b g' b' whole (group_in r.config.geometry (RdAuto k g b w l) placed) (bank_in r.config.geometry (RdAuto k g b w l) placed) bank
+bank_after r e (WrAuto k g b w l) is whole placed g' b' group bank = bank_noted_at r e k g b g' b' whole (group_in r.config.geometry (WrAuto k g b w l) placed) (bank_in r.config.geometry (WrAuto k g b w l) placed) bank
+bank_after r e (Pre k g b) is whole placed g' b' group bank = bank_noted_at r e k g b g' b' whole (group_in r.config.geometry (Pre k g b) placed) (bank_in r.config.geometry (Pre k g b) placed) bank
+bank_after r e (PreAll k) is whole placed g' b' group bank =
     let within : g' * 4 + b' < length r.banks = omega (arith, whole.banks) in
-    rw (rank_in r.config.geometry (PreAll k) placed) (get_or-map (precharged cycle) r.banks (g' * 4 + b') idle idle within)
-bank_noted r cycle (Refresh k) whole placed g' b' group bank = refl
+    rw (same_number k) (get_or-map (bank_noted e) r.banks (g' * 4 + b') idle idle within)
+bank_after r e (Refresh k) is whole placed g' b' group bank = either_way _ _ _ (refreshed_bank e k (bank_at r g' b') is)
 
-group_noted : (r : Readiness) (cycle : ℕ) (c : Command) → IsWhole r → is_in r.config.geometry c ≡ true → (g' : ℕ) → group_at (noted r cycle c) g' ≡ last_after (is_of_group g') c cycle (group_at r g')
-group_noted r cycle (Act k g b w) whole placed g' =
-    rw (rank_in r.config.geometry (Act k g b w) placed)
-    (group_written r.groups r.config.geometry.groups g g' _ never whole.groups (group_in r.config.geometry (Act k g b w) placed)
-    ∙ act_group (g == g') (group_at r g) (group_at r g') (same_group r g g'))
+group_after : (r : Readiness) (e : Entry) (c : Command) → e.command ≡ c → IsWhole r → is_in r.config.geometry c ≡ true → (g' : ℕ)
+    → group_at (noted_by r e c) g' ≡ (if is_of_group (rank_of c) g' c then last_noted e (group_at r g') else group_at r g')
+group_after r e (Act k g b w) is whole placed g' = group_noted_at r e k g b g' whole (group_in r.config.geometry (Act k g b w) placed)
+group_after r e (Rd k g b w l) is whole placed g' = group_noted_at r e k g b g' whole (group_in r.config.geometry (Rd k g b w l) placed)
+group_after r e (Wr k g b w l) is whole placed g' = group_noted_at r e k g b g' whole (group_in r.config.geometry (Wr k g b w l) placed)
+group_after r e (RdAuto k g b w l) is whole placed g' = group_noted_at r e k g b g' whole (group_in r.config.geometry (RdAuto k g b w l) placed)
+group_after r e (WrAuto k g b w l) is whole placed g' = group_noted_at r e k g b g' whole (group_in r.config.geometry (WrAuto k g b w l) placed)
+group_after r e (Pre k g b) is whole placed g' = group_noted_at r e k g b g' whole (group_in r.config.geometry (Pre k g b) placed)
+group_after r e (PreAll k) is whole placed g' = either_way _ _ _ (kept_last e (group_at r g') (ap is_activate is) (ap is_read is) (ap is_write is))
+group_after r e (Refresh k) is whole placed g' = either_way _ _ _ (kept_last e (group_at r g') (ap is_activate is) (ap is_read is) (ap is_write is))
+
+one_bank_whole : (r : Readiness) (e : Entry) (g b : ℕ) → IsWhole r → IsWhole (noted_at r e g b)
+one_bank_whole r e g b whole = record { banks = length-set r.banks _ _ ∙ whole.banks; groups = length-set r.groups g _ ∙ whole.groups }
+
+whole_after : (r : Readiness) (e : Entry) (c : Command) → IsWhole r → IsWhole (noted_by r e c)
+whole_after r e (Act k g b w) whole = let same = one_bank_whole r e g b whole in record { banks = same.banks; groups = same.groups }
+whole_after r e (Rd k g b w l) whole = one_bank_whole r e g b whole
+whole_after r e (Wr k g b w l) whole = one_bank_whole r e g b whole
+whole_after r e (RdAuto k g b w l) whole = one_bank_whole r e g b whole
+whole_after r e (WrAuto k g b w l) whole = one_bank_whole r e g b whole
+whole_after r e (Pre k g b) whole = one_bank_whole r e g b whole
+whole_after r e (PreAll k) whole = record { banks = length-map r.banks (bank_noted e) ∙ whole.banks; groups = whole.groups }
+whole_after r e (Refresh k) whole = record { banks = whole.banks; groups = whole.groups }
+
+config_after : (r : Readiness) (e : Entry) (c : Command) → (noted_by r e c).config ≡ r.config
+config_after r e (Act k g b w) = refl
+config_after r e c = refl
+
+refresh_after : (r : Readiness) (e : Entry) (c : Command) → (noted_by r e c).refresh ≡ (if is_refresh c && is_of_rank (rank_of c) c then Some e.cycle else r.refresh)
+refresh_after r e (Refresh k) = rw (same_number k) refl
+refresh_after r e c = refl
+
+activates-append : (k : ℕ) (history : List Entry) (e : Entry) → activates_of k (history ++ e ∷ []) ≡ (if is_activate e.command && is_of_rank k e.command then activates_of k history ++ e.cycle ∷ [] else activates_of k history)
+activates-append k history e =
+    ap (λ (es : List Entry). map (λ e. e.cycle) es) (filter-append (λ e. is_activate e.command && is_of_rank k e.command) history (e ∷ []))
+    ∙ map-append (λ (e : Entry). e.cycle) (filter (λ e. is_activate e.command && is_of_rank k e.command) history) _
+    ∙ by_kind (is_activate e.command && is_of_rank k e.command)
   where
-    act_group : (x : Bool) (mine old : Last) → (x ≡ true → mine ≡ old) → (if x then with_last Activate cycle mine else old) ≡ record old { activate = time_after x cycle old.activate }
-    act_group true mine old same = rw (same refl) refl
-    act_group false mine old same = refl
-group_noted r cycle (Rd k g b w l) whole placed g' =
-    rw (rank_in r.config.geometry (Rd k g b w l) placed)
-    (group_written r.groups r.config.geometry.groups g g' _ never whole.groups (group_in r.config.geometry (Rd k g b w l) placed)
-    ∙ read_group (g == g') (group_at r g) (group_at r g') (same_group r g g'))
-  where
-    read_group : (x : Bool) (mine old : Last) → (x ≡ true → mine ≡ old) → (if x then with_last Read cycle mine else old) ≡ record old { read = time_after x cycle old.read }
-    read_group true mine old same = rw (same refl) refl
-    read_group false mine old same = refl
-group_noted r cycle (Wr k g b w l) whole placed g' =
-    rw (rank_in r.config.geometry (Wr k g b w l) placed)
-    (group_written r.groups r.config.geometry.groups g g' _ never whole.groups (group_in r.config.geometry (Wr k g b w l) placed)
-    ∙ write_group (g == g') (group_at r g) (group_at r g') (same_group r g g'))
-  where
-    write_group : (x : Bool) (mine old : Last) → (x ≡ true → mine ≡ old) → (if x then with_last Write cycle mine else old) ≡ record old { write = time_after x cycle old.write }
-    write_group true mine old same = rw (same refl) refl
-    write_group false mine old same = refl
-group_noted r cycle (Pre k g b) whole placed g' = refl
-group_noted r cycle (PreAll k) whole placed g' = refl
-group_noted r cycle (Refresh k) whole placed g' = refl
-
-whole_noted : (r : Readiness) (cycle : ℕ) (c : Command) → IsWhole r → IsWhole (noted r cycle c)
-whole_noted r cycle (Act k g b w) whole = record { banks = length-set r.banks _ _ ∙ whole.banks; groups = length-set r.groups g _ ∙ whole.groups }
-whole_noted r cycle (Rd k g b w l) whole = record { banks = length-set r.banks _ _ ∙ whole.banks; groups = length-set r.groups g _ ∙ whole.groups }
-whole_noted r cycle (Wr k g b w l) whole = record { banks = length-set r.banks _ _ ∙ whole.banks; groups = length-set r.groups g _ ∙ whole.groups }
-whole_noted r cycle (Pre k g b) whole = record { banks = length-set r.banks _ _ ∙ whole.banks; groups = whole.groups }
-whole_noted r cycle (PreAll k) whole = record { banks = length-map r.banks (precharged cycle) ∙ whole.banks; groups = whole.groups }
-whole_noted r cycle (Refresh k) whole = record { banks = whole.banks; groups = whole.groups }
-
-config_noted : (r : Readiness) (cycle : ℕ) (c : Command) → (noted r cycle c).config ≡ r.config
-config_noted r cycle (Act k g b w) = refl
-config_noted r cycle (Rd k g b w l) = refl
-config_noted r cycle (Wr k g b w l) = refl
-config_noted r cycle (Pre k g b) = refl
-config_noted r cycle (PreAll k) = refl
-config_noted r cycle (Refresh k) = refl
-
-refresh_noted : (r : Readiness) (cycle : ℕ) (c : Command) → is_in r.config.geometry c ≡ true → (noted r cycle c).refresh ≡ time_after (is_refresh c && is_of_rank c) cycle r.refresh
-refresh_noted r cycle (Refresh k) placed = rw (rank_in r.config.geometry (Refresh k) placed) refl
-refresh_noted r cycle _ placed = refl
-
-activates-append : (history : List Entry) (cycle : ℕ) (c : Command) → activates_of (history ++ entry cycle c ∷ []) ≡ (if is_activate c && is_of_rank c then activates_of history ++ cycle ∷ [] else activates_of history)
-activates-append history cycle c =
-    ap (λ (es : List Entry). map (λ e. e.cycle) es) (filter-append (λ e. is_activate e.command && is_of_rank e.command) history (entry cycle c ∷ []))
-    ∙ map-append (λ (e : Entry). e.cycle) (filter (λ e. is_activate e.command && is_of_rank e.command) history) _
-    ∙ by_kind (is_activate c && is_of_rank c)
-  where
-    by_kind : (x : Bool) → activates_of history ++ map (λ e. e.cycle) (if x then entry cycle c ∷ [] else []) ≡ (if x then activates_of history ++ cycle ∷ [] else activates_of history)
+    by_kind : (x : Bool) → activates_of k history ++ map (λ e. e.cycle) (if x then e ∷ [] else []) ≡ (if x then activates_of k history ++ e.cycle ∷ [] else activates_of k history)
     by_kind true = refl
-    by_kind false = append-nil (activates_of history)
+    by_kind false = append-nil (activates_of k history)
 
-activates_noted : (r : Readiness) (history : List Entry) (cycle : ℕ) (c : Command) → is_in r.config.geometry c ≡ true → r.activates ≡ keep_last 4 (activates_of history) → (noted r cycle c).activates ≡ keep_last 4 (activates_of (history ++ entry cycle c ∷ []))
-activates_noted r history cycle (Act k g b w) placed kept =
-    let here : (if k == 0 then activates_of history ++ cycle ∷ [] else activates_of history) ≡ activates_of history ++ cycle ∷ [] = rw (rank_in r.config.geometry (Act k g b w) placed) refl in
-    ap (λ (xs : List ℕ). keep_last 4 (xs ++ cycle ∷ [])) kept
-    ∙ keep_last-more (activates_of history) cycle
-    ∙ sym (ap (λ (xs : List ℕ). keep_last 4 xs) (activates-append history cycle (Act k g b w) ∙ here))
-activates_noted r history cycle c placed kept =
-    kept ∙ sym (ap (λ (xs : List ℕ). keep_last 4 xs) (activates-append history cycle c))
+more_activates : (r : Readiness) (k : ℕ) (history : List Entry) (e : Entry) (w : Bool) → (is_activate e.command && is_of_rank k e.command) ≡ w → r.activates ≡ keep_last 4 (activates_of k history)
+    → (if w then keep_last 4 (r.activates ++ e.cycle ∷ []) else r.activates) ≡ keep_last 4 (activates_of k (history ++ e ∷ []))
+more_activates r k history e true act kept =
+    ap (λ (xs : List ℕ). keep_last 4 (xs ++ e.cycle ∷ [])) kept
+    ∙ keep_last-more (activates_of k history) e.cycle
+    ∙ sym (ap (λ (xs : List ℕ). keep_last 4 xs) (activates-append k history e ∙ ap (λ w. if w then activates_of k history ++ e.cycle ∷ [] else activates_of k history) act))
+more_activates r k history e false other kept =
+    kept ∙ sym (ap (λ (xs : List ℕ). keep_last 4 xs) (activates-append k history e ∙ ap (λ w. if w then activates_of k history ++ e.cycle ∷ [] else activates_of k history) other))
 
-placed_more : (g : Geometry) (history : List Entry) (cycle : ℕ) (c : Command) → AllByRecursion (λ e. is_in g e.command ≡ true) history → is_in g c ≡ true → AllByRecursion (λ e. is_in g e.command ≡ true) (history ++ entry cycle c ∷ [])
-placed_more g [] cycle c placed here = (here, tt)
-placed_more g (a ∷ history) cycle c placed here = (placed.0, placed_more g history cycle c placed.1 here)
+activates_after : (r : Readiness) (e : Entry) (c : Command) → (noted_by r e c).activates ≡ (if is_activate c && is_of_rank (rank_of c) c then keep_last 4 (r.activates ++ e.cycle ∷ []) else r.activates)
+activates_after r e (Act k g b w) = rw (same_number k) refl
+activates_after r e c = refl
 
-below_more : (history : List Entry) (cycle n : ℕ) (c : Command) → AllBelow cycle history → cycle < n → AllBelow n (history ++ entry cycle c ∷ [])
-below_more [] cycle n c below here = (here, tt)
-below_more (a ∷ history) cycle n c below here =
-    (let first : a.cycle < cycle = below.0 in omega arith, below_more history cycle n c below.1 here)
+placed_more : (g : Geometry) (history : List Entry) (e : Entry) → AllByRecursion (λ e. is_in g e.command ≡ true) history → is_in g e.command ≡ true → AllByRecursion (λ e. is_in g e.command ≡ true) (history ++ e ∷ [])
+placed_more g [] e placed here = (here, tt)
+placed_more g (a ∷ history) e placed here = (placed.0, placed_more g history e placed.1 here)
 
--- an ACT finds its bank idle
-found_idle : (g : Geometry) (history : List Entry) (c : Command) → is_in g c ≡ true → breaks_state history c ≡ false → (group bank : ℕ) → (is_activate c && is_of_bank group bank c) ≡ true → is_bank_active history (Pre 0 group bank) ≡ false
-found_idle g history (Act k n b w) placed unbroken group bank h =
-    let rank : k ≡ 0 = rank_in g (Act k n b w) placed in
-    let same_group : group ≡ n = grind (arith, nat_tests) in
-    let same_bank : bank ≡ b = grind (arith, nat_tests) in
-    let idle_bank : is_bank_active history (Act 0 n b w) ≡ false = rw rank at unbroken in
-    rw (same_group, same_bank) idle_bank
-found_idle g history c placed unbroken group bank h = cc
+below_more : (history : List Entry) (e : Entry) (n : ℕ) → AllBelow e.cycle history → e.cycle < n → AllBelow n (history ++ e ∷ [])
+below_more [] e n below here = (here, tt)
+below_more (a ∷ history) e n below here =
+    (let first : a.cycle < e.cycle = below.0 in omega arith, below_more history e n below.1 here)
 
-pub stands_after : (r : Readiness) (history : List Entry) → StandsFor r history → (cycle : ℕ) (c : Command) → IsAfter history cycle → is_in r.config.geometry c ≡ true → breaks_state history c ≡ false → StandsFor (noted r cycle c) (history ++ entry cycle c ∷ [])
-stands_after r history s cycle c after placed unbroken =
-    let below = s.ordered cycle after in
-    let same = config_noted r cycle c in
+ordered_more : (history : List Entry) (e : Entry) → AllBelow e.cycle history → (n : ℕ) → IsAfter (history ++ e ∷ []) n → AllBelow n (history ++ e ∷ [])
+ordered_more history e below n later =
+    below_more history e n below (ltb-true e.cycle n (sym (last_cycle_below-append history e n) ∙ later))
+
+-- a command of the rank
+pub stands_after : (r : Readiness) (history : List Entry) (e : Entry) → StandsFor r (rank_of e.command) history → IsAfter history e.cycle → is_in r.config.geometry e.command ≡ true → StandsFor (noted r e) (rank_of e.command) (history ++ e ∷ [])
+stands_after r history e s after placed =
+    let k = rank_of e.command in
+    let c = e.command in
+    let below = s.ordered e.cycle after in
+    let same = config_after r e c in
     record {
-      placed = rw same (placed_more r.config.geometry history cycle c s.placed placed);
-      ordered = λ n later. below_more history cycle n c below (ltb-true cycle n (sym (last_cycle_below-append history (entry cycle c) n) ∙ later));
-      whole = whole_noted r cycle c s.whole;
-      banks = rw same (λ g b group bank. rw (bank_noted r cycle c s.whole placed g b group bank) (bank_step g b history cycle c (bank_at r g b) below (found_idle r.config.geometry history c placed unbroken g b) (s.banks g b group bank)));
-      groups = rw same (λ g group. rw (group_noted r cycle c s.whole placed g) (last_step (is_of_group g) history cycle c (group_at r g) below (s.groups g group)));
-      refresh = refresh_noted r cycle c placed ∙ time_step (λ a. is_refresh a && is_of_rank a) history cycle c r.refresh below s.refresh;
-      activates = activates_noted r history cycle c placed s.activates;
+      placed = rw same (placed_more r.config.geometry history e s.placed placed);
+      ordered = ordered_more history e below;
+      whole = whole_after r e c s.whole;
+      banks = rw same (λ g b group bank. rw (bank_after r e c refl s.whole placed g b group bank) (bank_step k g b history e (bank_at r g b) (is_of_bank k g b c) below refl (s.banks g b group bank)));
+      groups = rw same (λ g group. rw (group_after r e c refl s.whole placed g) (last_step (is_of_group k g) history e (group_at r g) (is_of_group k g c) below refl (s.groups g group)));
+      refresh = refresh_after r e c ∙ time_step (λ a. is_refresh a && is_of_rank k a) history e r.refresh below s.refresh;
+      activates = activates_after r e c ∙ more_activates r k history e (is_activate c && is_of_rank k c) refl s.activates;
     }
+
+-- a command of another rank
+pub stands_other : (r : Readiness) (rank : ℕ) (history : List Entry) → StandsFor r rank history → (cycle : ℕ) (c : Command) → IsAfter history cycle → is_in r.config.geometry c ≡ true → is_of_rank rank c ≡ false → StandsFor r rank (history ++ entry cycle c ∷ [])
+stands_other r rank history s cycle c after placed other =
+    let e = entry cycle c in
+    let below = s.ordered cycle after in
+    record {
+      placed = placed_more r.config.geometry history e s.placed placed;
+      ordered = ordered_more history e below;
+      whole = s.whole;
+      banks = λ g b group bank. bank_step rank g b history e (bank_at r g b) false below (rw other refl) (s.banks g b group bank);
+      groups = λ g group. last_step (is_of_group rank g) history e (group_at r g) false below (rw other refl) (s.groups g group);
+      refresh = away_step is_refresh (is_of_rank rank) history e r.refresh below other s.refresh;
+      activates = more_activates r rank history e false (rw other (and_false (is_activate c))) s.activates;
+    }
+
+-- a list of blanks
+all_blank : {X : Type 0} (n : ℕ) (xs : List X) (d : X) → xs ≡ replicate n d → (i : ℕ) → slice_index_or xs i d ≡ d
+all_blank n xs d is i = rw is (blank n i)
+  where
+    blank : (n i : ℕ) → slice_index_or (replicate n d) i d ≡ d
+    blank zero i = refl
+    blank (suc n) zero = refl
+    blank (suc n) (suc i) = blank n i
+
+-- before the first command
+pub stands_new : (r : Readiness) (rank : ℕ) → r.banks ≡ replicate (r.config.geometry.groups * GROUP_BANKS) idle → r.groups ≡ replicate r.config.geometry.groups never → r.refresh ≡ None → r.activates ≡ [] → StandsFor r rank []
+unfolding bank_behind
+stands_new r rank banks groups refresh activates = record {
+  placed = tt;
+  ordered = λ cycle after. tt;
+  whole = record { banks = ap length banks ∙ length-replicate _ idle; groups = ap length groups ∙ length-replicate _ never };
+  banks = λ g b group bank. new_bank g b;
+  groups = λ g group. new_last (λ c. is_of_group rank g c) (group_at r g) (all_blank _ r.groups never groups g);
+  refresh = refresh;
+  activates = ap (λ (xs : List ℕ). xs) activates;
+}
+  where
+    new_last : (place : Command → Bool) (last : Last) → last ≡ never → KeepsLast place [] last
+    new_last place last is = record { activate = rw is refl; read = rw is refl; write = rw is refl }
+
+    new_bank : (g b : ℕ) → KeepsBank rank g b [] (bank_at r g b)
+    new_bank g b =
+        let is = all_blank _ r.banks idle banks (g * GROUP_BANKS + b) in
+        record {
+          opened = ap (λ (k : Bank). k.opened) is;
+          precharge = ap (λ (k : Bank). k.precharge) is;
+          last = new_last (λ c. is_of_bank rank g b c) (bank_at r g b).last (ap (λ (k : Bank). k.last) is);
+        }

@@ -1,11 +1,11 @@
--- Commands in the geometry: their rank, group and bank, and where banks stand in a list.
+-- Commands in the geometry: their group and bank, and where banks stand in a list.
 use Rattle.std.proofs.Common.{◌≡◌, ◌≢◌, ℕ, ◌+◌, ◌*◌, ◌<◌, Bool, true, false, ◌&&◌, ◌==◌, if◌then◌else◌, List, length, slice_index_or, slice_set, get_or-set_same, get_or-set_other, refl, arith}
 use Rattle.std.proofs.lemmas.Bool.Decides.{nat_tests}
 use Rattle.ddr_timing.specs.declared.geometry.Geometry.{Geometry}
 use Rattle.ddr_timing.specs.declared.units.TheConstants.{GROUP_BANKS}
 use Rattle.ddr_trace.specs.declared.command.Command.{Command}
-use Rattle.ddr_trace.specs.declared.command.Command.TheVariants.{Act, Rd, Wr, Pre, PreAll, Refresh}
-use Rattle.ddr_trace.specs.Commands.{bank_of, group_of, rank_of}
+use Rattle.ddr_trace.specs.declared.command.Command.TheVariants.{Act, Rd, Wr, RdAuto, WrAuto, Pre, PreAll, Refresh}
+use Rattle.ddr_trace.specs.Commands.{bank_of, group_of}
 use Rattle.ddr_trace.specs.Rules.{is_in}
 
 pub same_number : (n : ℕ) → (n == n) ≡ true
@@ -14,18 +14,12 @@ same_number n = grind (arith, nat_tests)
 some_group : (g : Geometry) → 0 < g.groups
 some_group g = grind (arith, nat_tests, g.groups_are)
 
-pub rank_in : (g : Geometry) (c : Command) → is_in g c ≡ true → rank_of c ≡ 0
-rank_in g (Act k n b w) h = grind (arith, nat_tests)
-rank_in g (Rd k n b w l) h = grind (arith, nat_tests)
-rank_in g (Wr k n b w l) h = grind (arith, nat_tests)
-rank_in g (Pre k n b) h = grind (arith, nat_tests)
-rank_in g (PreAll k) h = grind (arith, nat_tests)
-rank_in g (Refresh k) h = grind (arith, nat_tests)
-
 pub group_in : (g : Geometry) (c : Command) → is_in g c ≡ true → group_of c < g.groups
 group_in g (Act k n b w) h = grind (arith, nat_tests)
 group_in g (Rd k n b w l) h = grind (arith, nat_tests)
 group_in g (Wr k n b w l) h = grind (arith, nat_tests)
+group_in g (RdAuto k n b w l) h = grind (arith, nat_tests)
+group_in g (WrAuto k n b w l) h = grind (arith, nat_tests)
 group_in g (Pre k n b) h = grind (arith, nat_tests)
 group_in g (PreAll k) h = some_group g
 group_in g (Refresh k) h = some_group g
@@ -34,6 +28,8 @@ pub bank_in : (g : Geometry) (c : Command) → is_in g c ≡ true → bank_of c 
 bank_in g (Act k n b w) h = grind (arith, nat_tests)
 bank_in g (Rd k n b w l) h = grind (arith, nat_tests)
 bank_in g (Wr k n b w l) h = grind (arith, nat_tests)
+bank_in g (RdAuto k n b w l) h = grind (arith, nat_tests)
+bank_in g (WrAuto k n b w l) h = grind (arith, nat_tests)
 bank_in g (Pre k n b) h = grind (arith, nat_tests)
 bank_in g (PreAll k) h = omega arith
 bank_in g (Refresh k) h = omega arith

@@ -1,11 +1,12 @@
 -- What a rank tells of each rule, by the command that would come next.
-use Rattle.std.specs.Prelude.{ℕ, ◌+◌, Bool, false, not, ◌==◌, if◌then◌else◌, length, Option, Some, None, is_some, is_none, slice_index_or}
+use Rattle.std.specs.Prelude.{ℕ, ◌+◌, Bool, false, not, ◌||◌, ◌==◌, if◌then◌else◌, length, Option, None, is_none, slice_index_or}
 use Rattle.std.specs.List.{list_any}
 use Rattle.ddr_timing.specs.declared.units.TheConstants.{BURST_CLOCKS, GROUP_BANKS}
 use Rattle.ddr_trace.specs.declared.command.Command.{Command}
-use Rattle.ddr_trace.specs.declared.command.Command.TheVariants.{Act, Rd, Wr, Pre, PreAll, Refresh}
+use Rattle.ddr_trace.specs.declared.command.Command.TheVariants.{Act, Rd, Wr, RdAuto, WrAuto, Pre, PreAll, Refresh}
 use Rattle.ddr_trace.specs.declared.rule.Rule.{Rule}
 use Rattle.ddr_trace.specs.declared.rule.Rule.TheVariants as rule
+use Rattle.ddr_trace.specs.Banks.{is_active, is_auto_within, is_row, open_row, ready_row}
 use Rattle.ddr_rank.specs.declared.last.Kind.{Kind}
 use Rattle.ddr_rank.specs.declared.last.Kind.TheVariants.{Activate, Read, Write}
 use Rattle.ddr_rank.specs.Latest.{is_within, latest_among}
@@ -27,15 +28,20 @@ all_groups r kind = latest_among (λ g. last_of kind (group_at r g)) r.config.ge
 abbrev pub any_precharge : Readiness → Option ℕ
 any_precharge r = latest_among (λ i. (slice_index_or r.banks i idle).precharge) (length r.banks)
 
--- the row is the bank's open one
-abbrev pub is_open : Option ℕ → ℕ → Bool
-is_open None row = false
-is_open (Some opened) row = row == opened
+-- some bank has an open row in the cycle
+abbrev pub any_active : Readiness → ℕ → Bool
+any_active r cycle = list_any (λ bank. is_active r.config.timing cycle bank.opened) r.banks
+
+-- RP isn't over since the start of some bank's auto-precharge
+abbrev pub any_auto_within : Readiness → ℕ → Bool
+any_auto_within r cycle = list_any (λ bank. is_auto_within r.config.timing r.config.timing.rp cycle bank.opened) r.banks
 
 abbrev pub activate_breaks : Readiness → Rule → ℕ → ℕ → ℕ → Bool
-activate_breaks r rule.State cycle group bank = is_some (bank_at r group bank).row
+activate_breaks r rule.State cycle group bank = is_active r.config.timing cycle (bank_at r group bank).opened
 activate_breaks r rule.Rc cycle group bank = is_within r.config.timing.rc cycle (bank_at r group bank).last.activate
-activate_breaks r rule.Rp cycle group bank = is_within r.config.timing.rp cycle (bank_at r group bank).precharge
+activate_breaks r rule.Rp cycle group bank =
+    is_within r.config.timing.rp cycle (bank_at r group bank).precharge
+    || is_auto_within r.config.timing r.config.timing.rp cycle (bank_at r group bank).opened
 activate_breaks r rule.RrdL cycle group bank = is_within r.config.timing.rrd_l cycle (other_banks r group bank)
 activate_breaks r rule.RrdS cycle group bank = is_within r.config.timing.rrd_s cycle (other_groups r Activate group)
 activate_breaks r rule.Faw cycle group bank = is_within r.config.timing.faw cycle (fourth_activate r)
@@ -43,8 +49,8 @@ activate_breaks r rule.Rfc cycle group bank = is_within r.config.timing.rfc cycl
 activate_breaks r _ cycle group bank = false
 
 abbrev pub read_breaks : Readiness → Rule → ℕ → ℕ → ℕ → ℕ → Bool
-read_breaks r rule.State cycle group bank row = is_none (bank_at r group bank).row
-read_breaks r rule.Row cycle group bank row = not (is_open (bank_at r group bank).row row)
+read_breaks r rule.State cycle group bank row = is_none (ready_row (bank_at r group bank).opened)
+read_breaks r rule.Row cycle group bank row = not (is_row (open_row r.config.timing cycle (bank_at r group bank).opened) row)
 read_breaks r rule.Rcd cycle group bank row = is_within r.config.timing.rcd cycle (bank_at r group bank).last.activate
 read_breaks r rule.CcdL cycle group bank row = is_within r.config.timing.ccd_l cycle (group_at r group).read
 read_breaks r rule.CcdS cycle group bank row = is_within r.config.timing.ccd_s cycle (other_groups r Read group)
@@ -54,8 +60,8 @@ read_breaks r rule.Rfc cycle group bank row = is_within r.config.timing.rfc cycl
 read_breaks r _ cycle group bank row = false
 
 abbrev pub write_breaks : Readiness → Rule → ℕ → ℕ → ℕ → ℕ → Bool
-write_breaks r rule.State cycle group bank row = is_none (bank_at r group bank).row
-write_breaks r rule.Row cycle group bank row = not (is_open (bank_at r group bank).row row)
+write_breaks r rule.State cycle group bank row = is_none (ready_row (bank_at r group bank).opened)
+write_breaks r rule.Row cycle group bank row = not (is_row (open_row r.config.timing cycle (bank_at r group bank).opened) row)
 write_breaks r rule.Rcd cycle group bank row = is_within r.config.timing.rcd cycle (bank_at r group bank).last.activate
 write_breaks r rule.CcdL cycle group bank row = is_within r.config.timing.ccd_l cycle (group_at r group).write
 write_breaks r rule.CcdS cycle group bank row = is_within r.config.timing.ccd_s cycle (other_groups r Write group)
@@ -78,8 +84,8 @@ precharge_all_breaks r rule.Rfc cycle = is_within r.config.timing.rfc cycle r.re
 precharge_all_breaks r _ cycle = false
 
 abbrev pub refresh_breaks : Readiness → Rule → ℕ → Bool
-refresh_breaks r rule.State cycle = list_any (λ bank. is_some bank.row) r.banks
-refresh_breaks r rule.RpRef cycle = is_within r.config.timing.rp cycle (any_precharge r)
+refresh_breaks r rule.State cycle = any_active r cycle
+refresh_breaks r rule.RpRef cycle = is_within r.config.timing.rp cycle (any_precharge r) || any_auto_within r cycle
 refresh_breaks r rule.Rfc cycle = is_within r.config.timing.rfc cycle r.refresh
 refresh_breaks r _ cycle = false
 
@@ -88,6 +94,8 @@ abbrev pub breaks_now : Readiness → Rule → ℕ → Command → Bool
 breaks_now r q cycle (Act rank group bank row) = activate_breaks r q cycle group bank
 breaks_now r q cycle (Rd rank group bank row line) = read_breaks r q cycle group bank row
 breaks_now r q cycle (Wr rank group bank row line) = write_breaks r q cycle group bank row
+breaks_now r q cycle (RdAuto rank group bank row line) = read_breaks r q cycle group bank row
+breaks_now r q cycle (WrAuto rank group bank row line) = write_breaks r q cycle group bank row
 breaks_now r q cycle (Pre rank group bank) = precharge_breaks r q cycle group bank
 breaks_now r q cycle (PreAll rank) = precharge_all_breaks r q cycle
 breaks_now r q cycle (Refresh rank) = refresh_breaks r q cycle

@@ -1,53 +1,54 @@
 -- What a rank keeps after a command.
-use Rattle.std.specs.Prelude.{ℕ, ◌+◌, ◌*◌, List, [], ◌∷◌, ◌++◌, map, Some, None, slice_set}
+use Rattle.std.specs.Prelude.{ℕ, ◌+◌, ◌*◌, if◌then◌else◌, [], ◌∷◌, ◌++◌, map, Some, slice_set}
 use Rattle.circular_buffer.specs.Buffer.{keep_last}
 use Rattle.ddr_timing.specs.declared.units.TheConstants.{GROUP_BANKS}
 use Rattle.ddr_trace.specs.declared.command.Command.{Command}
-use Rattle.ddr_trace.specs.declared.command.Command.TheVariants.{Act, Rd, Wr, Pre, PreAll, Refresh}
+use Rattle.ddr_trace.specs.declared.command.Command.TheVariants.{Act, Rd, Wr, RdAuto, WrAuto, Pre, PreAll, Refresh}
+use Rattle.ddr_trace.specs.declared.command.Entry.{Entry}
+use Rattle.ddr_trace.specs.Banks.{changed_by}
+use Rattle.ddr_trace.specs.Commands.{is_activate, is_precharge, is_read, is_write}
 use Rattle.ddr_rank.specs.declared.bank.Bank.{Bank}
-use Rattle.ddr_rank.specs.declared.last.Kind.{Kind}
-use Rattle.ddr_rank.specs.declared.last.Kind.TheVariants.{Activate, Read, Write}
 use Rattle.ddr_rank.specs.declared.last.Last.{Last}
 use Rattle.ddr_rank.specs.Readiness.{Readiness, bank_at, group_at}
 
-abbrev pub with_last : Kind → ℕ → Last → Last
-with_last Activate cycle last = record last { activate = Some cycle }
-with_last Read cycle last = record last { read = Some cycle }
-with_last Write cycle last = record last { write = Some cycle }
-
-abbrev pub activated : ℕ → ℕ → Bank → Bank
-activated cycle row bank = record bank { row = Some row; last = with_last Activate cycle bank.last }
-
-abbrev pub precharged : ℕ → Bank → Bank
-precharged cycle bank = record bank { row = None; precharge = Some cycle }
-
-abbrev pub with_bank : Readiness → ℕ → ℕ → Bank → List Bank
-with_bank r group bank new = slice_set r.banks (group * GROUP_BANKS + bank) new
-
--- a read or a write of a bank
-abbrev pub column_noted : Readiness → Kind → ℕ → ℕ → ℕ → Readiness
-column_noted r kind cycle group bank = record r {
-  banks = with_bank r group bank (record (bank_at r group bank) { last = with_last kind cycle (bank_at r group bank).last });
-  groups = slice_set r.groups group (with_last kind cycle (group_at r group));
+-- a bank or a group after a command of it
+abbrev pub last_noted : Entry → Last → Last
+last_noted e last = record {
+  activate = if is_activate e.command then Some e.cycle else last.activate;
+  read = if is_read e.command then Some e.cycle else last.read;
+  write = if is_write e.command then Some e.cycle else last.write;
 }
 
-abbrev pub activate_noted : Readiness → ℕ → ℕ → ℕ → ℕ → Readiness
-activate_noted r cycle group bank row = record r {
-  banks = with_bank r group bank (activated cycle row (bank_at r group bank));
-  groups = slice_set r.groups group (with_last Activate cycle (group_at r group));
-  activates = keep_last 4 (r.activates ++ cycle ∷ []);
+-- a bank after a command of it
+abbrev pub bank_noted : Entry → Bank → Bank
+bank_noted e bank = record {
+  opened = changed_by e bank.opened;
+  precharge = if is_precharge e.command then Some e.cycle else bank.precharge;
+  last = last_noted e bank.last;
 }
 
-abbrev pub precharge_noted : Readiness → ℕ → ℕ → ℕ → Readiness
-precharge_noted r cycle group bank = record r { banks = with_bank r group bank (precharged cycle (bank_at r group bank)) }
+-- a command of one bank
+abbrev pub noted_at : Readiness → Entry → ℕ → ℕ → Readiness
+noted_at r e group bank = record r {
+  banks = slice_set r.banks (group * GROUP_BANKS + bank) (bank_noted e (bank_at r group bank));
+  groups = slice_set r.groups group (last_noted e (group_at r group));
+}
 
-abbrev pub precharge_all_noted : Readiness → ℕ → Readiness
-precharge_all_noted r cycle = record r { banks = map (precharged cycle) r.banks }
+abbrev pub activate_noted : Readiness → Entry → ℕ → ℕ → Readiness
+activate_noted r e group bank = record (noted_at r e group bank) { activates = keep_last 4 (r.activates ++ e.cycle ∷ []) }
 
-abbrev pub noted : Readiness → ℕ → Command → Readiness
-noted r cycle (Act rank group bank row) = activate_noted r cycle group bank row
-noted r cycle (Rd rank group bank row line) = column_noted r Read cycle group bank
-noted r cycle (Wr rank group bank row line) = column_noted r Write cycle group bank
-noted r cycle (Pre rank group bank) = precharge_noted r cycle group bank
-noted r cycle (PreAll rank) = precharge_all_noted r cycle
-noted r cycle (Refresh rank) = record r { refresh = Some cycle }
+abbrev pub all_noted : Readiness → Entry → Readiness
+all_noted r e = record r { banks = map (bank_noted e) r.banks }
+
+abbrev pub noted_by : Readiness → Entry → Command → Readiness
+noted_by r e (Act rank group bank row) = activate_noted r e group bank
+noted_by r e (Rd rank group bank row line) = noted_at r e group bank
+noted_by r e (Wr rank group bank row line) = noted_at r e group bank
+noted_by r e (RdAuto rank group bank row line) = noted_at r e group bank
+noted_by r e (WrAuto rank group bank row line) = noted_at r e group bank
+noted_by r e (Pre rank group bank) = noted_at r e group bank
+noted_by r e (PreAll rank) = all_noted r e
+noted_by r e (Refresh rank) = record r { refresh = Some e.cycle }
+
+abbrev pub noted : Readiness → Entry → Readiness
+noted r e = noted_by r e e.command

@@ -23,7 +23,7 @@ abbrev pub never : Last
 never = record { activate = None; read = None; write = None }
 
 abbrev pub idle : Bank
-idle = record { row = None; precharge = None; last = never }
+idle = record { opened = None; precharge = None; last = never }
 
 abbrev pub last_of : Kind → Last → Option ℕ
 last_of Activate last = last.activate

@@ -1,14 +1,19 @@
 //! What is kept of one bank.
-ghost use Rattle.std.specs.Prelude.{◌≡◌};
-ghost use Rattle.ddr_rank.specs.Noted.{activated, precharged};
+ghost use Rattle.std.specs.Prelude.{◌≡◌, Some};
+ghost use Rattle.ddr_trace.specs.Banks.{is_auto_within, open_row, ready_row};
+ghost use Rattle.ddr_rank.specs.Noted.{bank_noted};
 
-use crate::last::{Kind, Last};
+use crate::last::Last;
+use ddr_timing::timing::Timing;
+use ddr_trace::bank::{OpenBank, changed_by};
+use ddr_trace::command::{Command, Entry};
 
-/// A bank: its open row, and the cycles of its last commands.
+/// A bank: its open row, and the cycles of its last commands. Its last read and write outlive an auto-precharge and the
+/// next ACT, since RTP and WR go on counting from them.
 #[derive(Clone, Copy)]
 pub struct Bank {
-    /// The open row. `None` where the bank is idle.
-    pub row: Option<u32>,
+    /// What its ACTs, auto-precharges and precharges made of it. `None` where it is idle by a precharge.
+    pub opened: Option<OpenBank>,
     /// The last precharge of the bank, alone or with all, whether or not it found the bank idle.
     pub precharge: Option<u64>,
     pub last: Last,
@@ -17,22 +22,49 @@ pub struct Bank {
 impl Bank {
     /// Before the first command.
     pub const IDLE: Bank = Bank {
-        row: None,
+        opened: None,
         precharge: None,
         last: Last::NEVER,
     };
 
-    pub fn activate(&mut self, cycle: u64, row: u32)
-        ensures { self.new ≡ activated cycle row self.old }
+    /// Keeps a command of the bank.
+    pub fn note(&mut self, entry: &Entry)
+        ensures { self.new ≡ bank_noted entry.now self.old }
     {
-        self.row = Some(row);
-        self.last.note(Kind::Activate, cycle);
+        self.opened = changed_by(entry, self.opened);
+        if let Command::Pre { .. } | Command::PreAll { .. } = entry.command {
+            self.precharge = Some(entry.cycle);
+        }
+        self.last.note(entry);
     }
 
-    pub fn precharge(&mut self, cycle: u64)
-        ensures { self.new ≡ precharged cycle self.old }
+    /// The open row in this cycle.
+    pub fn open_row(&self, cycle: u64, timing: &Timing) -> Option<u32>
+        ensures { result ≡ open_row timing.now cycle self.now.opened }
     {
-        self.row = None;
-        self.precharge = Some(cycle);
+        match &self.opened {
+            Some(bank) => bank.open_row(cycle, timing),
+            None => None,
+        }
+    }
+
+    /// The row that reads and writes find.
+    pub fn ready_row(&self) -> Option<u32>
+        ensures { result ≡ ready_row self.now.opened }
+    {
+        match &self.opened {
+            Some(bank) => bank.ready_row(),
+            None => None,
+        }
+    }
+
+    /// Whether the bank has an auto-precharge, and RP isn't over since its start.
+    pub fn is_auto_within(&self, cycle: u64, timing: &Timing) -> bool
+        ensures { result ≡ is_auto_within timing.now timing.now.rp cycle self.now.opened }
+    {
+        match &self.opened {
+            Some(bank) => bank.is_auto_within(cycle, timing),
+            None => false,
+        }
     }
 }

@@ -1,7 +1,9 @@
 //! The cycles of the last ACT, read and write, of a bank or of a bank group.
 ghost use Rattle.std.specs.Prelude.{◌≡◌};
-ghost use Rattle.ddr_rank.specs.Noted.{with_last};
+ghost use Rattle.ddr_rank.specs.Noted.{last_noted};
 ghost use Rattle.ddr_rank.specs.Readiness.{last_of};
+
+use ddr_trace::command::{Command, Entry};
 
 /// A command that opens a row, or that moves data.
 #[derive(Clone, Copy)]
@@ -38,13 +40,14 @@ impl Last {
     }
 
     /// Keeps the cycle of a command.
-    pub fn note(&mut self, kind: Kind, cycle: u64)
-        ensures { self.new ≡ with_last kind cycle self.old }
+    pub fn note(&mut self, entry: &Entry)
+        ensures { self.new ≡ last_noted entry.now self.old }
     {
-        match kind {
-            Kind::Activate => self.activate = Some(cycle),
-            Kind::Read => self.read = Some(cycle),
-            Kind::Write => self.write = Some(cycle),
+        match entry.command {
+            Command::Act { .. } => self.activate = Some(entry.cycle),
+            Command::Rd { .. } | Command::RdAuto { .. } => self.read = Some(entry.cycle),
+            Command::Wr { .. } | Command::WrAuto { .. } => self.write = Some(entry.cycle),
+            Command::Pre { .. } | Command::PreAll { .. } | Command::Refresh { .. } => {}
         }
     }
 }

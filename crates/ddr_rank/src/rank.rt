@@ -1,21 +1,24 @@
 //! One rank: what was issued to it, as far as a later command can break a rule by it.
-ghost use Rattle.std.specs.Prelude.{◌≡◌, ◌+◌, ◌*◌, ◌<◌, List, [], ◌∷◌, ◌++◌, None, IsTrue, IsOk, IfOk};
+ghost use Rattle.std.specs.Prelude.{◌≡◌, ℕ, ◌+◌, ◌*◌, ◌<◌, List, [], ◌∷◌, ◌++◌, IsTrue, IsOk, IfOk};
 ghost use Rattle.std.specs.Option.{is_none};
 ghost use Rattle.ddr_timing.specs.declared.units.TheConstants.{GROUP_BANKS};
 ghost use Rattle.ddr_trace.specs.declared.command.Entry.{Entry};
-ghost use Rattle.ddr_trace.specs.Rules.{IsOpenRow, is_in};
+ghost use Rattle.ddr_trace.specs.declared.command.Command.TheVariants.{Pre};
+ghost use Rattle.ddr_trace.specs.Banks.{bank_behind, open_row};
+ghost use Rattle.ddr_trace.specs.Commands.{entry, rank_of};
+ghost use Rattle.ddr_trace.specs.Rules.{is_in};
 ghost use Rattle.ddr_trace.specs.Legality.{lowest_rule};
 ghost use Rattle.ddr_rank.specs.Breaks.{breaks_now};
-ghost use Rattle.ddr_rank.specs.Noted.{activate_noted, column_noted, noted, precharge_all_noted, precharge_noted};
+ghost use Rattle.ddr_rank.specs.Noted.{activate_noted, all_noted, noted, noted_at};
 ghost use Rattle.ddr_rank.specs.Readiness.{bank_at, group_at};
-ghost use Rattle.ddr_rank.specs.Stands.{IsAfter, StandsFor, entry, lowest_on_rank};
+ghost use Rattle.ddr_rank.specs.Stands.{IsAfter, StandsFor, lowest_on_rank};
 
 use crate::bank::Bank;
-use crate::last::{Kind, Last};
+use crate::last::Last;
 use circular_buffer::HeapCircularBuffer;
 use ddr_timing::config::Config;
 use ddr_timing::units::GROUP_BANKS;
-use ddr_trace::command::Command;
+use ddr_trace::command::{Command, Entry};
 use ddr_trace::rule::Rule;
 use std::alloc::{AllocError, Global};
 use std::marker::Model;
@@ -25,7 +28,8 @@ mod rules;
 /// The activations that the rule on four of them looks back at (JESD79-4, tFAW).
 const WINDOW: usize = 4;
 
-/// One rank. Contracts speak of every list of commands that it stands for: those issued to it, in order.
+/// One rank. It doesn't know its number: contracts speak of every rank number and list of commands that it stands for, in
+/// which those of this rank were issued to it, in order.
 #[derive(Drop)]
 pub struct Rank {
     config: Config,
@@ -55,7 +59,7 @@ impl Rank {
     /// A rank to which nothing was issued: all banks idle. It takes all its memory here.
     pub fn open(alloc: Global, config: &Config) -> Result<Rank, AllocError>
         ensures config { IfOk result (λ r. r.config ≡ config.now) }
-        ensures stands { IfOk result (λ r. StandsFor r []) }
+        ensures stands { IfOk result (λ r. (rank : ℕ) → StandsFor r rank []) }
     {
         let groups = config.geometry.groups as usize;
         Ok(Rank {
@@ -70,8 +74,8 @@ impl Rank {
     /// The lowest rule, from STATE to RFC, that the command would break in this cycle, after those issued.
     pub fn fault(&self, cycle: u64, command: Command) -> Option<Rule>
         requires { IsTrue (is_in self.now.config.geometry command) }
-        ensures { (history : List Entry) → StandsFor self.entry.now history → IsAfter history cycle
-            → result ≡ lowest_on_rank self.entry.now.config.timing history (entry cycle command) }
+        ensures { (history : List Entry) → StandsFor self.entry.now (rank_of command) history → IsAfter history cycle
+            → result ≡ lowest_on_rank self.entry.now.config history (entry cycle command) }
     {
         self.lowest(cycle, &command)
     }
@@ -79,8 +83,8 @@ impl Rank {
     /// Whether the command breaks none of these rules in this cycle.
     pub fn may(&self, cycle: u64, command: Command) -> bool
         requires { IsTrue (is_in self.now.config.geometry command) }
-        ensures { (history : List Entry) → StandsFor self.entry.now history → IsAfter history cycle
-            → result ≡ is_none (lowest_on_rank self.entry.now.config.timing history (entry cycle command)) }
+        ensures { (history : List Entry) → StandsFor self.entry.now (rank_of command) history → IsAfter history cycle
+            → result ≡ is_none (lowest_on_rank self.entry.now.config history (entry cycle command)) }
     {
         self.fault(cycle, command).is_none()
     }
@@ -90,31 +94,30 @@ impl Rank {
         ensures ok { IsOk result }
         ensures unchanged { self.new ≡ self.old }
         ensures config { self.new.config ≡ self.old.config }
-        ensures stands { (history : List Entry) → StandsFor self.old history → StandsFor self.new history }
+        ensures stands { (rank : ℕ) (history : List Entry) → StandsFor self.old rank history → StandsFor self.new rank history }
     {
         Ok(())
     }
 
-    /// Issues the command in this cycle. What a rank says after a command that breaks one of these rules is left
-    /// open.
+    /// Issues the command in this cycle, whether or not it breaks a rule.
     pub fn issue(&mut self, cycle: u64, command: Command)
         requires { IsTrue (is_in self.old.config.geometry command) }
         ensures config { self.new.config ≡ self.old.config }
-        ensures stands { (history : List Entry) → StandsFor self.old history → IsAfter history cycle
-            → lowest_on_rank self.old.config.timing history (entry cycle command) ≡ None
-            → StandsFor self.new (history ++ entry cycle command ∷ []) }
+        ensures stands { (history : List Entry) → StandsFor self.old (rank_of command) history → IsAfter history cycle
+            → StandsFor self.new (rank_of command) (history ++ entry cycle command ∷ []) }
     {
-        self.note(cycle, &command);
+        self.note(&Entry { cycle, command });
     }
 
-    /// The open row of a bank, if it is active. `None` also outside the geometry.
-    pub fn open_row(&self, group: u32, bank: u32) -> Option<u32>
-        ensures { (history : List Entry) → StandsFor self.entry.now history → IsOpenRow history group bank result }
+    /// The open row of a bank in this cycle, if it is active then. `None` also outside the geometry.
+    pub fn open_row(&self, cycle: u64, group: u32, bank: u32) -> Option<u32>
+        ensures { (rank : ℕ) (history : List Entry) → StandsFor self.entry.now rank history
+            → result ≡ open_row self.entry.now.config.timing cycle (bank_behind (Pre rank group bank) history) }
     {
         if group >= self.config.geometry.groups || bank >= GROUP_BANKS {
             return None;
         }
-        self.bank(group, bank).row
+        self.bank(group, bank).open_row(cycle, &self.config.timing)
     }
 
     /// The lowest rule that the command would break, by what is kept.
@@ -131,58 +134,47 @@ impl Rank {
     }
 
     /// Keeps what a later command is measured from.
-    fn note(&mut self, cycle: u64, command: &Command)
-        requires { IsTrue (is_in self.old.config.geometry command.now) }
-        ensures { self.new ≡ noted self.old cycle command.now }
+    fn note(&mut self, entry: &Entry)
+        requires { IsTrue (is_in self.old.config.geometry entry.now.command) }
+        ensures { self.new ≡ noted self.old entry.now }
     {
-        match *command {
-            Command::Act {
-                group,
-                bank,
-                row,
-                ..
-            } => self.note_activate(cycle, group, bank, row),
-            Command::Rd { group, bank, .. } => self.note_column(Kind::Read, cycle, group, bank),
-            Command::Wr { group, bank, .. } => self.note_column(Kind::Write, cycle, group, bank),
-            Command::Pre { group, bank, .. } => self.note_precharge(cycle, group, bank),
-            Command::PreAll { .. } => self.note_precharge_all(cycle),
-            Command::Refresh { .. } => self.refresh = Some(cycle),
+        match entry.command {
+            Command::Act { group, bank, .. } => self.note_activate(entry, group, bank),
+            Command::Rd { group, bank, .. }
+            | Command::Wr { group, bank, .. }
+            | Command::RdAuto { group, bank, .. }
+            | Command::WrAuto { group, bank, .. }
+            | Command::Pre { group, bank, .. } => self.note_at(entry, group, bank),
+            Command::PreAll { .. } => self.note_all(entry),
+            Command::Refresh { .. } => self.refresh = Some(entry.cycle),
         }
     }
 
-    fn note_activate(&mut self, cycle: u64, group: u32, bank: u32, row: u32)
+    fn note_activate(&mut self, entry: &Entry, group: u32, bank: u32)
         requires group_in { group < self.old.config.geometry.groups }
         requires bank_in { bank < GROUP_BANKS }
-        ensures { self.new ≡ activate_noted self.old cycle group bank row }
+        ensures { self.new ≡ activate_noted self.old entry.now group bank }
     {
-        self.banks[number(group, bank)].activate(cycle, row);
-        self.groups[group as usize].note(Kind::Activate, cycle);
-        let _ = self.activates.push_back(cycle);
+        self.note_at(entry, group, bank);
+        let _ = self.activates.push_back(entry.cycle);
     }
 
-    /// A read or a write.
-    fn note_column(&mut self, kind: Kind, cycle: u64, group: u32, bank: u32)
+    /// Keeps a command of one bank.
+    fn note_at(&mut self, entry: &Entry, group: u32, bank: u32)
         requires group_in { group < self.old.config.geometry.groups }
         requires bank_in { bank < GROUP_BANKS }
-        ensures { self.new ≡ column_noted self.old kind cycle group bank }
+        ensures { self.new ≡ noted_at self.old entry.now group bank }
     {
-        self.banks[number(group, bank)].last.note(kind, cycle);
-        self.groups[group as usize].note(kind, cycle);
+        self.banks[number(group, bank)].note(entry);
+        self.groups[group as usize].note(entry);
     }
 
-    fn note_precharge(&mut self, cycle: u64, group: u32, bank: u32)
-        requires group_in { group < self.old.config.geometry.groups }
-        requires bank_in { bank < GROUP_BANKS }
-        ensures { self.new ≡ precharge_noted self.old cycle group bank }
-    {
-        self.banks[number(group, bank)].precharge(cycle);
-    }
-
-    fn note_precharge_all(&mut self, cycle: u64)
-        ensures { self.new ≡ precharge_all_noted self.old cycle }
+    /// Keeps a command of all banks.
+    fn note_all(&mut self, entry: &Entry)
+        ensures { self.new ≡ all_noted self.old entry.now }
     {
         for bank in self.banks.iter_mut() {
-            bank.precharge(cycle);
+            bank.note(entry);
         }
     }
 

@@ -1,5 +1,5 @@
 -- The text of a map.
-use Rattle.std.proofs.Common.{◌≡◌, ℕ, ◌+◌, ◌*◌, ◌<◌, ◌≤◌, Bool, List, [], ◌∷◌, ◌++◌, length, get_or, drop, Option, Some, None, Result, Ok, Err, sym, subst, ap, ◌∙◌, IfErr, IfSome, OnOk, append_assoc, arith}
+use Rattle.std.proofs.Common.{◌≡◌, ℕ, ◌+◌, ◌*◌, ◌<◌, ◌≤◌, Bool, List, [], ◌∷◌, ◌++◌, length, get_or, drop, Option, Some, None, Result, Ok, Err, refl, sym, subst, ap, ◌∙◌, IfErr, IfSome, OnOk, append_assoc, arith}
 use Rattle.std.specs.Fmt.{decimal}
 use Rattle.std.specs.Io.KnownBytes.{Appends}
 use Rattle.std.specs.Option.{option_map_or}
@@ -12,8 +12,9 @@ use Rattle.ddr_address_map.specs.Map.{place_of}
 use Rattle.ddr_timing.specs.declared.config.Config.{Config}
 use Rattle.ddr_text.specs.declared.fault.Fault.{Fault}
 use Rattle.ddr_text.specs.declared.fault.Fault.TheVariants as faults
-use Rattle.ddr_text.specs.Body.{IsOpened, parts_of}
+use Rattle.ddr_text.specs.Body.{IsOpened, IsRefused, parts_of}
 use Rattle.ddr_text.specs.MapText.{HasMapFault, IsMapFault, IsMapped, SaysPlaces, address_text, line_text, map_text, text_from}
+use Rattle.ddr_text.proofs.BodyLemmas.{not_of_parts}
 
 -- beyond the memory
 pub address_text-out : (shape : Geometry) (addr : ℕ) → place_of shape addr ≡ None → decimal addr ++ (32 ∷ 111 ∷ 117 ∷ 116 ∷ 10 ∷ []) ≡ address_text shape addr
@@ -62,6 +63,22 @@ said_of (Some input) items text sample_text sample config body shape said known 
       opened = subst (λ t. IsOpened (parts_of sample sample_text t) config body) same opened;
       mapped = ap (λ g. map_text g body) (sym e) ∙ mapped;
     })
+
+-- the fault of a text that is not opened
+unopened : (profile text : List ℕ) (sample : Bool) (fault : Fault) → IsText text → IsRefused (parts_of sample profile text) fault → HasMapFault sample profile text fault
+unopened profile text sample faults.OutOfMemory is_text refused = tt
+unopened profile text sample faults.Read is_text refused = tt
+unopened profile text sample faults.Write is_text refused = not_of_parts (parts_of sample profile text) faults.Write refused refl
+unopened profile text sample (faults.MapLine line) is_text refused = not_of_parts (parts_of sample profile text) (faults.MapLine line) refused refl
+unopened profile text sample faults.InputTooLong is_text refused = not_of_parts (parts_of sample profile text) faults.InputTooLong refused refl
+unopened profile text sample faults.InputNotUtf8 is_text refused = not_of_parts (parts_of sample profile text) faults.InputNotUtf8 refused refl
+unopened profile text sample _ is_text refused = (is_text, refused)
+
+pub opening_fault : (remaining : Option (List ℕ)) (items text profile : List ℕ) (sample : Bool) (fault : Fault) → IfSome remaining (λ bytes. items ≡ bytes) → text ≡ items → IsText items → IsRefused (parts_of sample profile text) fault → IfSome remaining (λ input. HasMapFault sample profile input fault)
+opening_fault None items text profile sample fault known same is_text refused = tt
+opening_fault (Some input) items text profile sample fault known same is_text refused =
+    subst (λ i. HasMapFault sample profile i fault) known
+    (unopened profile items sample fault is_text (subst (λ t. IsRefused (parts_of sample profile t) fault) same refused))
 
 -- a body at fault
 pub map_fault : (remaining : Option (List ℕ)) (profile : List ℕ) (sample : Bool) (fault : Fault) (all : Result (List ℕ) ℕ) → IsMapFault fault all → ((said : Result (List ℕ) ℕ) → all ≡ said → IfSome remaining (λ input. SaysPlaces sample profile input said)) → IfSome remaining (λ input. HasMapFault sample profile input fault)

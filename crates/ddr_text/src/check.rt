@@ -7,7 +7,7 @@ ghost use Rattle.ddr_trace.specs.Reader.{IsAnswer, records_in, trace_of};
 ghost use Rattle.ddr_text.specs.Check.{HasCheckFault, IsChecked, IsVerdict, in_memory, verdict_text};
 ghost use Rattle.ddr_text.specs.Fault.{is_before_output};
 
-use crate::body::open;
+use crate::body::read_parts;
 use crate::fault::Fault;
 use crate::input::{read_source, text_of};
 use crate::source::Source;
@@ -26,10 +26,10 @@ use std::io::Write;
 /// is legal where it breaks no rule, the two on refresh among them.
 ///
 /// With `sample` the whole input is the trace's text, on the sample configuration; else the input is a
-/// configuration, a line `---` and the text. A place counts the commands from 0, and is their number where the
+/// configuration of either version, a line `---` and the text. A place counts the commands from 0, and is their number where the
 /// trace's end is at fault.
 ///
-/// Fails as `open` does, and by the fault that comes first in the trace's text; as `Read` where the reader fails, and so
+/// Fails as `read_parts` does, and by the fault that comes first in the trace's text; as `Read` where the reader fails, and so
 /// never over bytes in memory. Nothing is written before the verdict is there, so only `Write` may leave a part of it.
 pub fn check<R: Source, W: Write>(
     alloc: Global,
@@ -47,7 +47,7 @@ pub fn check<R: Source, W: Write>(
 {
     let input = read_source(alloc, reader)?;
     let text = text_of(input.as_slice())?;
-    let (config, body) = open(alloc, sample, text)?;
+    let (config, body) = read_parts(alloc, sample, text)?;
     let trace = trace_in(alloc, body)?;
     let fault = verdict(alloc, &config, &trace)?;
     let line = verdict_text(alloc, fault)?;

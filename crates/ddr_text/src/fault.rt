@@ -26,7 +26,7 @@ pub enum Fault {
     ConfigNotPowerOfTwo { key: Key },
     #[error("config Relation {n}")]
     ConfigRelation { n: u32 },
-    /// The configuration is one of version 2, which no command serves yet.
+    /// The configuration is one of version 2, which only `check` serves.
     #[error("config Unserved")]
     ConfigUnserved,
     /// The input has more than 16,777,216 bytes.

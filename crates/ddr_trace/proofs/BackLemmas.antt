@@ -17,10 +17,10 @@ use Rattle.csv.proofs.RoundTrip.{read-write, rows_text}
 use Rattle.ddr_timing.specs.declared.geometry.Geometry.{Geometry}
 use Rattle.ddr_timing.specs.declared.units.TheConstants.{CLOCK_STOP, LINE_COLUMNS}
 use Rattle.ddr_trace.specs.declared.command.Command.{Command}
-use Rattle.ddr_trace.specs.declared.command.Command.TheVariants.{Act, Rd, Wr, Pre, PreAll, Refresh}
+use Rattle.ddr_trace.specs.declared.command.Command.TheVariants.{Act, Rd, Wr, RdAuto, WrAuto, Pre, PreAll, Refresh}
 use Rattle.ddr_trace.specs.declared.command.Entry.{Entry}
 use Rattle.ddr_trace.specs.declared.parse.Parsed.TheVariants as says
-use Rattle.ddr_trace.specs.Parse.{act_of, command_of, end_of, entry_of, index_of, line_of, pre_of, prea_of, rd_of, record_of, ref_of, with_cycle, wr_of}
+use Rattle.ddr_trace.specs.Parse.{act_of, command_of, end_of, entry_of, index_of, line_of, pre_of, prea_of, rd_of, rda_of, record_of, ref_of, with_cycle, wr_of, wra_of}
 use Rattle.ddr_trace.specs.Numbers.{number_of}
 use Rattle.ddr_trace.specs.Rules.{is_bank_in, is_in}
 use Rattle.ddr_trace.specs.Text.{command_fields, end_fields, header, record_text, trace_text}
@@ -65,6 +65,14 @@ wr_back : (c k g b w l : ℕ) → c ≤ CLOCK_STOP → k < 2 ^ 32 → g < 2 ^ 32
 unfolding record_of with_cycle entry_of command_of wr_of command_fields
 wr_back c k g b w l hc hk hg hb hw hl = rw (number_back CLOCK_STOP c hc (omega arith), index_back k hk, index_back g hg, index_back b hb, index_back w hw, line_back l hl) refl
 
+rda_back : (c k g b w l : ℕ) → c ≤ CLOCK_STOP → k < 2 ^ 32 → g < 2 ^ 32 → b < 2 ^ 32 → w < 2 ^ 32 → l < 2 ^ 29 → record_of (command_fields c (RdAuto k g b w l)) ≡ Some (says.Command (record { cycle = c; command = RdAuto k g b w l }))
+unfolding record_of with_cycle entry_of command_of rda_of command_fields
+rda_back c k g b w l hc hk hg hb hw hl = rw (number_back CLOCK_STOP c hc (omega arith), index_back k hk, index_back g hg, index_back b hb, index_back w hw, line_back l hl) refl
+
+wra_back : (c k g b w l : ℕ) → c ≤ CLOCK_STOP → k < 2 ^ 32 → g < 2 ^ 32 → b < 2 ^ 32 → w < 2 ^ 32 → l < 2 ^ 29 → record_of (command_fields c (WrAuto k g b w l)) ≡ Some (says.Command (record { cycle = c; command = WrAuto k g b w l }))
+unfolding record_of with_cycle entry_of command_of wra_of command_fields
+wra_back c k g b w l hc hk hg hb hw hl = rw (number_back CLOCK_STOP c hc (omega arith), index_back k hk, index_back g hg, index_back b hb, index_back w hw, line_back l hl) refl
+
 pre_back : (c k g b : ℕ) → c ≤ CLOCK_STOP → k < 2 ^ 32 → g < 2 ^ 32 → b < 2 ^ 32 → record_of (command_fields c (Pre k g b)) ≡ Some (says.Command (record { cycle = c; command = Pre k g b }))
 unfolding record_of with_cycle entry_of command_of pre_of command_fields
 pre_back c k g b hc hk hg hb = rw (number_back CLOCK_STOP c hc (omega arith), index_back k hk, index_back g hg, index_back b hb) refl
@@ -85,7 +93,11 @@ end_back c hc = rw (number_back CLOCK_STOP c hc (omega arith)) refl
 bank_small : (g : Geometry) (k n b : ℕ) → is_bank_in g k n b ≡ true → (k < 2 ^ 32) × (n < 2 ^ 32) × (b < 2 ^ 32)
 bank_small g k n b h =
     let groups : g.groups ≤ 4 = grind (arith, nat_tests, g.groups_are) in
-    (grind (arith, nat_tests), grind (arith, nat_tests, groups), grind (arith, nat_tests))
+    let ranks : g.ranks ≤ 2 = g.ranks_range.1 in
+    (grind (arith, nat_tests, ranks), grind (arith, nat_tests, groups), grind (arith, nat_tests))
+
+rank_small : (g : Geometry) (k : ℕ) → nat_lt k g.ranks ≡ true → k < 2 ^ 32
+rank_small g k h = let below = ltb-true _ _ h in omega (arith, g.ranks_range)
 
 row_small : (g : Geometry) (p : Bool) (w : ℕ) → (p && nat_lt w g.rows) ≡ true → (p ≡ true) × (w < 2 ^ 32)
 row_small g true w h = (refl, let below = ltb-true _ _ h in omega (arith, g.rows_range))
@@ -112,9 +124,17 @@ command_back g c (Wr k n b w l) h hc =
     let r = line_small g (is_bank_in g k n b) w l h in
     let s = bank_small g k n b r.0 in
     wr_back c k n b w l hc s.0 s.1 s.2 r.1 r.2
+command_back g c (RdAuto k n b w l) h hc =
+    let r = line_small g (is_bank_in g k n b) w l h in
+    let s = bank_small g k n b r.0 in
+    rda_back c k n b w l hc s.0 s.1 s.2 r.1 r.2
+command_back g c (WrAuto k n b w l) h hc =
+    let r = line_small g (is_bank_in g k n b) w l h in
+    let s = bank_small g k n b r.0 in
+    wra_back c k n b w l hc s.0 s.1 s.2 r.1 r.2
 command_back g c (Pre k n b) h hc = let s = bank_small g k n b h in pre_back c k n b hc s.0 s.1 s.2
-command_back g c (PreAll k) h hc = prea_back c k hc (grind (arith, nat_tests))
-command_back g c (Refresh k) h hc = ref_back c k hc (grind (arith, nat_tests))
+command_back g c (PreAll k) h hc = prea_back c k hc (rank_small g k h)
+command_back g c (Refresh k) h hc = ref_back c k hc (rank_small g k h)
 
 -- the records of a trace
 abbrev rows_of : List Entry → ℕ → Records
@@ -165,13 +185,21 @@ command_line g c (Wr k n b w l) h hc =
     let r = line_small g (is_bank_in g k n b) w l h in
     let s = bank_small g k n b r.0 in
     row_is_line _ _ _ (decimal_plain c (omega arith), (refl, (small_plain k s.0, (small_plain n s.1, (small_plain b s.2, (small_plain w r.1, (decimal_plain (8 * l) (omega (arith, r.2)), tt)))))))
+command_line g c (RdAuto k n b w l) h hc =
+    let r = line_small g (is_bank_in g k n b) w l h in
+    let s = bank_small g k n b r.0 in
+    row_is_line _ _ _ (decimal_plain c (omega arith), (refl, (small_plain k s.0, (small_plain n s.1, (small_plain b s.2, (small_plain w r.1, (decimal_plain (8 * l) (omega (arith, r.2)), tt)))))))
+command_line g c (WrAuto k n b w l) h hc =
+    let r = line_small g (is_bank_in g k n b) w l h in
+    let s = bank_small g k n b r.0 in
+    row_is_line _ _ _ (decimal_plain c (omega arith), (refl, (small_plain k s.0, (small_plain n s.1, (small_plain b s.2, (small_plain w r.1, (decimal_plain (8 * l) (omega (arith, r.2)), tt)))))))
 command_line g c (Pre k n b) h hc =
     let s = bank_small g k n b h in
     row_is_line _ _ _ (decimal_plain c (omega arith), (refl, (small_plain k s.0, (small_plain n s.1, (small_plain b s.2, (refl, (refl, tt)))))))
 command_line g c (PreAll k) h hc =
-    row_is_line _ _ _ (decimal_plain c (omega arith), (refl, (small_plain k (grind (arith, nat_tests)), (refl, (refl, (refl, (refl, tt)))))))
+    row_is_line _ _ _ (decimal_plain c (omega arith), (refl, (small_plain k (rank_small g k h), (refl, (refl, (refl, (refl, tt)))))))
 command_line g c (Refresh k) h hc =
-    row_is_line _ _ _ (decimal_plain c (omega arith), (refl, (small_plain k (grind (arith, nat_tests)), (refl, (refl, (refl, (refl, tt)))))))
+    row_is_line _ _ _ (decimal_plain c (omega arith), (refl, (small_plain k (rank_small g k h), (refl, (refl, (refl, (refl, tt)))))))
 
 end_line : (c : ℕ) → c ≤ CLOCK_STOP → row_text default_writer (end_fields c) ≡ record_text (end_fields c)
 unfolding end_fields
@@ -206,6 +234,8 @@ unfolding command_fields
 command_kept c (Act k n b w) = refl
 command_kept c (Rd k n b w l) = refl
 command_kept c (Wr k n b w l) = refl
+command_kept c (RdAuto k n b w l) = refl
+command_kept c (WrAuto k n b w l) = refl
 command_kept c (Pre k n b) = refl
 command_kept c (PreAll k) = refl
 command_kept c (Refresh k) = refl

@@ -42,7 +42,7 @@ first_at_entry c start end entries n d r test within so_far here lowest = record
 }
 
 -- the trace's end, where it alone breaks a rule
-pub first_at_end : (c : Config) (start end : ℕ) (entries : List Entry) → IsCleanBelow c start end entries (length entries) → true ≡ ends_late c.timing start end entries → IsFirstFault c start end entries (length entries) rule.RefLate
+pub first_at_end : (c : Config) (start end : ℕ) (entries : List Entry) → IsCleanBelow c start end entries (length entries) → true ≡ ends_late c start end entries → IsFirstFault c start end entries (length entries) rule.RefLate
 unfolding lowest_rule
 first_at_end c start end entries so_far late = record {
   lowest = lowest_rule-alike _ _ (λ q. at_end c start end entries q) ∙ late_alone;
@@ -53,7 +53,7 @@ first_at_end c start end entries so_far late = record {
     late_alone = rw (← late) refl
 
 -- a trace with no fault at any place
-pub clean_all : (c : Config) (start end : ℕ) (entries : List Entry) → IsCleanBelow c start end entries (length entries) → false ≡ ends_late c.timing start end entries → IsLegal c start end entries × IsRefreshed c start end entries
+pub clean_all : (c : Config) (start end : ℕ) (entries : List Entry) → IsCleanBelow c start end entries (length entries) → false ≡ ends_late c start end entries → IsLegal c start end entries × IsRefreshed c start end entries
 clean_all c start end entries so_far early = (λ place r h. by_place place r, λ place r h. by_place place r)
   where
     ends : (r : Rule) → breaks_at_end c start end entries r ≡ false

@@ -1,14 +1,10 @@
 -- Bursts on the data bus.
-use Rattle.std.specs.Prelude.{◌≡◌, ℕ, ◌+◌, ◌<◌, ◌≤◌, true, if◌then◌else◌, List, Some, slice_get}
+use Rattle.std.specs.Prelude.{◌≡◌, ℕ, ◌+◌, ◌<◌, ◌≤◌, true, List, Some, slice_get}
 use Rattle.ddr_timing.specs.declared.timing.Timing.{Timing}
 use Rattle.ddr_timing.specs.declared.units.TheConstants.{BURST_CLOCKS}
-use Rattle.ddr_trace.specs.declared.command.Command.{Command}
 use Rattle.ddr_trace.specs.declared.command.Entry.{Entry}
-use Rattle.ddr_trace.specs.Commands.{is_column, is_read}
-
--- the clocks from a read or a write to its data: CL or CWL
-abbrev pub latency : Timing → Command → ℕ
-latency t command = if is_read command then t.cl else t.cwl
+use Rattle.ddr_trace.specs.Commands.{is_column}
+use Rattle.ddr_trace.specs.Rules.{latency}
 
 -- the cycle in which the data of a read or a write begin
 abbrev pub burst_start : Timing → Entry → ℕ

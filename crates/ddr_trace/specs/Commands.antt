@@ -2,7 +2,7 @@
 use Rattle.std.specs.Prelude.{ℕ, Bool, true, false, ◌&&◌, ◌||◌, not, ◌==◌}
 use Rattle.ddr_trace.specs.declared.command.Command.{Command}
 use Rattle.ddr_trace.specs.declared.command.Entry.{Entry}
-use Rattle.ddr_trace.specs.declared.command.Command.TheVariants.{Act, Rd, Wr, Pre, PreAll, Refresh}
+use Rattle.ddr_trace.specs.declared.command.Command.TheVariants.{Act, Rd, Wr, RdAuto, WrAuto, Pre, PreAll, Refresh}
 
 -- the command on the bus in that cycle
 abbrev pub entry : ℕ → Command → Entry
@@ -12,13 +12,23 @@ abbrev pub is_activate : Command → Bool
 is_activate (Act rank group bank row) = true
 is_activate _ = false
 
+-- RD, and RDA, which starts its bank's precharge by itself
 abbrev pub is_read : Command → Bool
 is_read (Rd rank group bank row line) = true
+is_read (RdAuto rank group bank row line) = true
 is_read _ = false
 
+-- WR and WRA
 abbrev pub is_write : Command → Bool
 is_write (Wr rank group bank row line) = true
+is_write (WrAuto rank group bank row line) = true
 is_write _ = false
+
+-- a read or a write with auto-precharge
+abbrev pub is_auto : Command → Bool
+is_auto (RdAuto rank group bank row line) = true
+is_auto (WrAuto rank group bank row line) = true
+is_auto _ = false
 
 -- a column command: a read or a write
 abbrev pub is_column : Command → Bool
@@ -42,6 +52,8 @@ abbrev pub rank_of : Command → ℕ
 rank_of (Act rank group bank row) = rank
 rank_of (Rd rank group bank row line) = rank
 rank_of (Wr rank group bank row line) = rank
+rank_of (RdAuto rank group bank row line) = rank
+rank_of (WrAuto rank group bank row line) = rank
 rank_of (Pre rank group bank) = rank
 rank_of (PreAll rank) = rank
 rank_of (Refresh rank) = rank
@@ -51,6 +63,8 @@ abbrev pub group_of : Command → ℕ
 group_of (Act rank group bank row) = group
 group_of (Rd rank group bank row line) = group
 group_of (Wr rank group bank row line) = group
+group_of (RdAuto rank group bank row line) = group
+group_of (WrAuto rank group bank row line) = group
 group_of (Pre rank group bank) = group
 group_of _ = 0
 
@@ -59,6 +73,8 @@ abbrev pub bank_of : Command → ℕ
 bank_of (Act rank group bank row) = bank
 bank_of (Rd rank group bank row line) = bank
 bank_of (Wr rank group bank row line) = bank
+bank_of (RdAuto rank group bank row line) = bank
+bank_of (WrAuto rank group bank row line) = bank
 bank_of (Pre rank group bank) = bank
 bank_of _ = 0
 
@@ -67,6 +83,8 @@ abbrev pub row_of : Command → ℕ
 row_of (Act rank group bank row) = row
 row_of (Rd rank group bank row line) = row
 row_of (Wr rank group bank row line) = row
+row_of (RdAuto rank group bank row line) = row
+row_of (WrAuto rank group bank row line) = row
 row_of _ = 0
 
 -- the command is of every bank of its rank

@@ -21,7 +21,7 @@ KeepsRules c start end history e = (r : Rule) → is_on_commands r ≡ true → 
 
 -- REF_LATE is broken at the end of the trace too
 abbrev pub breaks_at_end : Config → ℕ → ℕ → List Entry → Rule → Bool
-breaks_at_end c start end entries rule.RefLate = ends_late c.timing start end entries
+breaks_at_end c start end entries rule.RefLate = ends_late c start end entries
 breaks_at_end c start end entries _ = false
 
 abbrev pub breaks_where : Config → ℕ → ℕ → List Entry → Option Entry → ℕ → Rule → Bool

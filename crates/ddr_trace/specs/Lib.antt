@@ -1,3 +1,4 @@
+pub mod Banks
 pub mod Bus
 pub mod Commands
 pub mod Rules

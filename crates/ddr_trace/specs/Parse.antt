@@ -3,7 +3,7 @@ use Rattle.std.specs.Prelude.{ℕ, ◌-◌, ◌^◌, ◌/◌, ◌%◌, ◌==◌,
 use Rattle.std.specs.Str.{bytes_eq}
 use Rattle.ddr_timing.specs.declared.units.TheConstants.{CLOCK_STOP, LINE_COLUMNS}
 use Rattle.ddr_trace.specs.declared.command.Command.{Command}
-use Rattle.ddr_trace.specs.declared.command.Command.TheVariants.{Act, Rd, Wr, Pre, PreAll, Refresh}
+use Rattle.ddr_trace.specs.declared.command.Command.TheVariants.{Act, Rd, Wr, RdAuto, WrAuto, Pre, PreAll, Refresh}
 use Rattle.ddr_trace.specs.declared.parse.Parsed.{Parsed}
 use Rattle.ddr_trace.specs.declared.parse.Parsed.TheVariants as says
 use Rattle.ddr_trace.specs.Numbers.{number_of}
@@ -55,6 +55,24 @@ wr_of rank group bank row column = do
   l ← line_of column
   Some (Wr k g b w l)
 
+unfoldable pub rda_of : List ℕ → List ℕ → List ℕ → List ℕ → List ℕ → Option Command
+rda_of rank group bank row column = do
+  k ← index_of rank
+  g ← index_of group
+  b ← index_of bank
+  w ← index_of row
+  l ← line_of column
+  Some (RdAuto k g b w l)
+
+unfoldable pub wra_of : List ℕ → List ℕ → List ℕ → List ℕ → List ℕ → Option Command
+wra_of rank group bank row column = do
+  k ← index_of rank
+  g ← index_of group
+  b ← index_of bank
+  w ← index_of row
+  l ← line_of column
+  Some (WrAuto k g b w l)
+
 unfoldable pub pre_of : List ℕ → List ℕ → List ℕ → List ℕ → List ℕ → Option Command
 pre_of rank group bank row column = do
   k ← index_of rank
@@ -81,6 +99,8 @@ command_of name rank group bank row column =
     if bytes_eq name (codes "ACT") then act_of rank group bank row column
     else if bytes_eq name (codes "RD") then rd_of rank group bank row column
     else if bytes_eq name (codes "WR") then wr_of rank group bank row column
+    else if bytes_eq name (codes "RDA") then rda_of rank group bank row column
+    else if bytes_eq name (codes "WRA") then wra_of rank group bank row column
     else if bytes_eq name (codes "PRE") then pre_of rank group bank row column
     else if bytes_eq name (codes "PREA") then prea_of rank group bank row column
     else if bytes_eq name (codes "REF") then ref_of rank group bank row column

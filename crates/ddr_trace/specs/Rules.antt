@@ -1,17 +1,19 @@
 -- The rules of a trace, one definition each. The history of an entry is all that stands before it, oldest
 -- first, and a distance is the later cycle minus the earlier cycle.
-use Rattle.std.specs.Prelude.{◌≡◌, ℕ, ◌+◌, ◌*◌, ◌/◌, Bool, true, false, ◌&&◌, ◌||◌, not, ◌==◌, nat_lt, nat_le, List, [], ◌∷◌, Option, Some, None, count_by}
-use Rattle.std.specs.List.{list_any}
+use Rattle.std.specs.Prelude.{ℕ, ◌+◌, ◌-◌, ◌*◌, ◌/◌, Bool, true, false, ◌&&◌, ◌||◌, not, ◌==◌, nat_lt, nat_le, max, if◌then◌else◌, List, [], ◌∷◌, count_by}
+use Rattle.std.specs.List.{list_any, range_with_len}
+use Rattle.std.specs.Option.{is_none}
 use Rattle.ddr_timing.specs.declared.config.Config.{Config}
 use Rattle.ddr_timing.specs.declared.geometry.Geometry.{Geometry}
 use Rattle.ddr_timing.specs.declared.timing.Timing.{Timing}
 use Rattle.ddr_timing.specs.declared.units.TheConstants.{BURST_CLOCKS, GROUP_BANKS, LINE_COLUMNS}
 use Rattle.ddr_trace.specs.declared.command.Command.{Command}
-use Rattle.ddr_trace.specs.declared.command.Command.TheVariants.{Act, Rd, Wr, Pre, PreAll, Refresh}
+use Rattle.ddr_trace.specs.declared.command.Command.TheVariants.{Act, Rd, Wr, RdAuto, WrAuto, Pre, PreAll, Refresh}
 use Rattle.ddr_trace.specs.declared.command.Entry.{Entry}
 use Rattle.ddr_trace.specs.declared.rule.Rule.{Rule}
 use Rattle.ddr_trace.specs.declared.rule.Rule.TheVariants as rule
-use Rattle.ddr_trace.specs.Commands.{is_activate, is_read, is_write, is_column, is_precharge, is_refresh, is_same_kind, is_same_rank, is_same_group, is_other_group, is_same_bank, is_other_bank, row_of}
+use Rattle.ddr_trace.specs.Commands.{is_activate, is_read, is_write, is_column, is_precharge, is_refresh, is_same_kind, is_same_rank, is_same_group, is_other_group, is_same_bank, is_other_bank, rank_of, row_of}
+use Rattle.ddr_trace.specs.Banks.{any_bank, bank_behind, is_active, is_auto_within, is_row, open_row, ready_row}
 
 -- A rule on two commands: which comes earlier, which later, which pairs of the two, and the least distance.
 pub record Spacing : Type 0 where
@@ -71,52 +73,63 @@ last_cycle_below (a ∷ b ∷ later) cycle = last_cycle_below (b ∷ later) cycl
 abbrev pub breaks_order : ℕ → ℕ → List Entry → Entry → Bool
 breaks_order start end history e = not (last_cycle_below history e.cycle && nat_le start e.cycle && nat_lt e.cycle end)
 
--- PLACE: the rank is 0, and group, bank, row and line lie in the geometry.
+-- PLACE: rank, group, bank, row and line lie in the geometry.
 abbrev pub is_bank_in : Geometry → ℕ → ℕ → ℕ → Bool
-is_bank_in g rank group bank = rank == 0 && nat_lt group g.groups && nat_lt bank GROUP_BANKS
+is_bank_in g rank group bank = nat_lt rank g.ranks && nat_lt group g.groups && nat_lt bank GROUP_BANKS
+
+abbrev pub is_line_in : Geometry → ℕ → ℕ → ℕ → ℕ → ℕ → Bool
+is_line_in g rank group bank row line = is_bank_in g rank group bank && nat_lt row g.rows && nat_lt line (g.columns / LINE_COLUMNS)
 
 abbrev pub is_in : Geometry → Command → Bool
 is_in g (Act rank group bank row) = is_bank_in g rank group bank && nat_lt row g.rows
-is_in g (Rd rank group bank row line) = is_bank_in g rank group bank && nat_lt row g.rows && nat_lt line (g.columns / LINE_COLUMNS)
-is_in g (Wr rank group bank row line) = is_bank_in g rank group bank && nat_lt row g.rows && nat_lt line (g.columns / LINE_COLUMNS)
+is_in g (Rd rank group bank row line) = is_line_in g rank group bank row line
+is_in g (Wr rank group bank row line) = is_line_in g rank group bank row line
+is_in g (RdAuto rank group bank row line) = is_line_in g rank group bank row line
+is_in g (WrAuto rank group bank row line) = is_line_in g rank group bank row line
 is_in g (Pre rank group bank) = is_bank_in g rank group bank
-is_in g (PreAll rank) = rank == 0
-is_in g (Refresh rank) = rank == 0
+is_in g (PreAll rank) = nat_lt rank g.ranks
+is_in g (Refresh rank) = nat_lt rank g.ranks
 
--- The ACT has opened its bank, and no precharge of the bank stands between.
-abbrev pub stands_open : Entry → List Entry → Bool
-stands_open a between = is_activate a.command && not (list_any (λ p. is_precharge p.command && is_same_bank p.command a.command) between)
-
--- the bank that the command is for is active
-abbrev pub is_bank_active : List Entry → Command → Bool
-is_bank_active history command = some_earlier (λ a between. stands_open a between && is_same_bank a.command command) history
-
--- the bank that the command is for is active with the command's row
-abbrev pub is_row_open : List Entry → Command → Bool
-is_row_open history command =
-    some_earlier (λ a between. stands_open a between && is_same_bank a.command command && row_of a.command == row_of command) history
-
--- the open row of a bank of rank 0, or none where the bank is idle
-abbrev pub IsOpenRow : List Entry → ℕ → ℕ → Option ℕ → Type 0
-IsOpenRow history group bank None = is_bank_active history (Pre 0 group bank) ≡ false
-IsOpenRow history group bank (Some row) = (other : ℕ) → is_row_open history (Act 0 group bank other) ≡ (other == row)
-
--- some bank of the command's rank is active
-abbrev pub is_rank_active : List Entry → Command → Bool
-is_rank_active history command = some_earlier (λ a between. stands_open a between && is_same_rank a.command command) history
-
--- STATE: an ACT finds its bank idle, a read or a write finds it active, and a REF finds all banks idle.
-abbrev pub breaks_state : List Entry → Command → Bool
-breaks_state history (Act rank group bank row) = is_bank_active history (Act rank group bank row)
-breaks_state history (Rd rank group bank row line) = not (is_bank_active history (Rd rank group bank row line))
-breaks_state history (Wr rank group bank row line) = not (is_bank_active history (Wr rank group bank row line))
-breaks_state history (Refresh rank) = is_rank_active history (Refresh rank)
-breaks_state history (Pre rank group bank) = false
-breaks_state history (PreAll rank) = false
+-- STATE: an ACT finds its bank idle, a read or a write finds it active and with no auto-precharge to come, and a REF
+-- finds all banks of its rank idle.
+abbrev pub breaks_state : Config → List Entry → Entry → Bool
+breaks_state c history e =
+    (is_activate e.command && is_active c.timing e.cycle (bank_behind e.command history))
+    || (is_column e.command && is_none (ready_row (bank_behind e.command history)))
+    || (is_refresh e.command && any_bank c.geometry (rank_of e.command) (λ bank. is_active c.timing e.cycle (bank_behind bank history)))
 
 -- ROW: the row of a read or a write is the open row of its bank.
-abbrev pub breaks_row : List Entry → Command → Bool
-breaks_row history command = is_column command && not (is_row_open history command)
+abbrev pub breaks_row : Timing → List Entry → Entry → Bool
+breaks_row t history e =
+    is_column e.command && not (is_row (open_row t e.cycle (bank_behind e.command history)) (row_of e.command))
+
+-- RP counts from the start of an auto-precharge too,
+abbrev pub breaks_rp : Timing → List Entry → Entry → Bool
+breaks_rp t history e =
+    breaks_spacing (spacing_of t rule.Rp) history e
+    || (is_activate e.command && is_auto_within t t.rp e.cycle (bank_behind e.command history))
+
+-- and so does RP_REF.
+abbrev pub breaks_rp_ref : Config → List Entry → Entry → Bool
+breaks_rp_ref c history e =
+    breaks_spacing (spacing_of c.timing rule.RpRef) history e
+    || (is_refresh e.command && any_bank c.geometry (rank_of e.command) (λ bank. is_auto_within c.timing c.timing.rp e.cycle (bank_behind bank history)))
+
+-- the clocks from a read or a write to its data: CL or CWL
+abbrev pub latency : Timing → Command → ℕ
+latency t command = if is_read command then t.cl else t.cwl
+
+-- RTRS: between data of different ranks the bus is free for RTRS clocks, and their commands stand a burst apart.
+abbrev pub rank_switch : Timing → Command → Command → ℕ
+rank_switch t a b = max BURST_CLOCKS (latency t a + BURST_CLOCKS + t.rtrs - latency t b)
+
+abbrev pub is_switched_too_soon : Timing → Entry → Entry → Bool
+is_switched_too_soon t a b =
+    is_column a.command && is_column b.command && not (is_same_rank a.command b.command)
+    && nat_lt b.cycle (a.cycle + rank_switch t a.command b.command)
+
+abbrev pub breaks_rtrs : Timing → List Entry → Entry → Bool
+breaks_rtrs t history e = list_any (λ a. is_switched_too_soon t a e) history
 
 -- FAW: an ACT and the fourth ACT of the rank after it.
 abbrev pub breaks_faw : Timing → List Entry → Entry → Bool
@@ -141,16 +154,19 @@ breaks_ref_gap t history e = some_earlier (λ a between.
     && refresh_count between e.command == 0
     && nat_lt (a.cycle + 9 * t.refi) e.cycle) history
 
--- REF_LATE at the trace's end: of K REFs the next one is due no later than start + (K + 9) * REFI.
-abbrev pub ends_late : Timing → ℕ → ℕ → List Entry → Bool
-ends_late t start end entries = nat_lt (start + (refresh_count entries (Refresh 0) + 9) * t.refi) end
+-- REF_LATE at the trace's end: of a rank's K REFs the next one is due no later than start + (K + 9) * REFI.
+abbrev pub ends_late : Config → ℕ → ℕ → List Entry → Bool
+ends_late c start end entries =
+    list_any (λ rank. nat_lt (start + (refresh_count entries (Refresh rank) + 9) * c.timing.refi) end) (range_with_len 0 c.geometry.ranks)
 
 -- The rules on the banks of a rank: the entry breaks the rule after its history, whatever the trace's start and end.
-abbrev pub breaks_on_rank : Timing → Rule → List Entry → Entry → Bool
-breaks_on_rank t rule.State history e = breaks_state history e.command
-breaks_on_rank t rule.Row history e = breaks_row history e.command
-breaks_on_rank t rule.Faw history e = breaks_faw t history e
-breaks_on_rank t r history e = breaks_spacing (spacing_of t r) history e
+abbrev pub breaks_on_rank : Config → Rule → List Entry → Entry → Bool
+breaks_on_rank c rule.State history e = breaks_state c history e
+breaks_on_rank c rule.Row history e = breaks_row c.timing history e
+breaks_on_rank c rule.Rp history e = breaks_rp c.timing history e
+breaks_on_rank c rule.Faw history e = breaks_faw c.timing history e
+breaks_on_rank c rule.RpRef history e = breaks_rp_ref c history e
+breaks_on_rank c r history e = breaks_spacing (spacing_of c.timing r) history e
 
 -- the entry breaks the rule, after its history, in a trace of this start and end
 abbrev pub breaks : Config → ℕ → ℕ → Rule → List Entry → Entry → Bool
@@ -158,7 +174,8 @@ breaks c start end rule.Order history e = breaks_order start end history e
 breaks c start end rule.Place history e = not (is_in c.geometry e.command)
 breaks c start end rule.RefLate history e = breaks_ref_late c.timing start history e
 breaks c start end rule.RefGap history e = breaks_ref_gap c.timing history e
-breaks c start end r history e = breaks_on_rank c.timing r history e
+breaks c start end rule.Rtrs history e = breaks_rtrs c.timing history e
+breaks c start end r history e = breaks_on_rank c r history e
 
 -- the rules on commands, which a legal trace keeps, are all but the two on refresh
 abbrev pub is_on_commands : Rule → Bool

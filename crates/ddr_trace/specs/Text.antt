@@ -4,7 +4,7 @@ use Rattle.std.specs.List.{flat_map, join_with_byte}
 use Rattle.std.specs.Fmt.{decimal}
 use Rattle.ddr_timing.specs.declared.units.TheConstants.{LINE_COLUMNS}
 use Rattle.ddr_trace.specs.declared.command.Command.{Command}
-use Rattle.ddr_trace.specs.declared.command.Command.TheVariants.{Act, Rd, Wr, Pre, PreAll, Refresh}
+use Rattle.ddr_trace.specs.declared.command.Command.TheVariants.{Act, Rd, Wr, RdAuto, WrAuto, Pre, PreAll, Refresh}
 use Rattle.ddr_trace.specs.declared.command.Entry.{Entry}
 
 -- a record: its fields with a comma between them, and a line feed
@@ -22,6 +22,10 @@ command_fields cycle (Rd rank group bank row line) =
     decimal cycle ∷ codes "RD" ∷ decimal rank ∷ decimal group ∷ decimal bank ∷ decimal row ∷ decimal (LINE_COLUMNS * line) ∷ []
 command_fields cycle (Wr rank group bank row line) =
     decimal cycle ∷ codes "WR" ∷ decimal rank ∷ decimal group ∷ decimal bank ∷ decimal row ∷ decimal (LINE_COLUMNS * line) ∷ []
+command_fields cycle (RdAuto rank group bank row line) =
+    decimal cycle ∷ codes "RDA" ∷ decimal rank ∷ decimal group ∷ decimal bank ∷ decimal row ∷ decimal (LINE_COLUMNS * line) ∷ []
+command_fields cycle (WrAuto rank group bank row line) =
+    decimal cycle ∷ codes "WRA" ∷ decimal rank ∷ decimal group ∷ decimal bank ∷ decimal row ∷ decimal (LINE_COLUMNS * line) ∷ []
 command_fields cycle (Pre rank group bank) =
     decimal cycle ∷ codes "PRE" ∷ decimal rank ∷ decimal group ∷ decimal bank ∷ [] ∷ [] ∷ []
 command_fields cycle (PreAll rank) = decimal cycle ∷ codes "PREA" ∷ decimal rank ∷ [] ∷ [] ∷ [] ∷ [] ∷ []

@@ -1,96 +1,138 @@
-//! Rules on the state of banks: whether a bank is active, and with which row.
-ghost use Rattle.std.specs.Prelude.{◌≡◌, ◌&&◌, ◌||◌, IsTrue};
-ghost use Rattle.std.specs.List.{list_any};
-ghost use Rattle.ddr_trace.specs.Commands.{is_activate, is_column, is_precharge, is_same_bank};
-ghost use Rattle.ddr_trace.specs.Rules.{breaks_row, breaks_state, is_bank_active, is_rank_active, is_row_open, stands_open};
+//! Rules on the state of banks: whether a bank is active in a cycle, with which row, and how long it has been closed.
+ghost use Rattle.std.specs.Prelude.{◌≡◌, ◌/◌, ◌%◌};
+ghost use Rattle.std.specs.Option.{is_none};
+ghost use Rattle.ddr_timing.specs.declared.units.TheConstants.{GROUP_BANKS};
+ghost use Rattle.ddr_trace.specs.declared.command.Command.TheVariants.{Pre};
+ghost use Rattle.ddr_trace.specs.Commands.{rank_of};
+ghost use Rattle.ddr_trace.specs.Banks.{any_bank, bank_behind, is_active, is_auto_within, open_row, ready_row};
+ghost use Rattle.ddr_trace.specs.Rules.{breaks_row, breaks_rp, breaks_rp_ref, breaks_state};
 
+use crate::bank::{OpenBank, bank_after};
 use crate::command::{Command, Entry};
+use crate::rule::Rule;
+use crate::spacing::breaks_spacing;
+use ddr_timing::config::Config;
+use ddr_timing::timing::Timing;
+use ddr_timing::units::GROUP_BANKS;
 
-/// Whether an ACT finds its bank active, a read or a write finds it idle, or a REF finds some bank active.
-pub(crate) fn breaks_state(history: &[Entry], command: &Command) -> bool
-    ensures { result ≡ breaks_state history.now command.now }
+/// Whether an ACT finds its bank active, a read or a write finds it idle or about to close, or a REF finds some bank active.
+pub(crate) fn breaks_state(history: &[Entry], entry: &Entry, config: &Config) -> bool
+    ensures { result ≡ breaks_state config.now history.now entry.now }
 {
-    match command {
-        Command::Act { .. } => is_bank_active(history, command),
-        Command::Rd { .. } | Command::Wr { .. } => !is_bank_active(history, command),
-        Command::Refresh { .. } => is_rank_active(history, command),
-        Command::Pre { .. } | Command::PreAll { .. } => false,
-    }
+    let command = &entry.command;
+    (command.is_activate() && is_active(history, command, entry.cycle, &config.timing))
+        || (command.is_column() && is_not_ready(history, command))
+        || (command.is_refresh() && is_rank_active(history, entry, config))
 }
 
 /// Whether a read or a write is of another row than the open one.
-pub(crate) fn breaks_row(history: &[Entry], command: &Command) -> bool
-    ensures { result ≡ breaks_row history.now command.now }
+pub(crate) fn breaks_row(history: &[Entry], entry: &Entry, timing: &Timing) -> bool
+    ensures { result ≡ breaks_row timing.now history.now entry.now }
 {
-    command.is_column() && !is_row_open(history, command)
+    let command = &entry.command;
+    command.is_column() && open_row(history, command, entry.cycle, timing) != Some(command.row())
 }
 
-/// Whether the bank of an ACT, a read or a write is active after the history.
-fn is_bank_active(history: &[Entry], command: &Command) -> bool
-    requires { IsTrue (is_activate command.now || is_column command.now) }
-    ensures { result ≡ is_bank_active history.now command.now }
+/// Whether an ACT comes too soon after a precharge of its bank, by PRE, PREA, RDA or WRA.
+pub(crate) fn breaks_rp(history: &[Entry], entry: &Entry, timing: &Timing) -> bool
+    ensures { result ≡ breaks_rp timing.now history.now entry.now }
 {
-    let mut earlier = history;
-    while let Some((last, before)) = earlier.split_last() {
-        if last.command.is_same_bank(command) {
-            if last.command.is_precharge() {
-                return false;
-            }
-            if last.command.is_activate() {
-                return true;
-            }
-        }
-        earlier = before;
+    breaks_spacing(Rule::Rp, history, entry, timing)
+        || (entry.command.is_activate()
+            && is_auto_within(history, &entry.command, entry.cycle, timing))
+}
+
+/// Whether a REF comes too soon after a precharge of a bank of its rank.
+pub(crate) fn breaks_rp_ref(history: &[Entry], entry: &Entry, config: &Config) -> bool
+    ensures { result ≡ breaks_rp_ref config.now history.now entry.now }
+{
+    breaks_spacing(Rule::RpRef, history, entry, &config.timing)
+        || (entry.command.is_refresh() && is_some_auto_within(history, entry, config))
+}
+
+/// What the history makes of the bank that the command is for.
+fn bank_behind(command: &Command, history: &[Entry]) -> Option<OpenBank>
+    ensures { result ≡ bank_behind command.now history.now }
+{
+    let mut bank = None;
+    for entry in history {
+        bank = bank_after(command, bank, entry);
     }
-    false
+    bank
 }
 
-/// Whether the bank of a read or a write is active with the command's row.
-fn is_row_open(history: &[Entry], command: &Command) -> bool
-    requires { IsTrue (is_column command.now) }
-    ensures { result ≡ is_row_open history.now command.now }
+/// The open row of the command's bank in this cycle.
+fn open_row(history: &[Entry], command: &Command, cycle: u64, timing: &Timing) -> Option<u32>
+    ensures { result ≡ open_row timing.now cycle (bank_behind command.now history.now) }
 {
-    let mut earlier = history;
-    while let Some((last, before)) = earlier.split_last() {
-        if last.command.is_same_bank(command) {
-            if last.command.is_precharge() {
-                return false;
-            }
-            if last.command.opens_row_of(command) {
-                return true;
-            }
-        }
-        earlier = before;
+    match bank_behind(command, history) {
+        Some(bank) => bank.open_row(cycle, timing),
+        None => None,
     }
-    false
 }
 
-/// Whether some bank of the command's rank is active after the history.
-fn is_rank_active(history: &[Entry], command: &Command) -> bool
-    ensures { result ≡ is_rank_active history.now command.now }
+/// Whether the command's bank is active in this cycle.
+fn is_active(history: &[Entry], command: &Command, cycle: u64, timing: &Timing) -> bool
+    ensures { result ≡ is_active timing.now cycle (bank_behind command.now history.now) }
 {
-    let mut later = history;
-    while let Some((first, after)) = later.split_first() {
-        if first.command.is_same_rank(command) && stands_open(first, after) {
-            return true;
-        }
-        later = after;
+    open_row(history, command, cycle, timing).is_some()
+}
+
+/// Whether a read or a write finds no row in the command's bank.
+fn is_not_ready(history: &[Entry], command: &Command) -> bool
+    ensures { result ≡ is_none (ready_row (bank_behind command.now history.now)) }
+{
+    match bank_behind(command, history) {
+        Some(bank) => bank.ready_row().is_none(),
+        None => true,
     }
-    false
 }
 
-/// Whether the entry is an ACT whose bank no precharge closes in what stands after it.
-fn stands_open(entry: &Entry, after: &[Entry]) -> bool
-    ensures { result ≡ stands_open entry.now after.now }
+/// Whether RP isn't over since the start of an auto-precharge of the command's bank.
+fn is_auto_within(history: &[Entry], command: &Command, cycle: u64, timing: &Timing) -> bool
+    ensures { result ≡ is_auto_within timing.now timing.now.rp cycle (bank_behind command.now history.now) }
 {
-    entry.command.is_activate() && !is_precharged(after, &entry.command)
+    match bank_behind(command, history) {
+        Some(bank) => bank.is_auto_within(cycle, timing),
+        None => false,
+    }
 }
 
-/// Whether some entry is a precharge of the command's bank.
-fn is_precharged(entries: &[Entry], command: &Command) -> bool
-    ensures { result ≡ list_any (λ p. is_precharge p.command && is_same_bank p.command command.now) entries.now }
+/// Whether some bank of the entry's rank is active in the entry's cycle.
+fn is_rank_active(history: &[Entry], entry: &Entry, config: &Config) -> bool
+    ensures { result ≡ any_bank config.now.geometry (rank_of entry.now.command)
+        (λ bank. is_active config.now.timing entry.now.cycle (bank_behind bank history.now)) }
 {
-    entries
-        .iter()
-        .any(|p| p.command.is_precharge_of_bank(command))
+    let rank = entry.command.rank();
+    (0..config.geometry.groups * GROUP_BANKS).any(|number| is_active(
+        history,
+        &bank_of(rank, number),
+        entry.cycle,
+        &config.timing,
+    ))
+}
+
+/// Whether RP isn't over since the start of an auto-precharge of some bank of the entry's rank.
+fn is_some_auto_within(history: &[Entry], entry: &Entry, config: &Config) -> bool
+    ensures { result ≡ any_bank config.now.geometry (rank_of entry.now.command)
+        (λ bank. is_auto_within config.now.timing config.now.timing.rp entry.now.cycle (bank_behind bank history.now)) }
+{
+    let rank = entry.command.rank();
+    (0..config.geometry.groups * GROUP_BANKS).any(|number| is_auto_within(
+        history,
+        &bank_of(rank, number),
+        entry.cycle,
+        &config.timing,
+    ))
+}
+
+/// The bank of this number in its rank, as the PRE of it.
+fn bank_of(rank: u32, number: u32) -> Command
+    ensures { result ≡ Pre rank (number / GROUP_BANKS) (number % GROUP_BANKS) }
+{
+    Command::Pre {
+        rank,
+        group: number / GROUP_BANKS,
+        bank: number % GROUP_BANKS,
+    }
 }

@@ -1,7 +1,7 @@
 //! The checker: which rule an entry breaks after its history, and the first fault of a trace.
 //!
 //! It is a plain scan of the whole history, and keeps no state from one entry to the next. Below stand
-//! `banks`, `spacing` and `window`, one function for each kind of rule.
+//! `banks`, `spacing`, `window` and `ranks`, one function for each kind of rule.
 ghost use Rattle.std.specs.Prelude.{◌≡◌, ◌↔◌, IfNone, IfSome, IsNone};
 ghost use Rattle.ddr_trace.specs.Bus.{KeepsBus};
 ghost use Rattle.ddr_trace.specs.Rules.{breaks};
@@ -9,7 +9,7 @@ ghost use Rattle.ddr_trace.specs.Legality.{IsFirstFault, IsLegal, IsRefreshed, l
 
 use crate::command::Entry;
 use crate::rule::Rule;
-use crate::{banks, spacing, window};
+use crate::{banks, ranks, spacing, window};
 use ddr_timing::config::Config;
 
 /// A rule that a trace breaks, and where.
@@ -35,7 +35,7 @@ pub fn first_fault(entries: &[Entry], config: &Config, start: u64, end: u64) -> 
             return Some(Fault { place, rule });
         }
     }
-    if window::ends_late(entries, &config.timing, start, end) {
+    if window::ends_late(entries, config, start, end) {
         return Some(Fault {
             place: entries.len(),
             rule: Rule::RefLate,
@@ -96,8 +96,11 @@ fn breaks(
     match rule {
         Rule::Order => window::breaks_order(history, entry, start, end),
         Rule::Place => !entry.command.is_in(&config.geometry),
-        Rule::State => banks::breaks_state(history, &entry.command),
-        Rule::Row => banks::breaks_row(history, &entry.command),
+        Rule::State => banks::breaks_state(history, entry, config),
+        Rule::Row => banks::breaks_row(history, entry, timing),
+        Rule::Rp => banks::breaks_rp(history, entry, timing),
+        Rule::RpRef => banks::breaks_rp_ref(history, entry, config),
+        Rule::Rtrs => ranks::breaks_rtrs(history, entry, timing),
         Rule::Faw => window::breaks_faw(history, entry, timing),
         Rule::RefLate => window::breaks_ref_late(history, entry, timing, start),
         Rule::RefGap => window::breaks_ref_gap(history, entry, timing),

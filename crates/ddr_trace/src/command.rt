@@ -1,6 +1,6 @@
 //! Commands on a channel's command bus.
 ghost use Rattle.std.specs.Prelude.{◌≡◌, ◌+◌, ◌&&◌, ◌==◌, nat_lt};
-ghost use Rattle.ddr_trace.specs.Commands.{bank_of, group_of, is_activate, is_column, is_of_all_banks, is_other_bank, is_other_group, is_precharge, is_read, is_refresh, is_same_bank, is_same_group, is_same_kind, is_same_rank, is_write, rank_of, row_of};
+ghost use Rattle.ddr_trace.specs.Commands.{bank_of, group_of, is_activate, is_auto, is_column, is_of_all_banks, is_other_bank, is_other_group, is_precharge, is_read, is_refresh, is_same_bank, is_same_group, is_same_kind, is_same_rank, is_write, rank_of, row_of};
 ghost use Rattle.ddr_trace.specs.Rules.{is_bank_in, is_in};
 
 use ddr_timing::geometry::Geometry;
@@ -32,6 +32,22 @@ pub enum Command {
         row: u32,
         line: u32,
     },
+    /// RDA: a read that starts its bank's precharge by itself (JESD79-4, "Auto-Precharge").
+    RdAuto {
+        rank: u32,
+        group: u32,
+        bank: u32,
+        row: u32,
+        line: u32,
+    },
+    /// WRA: a write that starts its bank's precharge by itself.
+    WrAuto {
+        rank: u32,
+        group: u32,
+        bank: u32,
+        row: u32,
+        line: u32,
+    },
     /// PRE: closes the row of a bank.
     Pre {
         rank: u32,
@@ -56,7 +72,7 @@ pub struct Entry {
 }
 
 impl Command {
-    /// Whether the command's rank is 0 and its group, bank, row and line lie in the geometry.
+    /// Whether the command's rank, group, bank, row and line lie in the geometry.
     pub fn is_in(&self, geometry: &Geometry) -> bool
         ensures { result ≡ is_in geometry.now self.now }
     {
@@ -81,9 +97,23 @@ impl Command {
                 bank,
                 row,
                 line,
+            }
+            | Command::RdAuto {
+                rank,
+                group,
+                bank,
+                row,
+                line,
+            }
+            | Command::WrAuto {
+                rank,
+                group,
+                bank,
+                row,
+                line,
             } => is_bank_in(geometry, rank, group, bank) && row < geometry.rows && line < lines,
             Command::Pre { rank, group, bank } => is_bank_in(geometry, rank, group, bank),
-            Command::PreAll { rank } | Command::Refresh { rank } => rank == 0,
+            Command::PreAll { rank } | Command::Refresh { rank } => rank < geometry.ranks,
         }
     }
 
@@ -96,20 +126,27 @@ impl Command {
     pub(crate) fn is_read(&self) -> bool
         ensures { result ≡ is_read self.now }
     {
-        matches!(self, Command::Rd { .. })
+        matches!(self, Command::Rd { .. } | Command::RdAuto { .. })
     }
 
     pub(crate) fn is_write(&self) -> bool
         ensures { result ≡ is_write self.now }
     {
-        matches!(self, Command::Wr { .. })
+        matches!(self, Command::Wr { .. } | Command::WrAuto { .. })
     }
 
     /// Whether this is a read or a write.
     pub(crate) fn is_column(&self) -> bool
         ensures { result ≡ is_column self.now }
     {
-        matches!(self, Command::Rd { .. } | Command::Wr { .. })
+        self.is_read() || self.is_write()
+    }
+
+    /// Whether this is a read or a write with auto-precharge.
+    pub(crate) fn is_auto(&self) -> bool
+        ensures { result ≡ is_auto self.now }
+    {
+        matches!(self, Command::RdAuto { .. } | Command::WrAuto { .. })
     }
 
     pub(crate) fn is_precharge(&self) -> bool
@@ -131,6 +168,8 @@ impl Command {
             Command::Act { rank, .. }
             | Command::Rd { rank, .. }
             | Command::Wr { rank, .. }
+            | Command::RdAuto { rank, .. }
+            | Command::WrAuto { rank, .. }
             | Command::Pre { rank, .. }
             | Command::PreAll { rank }
             | Command::Refresh { rank } => rank,
@@ -145,6 +184,8 @@ impl Command {
             Command::Act { group, .. }
             | Command::Rd { group, .. }
             | Command::Wr { group, .. }
+            | Command::RdAuto { group, .. }
+            | Command::WrAuto { group, .. }
             | Command::Pre { group, .. } => group,
             Command::PreAll { .. } | Command::Refresh { .. } => 0,
         }
@@ -158,26 +199,25 @@ impl Command {
             Command::Act { bank, .. }
             | Command::Rd { bank, .. }
             | Command::Wr { bank, .. }
+            | Command::RdAuto { bank, .. }
+            | Command::WrAuto { bank, .. }
             | Command::Pre { bank, .. } => bank,
             Command::PreAll { .. } | Command::Refresh { .. } => 0,
         }
     }
 
     /// The row, 0 where the command names none.
-    fn row(&self) -> u32
+    pub(crate) fn row(&self) -> u32
         ensures { result ≡ row_of self.now }
     {
         match *self {
-            Command::Act { row, .. } | Command::Rd { row, .. } | Command::Wr { row, .. } => row,
+            Command::Act { row, .. }
+            | Command::Rd { row, .. }
+            | Command::Wr { row, .. }
+            | Command::RdAuto { row, .. }
+            | Command::WrAuto { row, .. } => row,
             _ => 0,
         }
-    }
-
-    /// Whether this is an ACT of the other command's row number.
-    pub(crate) fn opens_row_of(&self, other: &Command) -> bool
-        ensures { result ≡ (is_activate self.now && row_of self.now == row_of other.now) }
-    {
-        self.is_activate() && self.row() == other.row()
     }
 
     fn is_of_all_banks(&self) -> bool
@@ -204,13 +244,6 @@ impl Command {
         ensures { result ≡ (is_refresh self.now && is_same_rank self.now other.now) }
     {
         self.is_refresh() && self.is_same_rank(other)
-    }
-
-    /// Whether this is a precharge of the other command's bank.
-    pub(crate) fn is_precharge_of_bank(&self, other: &Command) -> bool
-        ensures { result ≡ (is_precharge self.now && is_same_bank self.now other.now) }
-    {
-        self.is_precharge() && self.is_same_bank(other)
     }
 
     pub(crate) fn is_same_group(&self, other: &Command) -> bool
@@ -256,11 +289,17 @@ impl Entry {
     pub(crate) fn is_within(&self, clocks: u32, earlier: &Entry) -> bool
         ensures { result ≡ nat_lt self.now.cycle (earlier.now.cycle + clocks) }
     {
-        let cycle = self.cycle;
-        match earlier.cycle.checked_add(u64::from(clocks)) {
-            Some(end) => cycle < end,
-            None => true,
-        }
+        is_before(self.cycle, earlier.cycle, clocks)
+    }
+}
+
+/// Whether the cycle stands fewer than `clocks` after the earlier one, or before it.
+pub fn is_before(cycle: u64, earlier: u64, clocks: u32) -> bool
+    ensures { result ≡ nat_lt cycle (earlier + clocks) }
+{
+    match earlier.checked_add(u64::from(clocks)) {
+        Some(end) => cycle < end,
+        None => true,
     }
 }
 
@@ -268,5 +307,5 @@ impl Entry {
 fn is_bank_in(geometry: &Geometry, rank: u32, group: u32, bank: u32) -> bool
     ensures { result ≡ is_bank_in geometry.now rank group bank }
 {
-    rank == 0 && group < geometry.groups && bank < GROUP_BANKS
+    rank < geometry.ranks && group < geometry.groups && bank < GROUP_BANKS
 }

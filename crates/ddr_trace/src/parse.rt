@@ -4,7 +4,7 @@
 //! records.
 ghost use Rattle.std.specs.Prelude.{◌≡◌, ◌&&◌, [], get_or};
 ghost use Rattle.csv.specs.Records.{fields_of};
-ghost use Rattle.ddr_trace.specs.Parse.{act_of, are_empty, command_of, index_of, is_empty, is_header, line_of, pre_of, prea_of, rd_of, record_of, ref_of, seven_of, wr_of};
+ghost use Rattle.ddr_trace.specs.Parse.{act_of, are_empty, command_of, index_of, is_empty, is_header, line_of, pre_of, prea_of, rd_of, rda_of, record_of, ref_of, seven_of, wr_of, wra_of};
 
 use crate::command::{Command, Entry};
 use crate::number::parse_number;
@@ -108,6 +108,10 @@ impl Address<'_> {
             self.read()
         } else if name == b"WR".as_slice() {
             self.write()
+        } else if name == b"RDA".as_slice() {
+            self.read_auto()
+        } else if name == b"WRA".as_slice() {
+            self.write_auto()
         } else if name == b"PRE".as_slice() {
             self.precharge()
         } else if name == b"PREA".as_slice() {
@@ -150,6 +154,32 @@ impl Address<'_> {
         ensures { result ≡ wr_of self.now.rank.now self.now.group.now self.now.bank.now self.now.row.now self.now.column.now }
     {
         Some(Command::Wr {
+            rank: index(self.rank)?,
+            group: index(self.group)?,
+            bank: index(self.bank)?,
+            row: index(self.row)?,
+            line: line(self.column)?,
+        })
+    }
+
+    #[tactic(auto, unfolding(crate::specs::Parse::rda_of))]
+    fn read_auto(&self) -> Option<Command>
+        ensures { result ≡ rda_of self.now.rank.now self.now.group.now self.now.bank.now self.now.row.now self.now.column.now }
+    {
+        Some(Command::RdAuto {
+            rank: index(self.rank)?,
+            group: index(self.group)?,
+            bank: index(self.bank)?,
+            row: index(self.row)?,
+            line: line(self.column)?,
+        })
+    }
+
+    #[tactic(auto, unfolding(crate::specs::Parse::wra_of))]
+    fn write_auto(&self) -> Option<Command>
+        ensures { result ≡ wra_of self.now.rank.now self.now.group.now self.now.bank.now self.now.row.now self.now.column.now }
+    {
+        Some(Command::WrAuto {
             rank: index(self.rank)?,
             group: index(self.group)?,
             bank: index(self.bank)?,

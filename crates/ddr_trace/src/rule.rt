@@ -28,11 +28,12 @@ pub enum Rule {
     Rfc,
     RefLate,
     RefGap,
+    Rtrs,
 }
 
 impl Rule {
     /// All rules, in the order in which faults at one place are told.
-    pub const ALL: [Rule; 22] = [
+    pub const ALL: [Rule; 23] = [
         Rule::Order,
         Rule::Place,
         Rule::State,
@@ -55,6 +56,7 @@ impl Rule {
         Rule::Rfc,
         Rule::RefLate,
         Rule::RefGap,
+        Rule::Rtrs,
     ];
 
     /// Whether a legal trace has to keep the rule: all but the two on refresh.
@@ -91,6 +93,7 @@ impl Rule {
             Rule::Rfc => "RFC",
             Rule::RefLate => "REF_LATE",
             Rule::RefGap => "REF_GAP",
+            Rule::Rtrs => "RTRS",
         }
     }
 }

@@ -145,6 +145,26 @@ fn write_entry(alloc: Global, table: &mut Writer<Vec<u8>>, entry: &Entry) -> Res
             let numbers = column_numbers(rank, group, bank, row, line);
             write_record(alloc, table, cycle, b"WR", &numbers)
         }
+        Command::RdAuto {
+            rank,
+            group,
+            bank,
+            row,
+            line,
+        } => {
+            let numbers = column_numbers(rank, group, bank, row, line);
+            write_record(alloc, table, cycle, b"RDA", &numbers)
+        }
+        Command::WrAuto {
+            rank,
+            group,
+            bank,
+            row,
+            line,
+        } => {
+            let numbers = column_numbers(rank, group, bank, row, line);
+            write_record(alloc, table, cycle, b"WRA", &numbers)
+        }
         Command::Pre { rank, group, bank } => {
             let numbers = [u64::from(rank), u64::from(group), u64::from(bank)];
             write_record(alloc, table, cycle, b"PRE", &numbers)

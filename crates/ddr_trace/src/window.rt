@@ -4,6 +4,7 @@ ghost use Rattle.ddr_trace.specs.Rules.{breaks_faw, breaks_order, breaks_ref_gap
 
 use crate::command::{Command, Entry};
 use crate::refresh::{is_gap_too_long, is_overdue};
+use ddr_timing::config::Config;
 use ddr_timing::timing::Timing;
 
 /// Whether the entry's cycle is not above that of the entry before, below `start`, or not below `end`.
@@ -57,12 +58,14 @@ pub(crate) fn breaks_ref_late(history: &[Entry], entry: &Entry, timing: &Timing,
         )
 }
 
-/// Whether the trace ends after the deadline of the REF that it would need next.
-pub(crate) fn ends_late(entries: &[Entry], timing: &Timing, start: u64, end: u64) -> bool
-    ensures { result ≡ ends_late timing.now start end entries.now }
+/// Whether the trace ends after the deadline of the REF that some rank would need next.
+pub(crate) fn ends_late(entries: &[Entry], config: &Config, start: u64, end: u64) -> bool
+    ensures { result ≡ ends_late config.now start end entries.now }
 {
-    let refreshes = refresh_count(entries, &Command::Refresh { rank: 0 });
-    is_overdue(refreshes, timing, start, end)
+    (0..config.geometry.ranks).any(|rank| {
+        let refreshes = refresh_count(entries, &Command::Refresh { rank });
+        is_overdue(refreshes, &config.timing, start, end)
+    })
 }
 
 /// Whether the entry is a REF more than 9 REFI after the REF before.

@@ -1,9 +1,8 @@
 //! Which rules a command would break: for each command its rules, and what each is measured from.
-ghost use Rattle.std.specs.Prelude.{◌≡◌, ◌<◌, IsTrue, is_some};
-ghost use Rattle.std.specs.List.{list_any};
+ghost use Rattle.std.specs.Prelude.{◌≡◌, ◌<◌, IsTrue};
 ghost use Rattle.ddr_timing.specs.declared.units.TheConstants.{GROUP_BANKS};
 ghost use Rattle.ddr_trace.specs.Rules.{is_in};
-ghost use Rattle.ddr_rank.specs.Breaks.{activate_breaks, all_groups, any_precharge, breaks_now, is_open, other_banks, other_groups, precharge_all_breaks, precharge_breaks, read_breaks, refresh_breaks, write_breaks};
+ghost use Rattle.ddr_rank.specs.Breaks.{activate_breaks, all_groups, any_active, any_auto_within, any_precharge, breaks_now, other_banks, other_groups, precharge_all_breaks, precharge_breaks, read_breaks, refresh_breaks, write_breaks};
 ghost use Rattle.ddr_rank.specs.Readiness.{fourth_activate};
 
 use super::Rank;
@@ -26,8 +25,20 @@ impl Rank {
                 bank,
                 row,
                 ..
+            }
+            | Command::RdAuto {
+                group,
+                bank,
+                row,
+                ..
             } => self.read_breaks(rule, cycle, group, bank, row),
             Command::Wr {
+                group,
+                bank,
+                row,
+                ..
+            }
+            | Command::WrAuto {
                 group,
                 bank,
                 row,
@@ -47,9 +58,9 @@ impl Rank {
         let t = &self.config.timing;
         let kept = self.bank(group, bank);
         match rule {
-            Rule::State => kept.row.is_some(),
+            Rule::State => kept.open_row(cycle, t).is_some(),
             Rule::Rc => is_within(t.rc, cycle, kept.last.activate),
-            Rule::Rp => is_within(t.rp, cycle, kept.precharge),
+            Rule::Rp => is_within(t.rp, cycle, kept.precharge) || kept.is_auto_within(cycle, t),
             Rule::RrdL => is_within(t.rrd_l, cycle, self.other_banks(group, bank)),
             Rule::RrdS => is_within(t.rrd_s, cycle, self.other_groups(Kind::Activate, group)),
             Rule::Faw => is_within(t.faw, cycle, self.fourth_activate()),
@@ -68,8 +79,8 @@ impl Rank {
         let kept = self.bank(group, bank);
         let in_group = self.group(group);
         match rule {
-            Rule::State => kept.row.is_none(),
-            Rule::Row => !is_open(kept.row, row),
+            Rule::State => kept.ready_row().is_none(),
+            Rule::Row => kept.open_row(cycle, t) != Some(row),
             Rule::Rcd => is_within(t.rcd, cycle, kept.last.activate),
             Rule::CcdL => is_within(t.ccd_l, cycle, in_group.read),
             Rule::CcdS => is_within(t.ccd_s, cycle, self.other_groups(Kind::Read, group)),
@@ -91,8 +102,8 @@ impl Rank {
         let t = &self.config.timing;
         let kept = self.bank(group, bank);
         match rule {
-            Rule::State => kept.row.is_none(),
-            Rule::Row => !is_open(kept.row, row),
+            Rule::State => kept.ready_row().is_none(),
+            Rule::Row => kept.open_row(cycle, t) != Some(row),
             Rule::Rcd => is_within(t.rcd, cycle, kept.last.activate),
             Rule::CcdL => is_within(t.ccd_l, cycle, self.group(group).write),
             Rule::CcdS => is_within(t.ccd_s, cycle, self.other_groups(Kind::Write, group)),
@@ -139,18 +150,31 @@ impl Rank {
     {
         let t = &self.config.timing;
         match rule {
-            Rule::State => self.is_active(),
-            Rule::RpRef => is_within(t.rp, cycle, self.any_precharge()),
+            Rule::State => self.is_active(cycle),
+            Rule::RpRef => {
+                is_within(t.rp, cycle, self.any_precharge()) || self.is_some_auto_within(cycle)
+            }
             Rule::Rfc => is_within(t.rfc, cycle, self.refresh),
             _ => false,
         }
     }
 
-    /// Whether some bank has an open row.
-    fn is_active(&self) -> bool
-        ensures { result ≡ list_any (λ bank. is_some bank.row) self.now.banks }
+    /// Whether some bank has an open row in this cycle.
+    fn is_active(&self, cycle: u64) -> bool
+        ensures { result ≡ any_active self.now cycle }
     {
-        self.banks.iter().any(|bank| bank.row.is_some())
+        let t = &self.config.timing;
+        self.banks
+            .iter()
+            .any(|bank| bank.open_row(cycle, t).is_some())
+    }
+
+    /// Whether RP isn't over since the start of some bank's auto-precharge.
+    fn is_some_auto_within(&self, cycle: u64) -> bool
+        ensures { result ≡ any_auto_within self.now cycle }
+    {
+        let t = &self.config.timing;
+        self.banks.iter().any(|bank| bank.is_auto_within(cycle, t))
     }
 
     /// The last ACT of the group's other banks.
@@ -211,15 +235,5 @@ impl Rank {
         } else {
             None
         }
-    }
-}
-
-/// Whether the row is the bank's open one.
-fn is_open(opened: Option<u32>, row: u32) -> bool
-    ensures { result ≡ is_open opened row }
-{
-    match opened {
-        Some(opened) => row == opened,
-        None => false,
     }
 }

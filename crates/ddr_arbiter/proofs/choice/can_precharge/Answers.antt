@@ -11,7 +11,7 @@ returns-then-not-wanted-bank_number c waiting places marked = elim c.if-row-at.b
   | then-row-at w ↦
       c.may.ensures ∙ ap (is_legal_now c.args.legality.now.bus) c.precharge_at.ensures
       ∙ unmarked_precharged c.args.legality.now.bus waiting places c.args.wanted.now c.args.at c.in-Some.row marked c.requires
-      c.in-Some.ensures (ne_eqb c.in-Some.row c.args.at.row w.if-row-at.true)
+      (sym c.in-Some.ensures) (ne_eqb c.in-Some.row c.args.at.row w.if-row-at.true)
       (ap (λ n. get_or c.args.wanted.now n false) (sym w.bank_number.ensures) ∙ not-true _ (sym w.value-is ∙ c.if-not-wanted-bank_number.true))
   | else-row-at w ↦
       absurd (true≢false (sym c.if-not-wanted-bank_number.true ∙ w.value-is ∙ ap not (eq-eqb c.in-Some.row c.args.at.row w.if-row-at.false)))
@@ -25,5 +25,5 @@ returns-else-not-wanted-bank_number c waiting places marked = elim c.if-row-at.b
       (ap (λ n. get_or c.args.wanted.now n false) (sym w.bank_number.ensures) ∙ not-false _ (sym w.value-is ∙ c.if-not-wanted-bank_number.false))
   | else-row-at w ↦
       w.value-is ∙ ap not (eq-eqb c.in-Some.row c.args.at.row w.if-row-at.false)
-      ∙ own_row_kept c.args.legality.now.bus waiting places c.args.at c.in-Some.row c.in-Some.ensures (eq-eqb c.in-Some.row c.args.at.row w.if-row-at.false)
+      ∙ own_row_kept c.args.legality.now.bus waiting places c.args.at c.in-Some.row (sym c.in-Some.ensures) (eq-eqb c.in-Some.row c.args.at.row w.if-row-at.false)
 ]

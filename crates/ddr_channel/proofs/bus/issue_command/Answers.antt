@@ -8,12 +8,12 @@ use Rattle.ddr_channel.proofs.bus.issue_command.Goals as goal
 
 pub follow-requires-clause-may : goal.follow-requires-clause-may
 follow-requires-clause-may c =
-    may_follow c.args.config.now c.args.legality.now.bus c.args.rows.now c.args.legality.now.spare c.args.command c.requires.of_config c.requires.legal c.requires.agrees c.requires.ready
+    may_follow c.args.config.now c.args.legality.now.bus c.args.rows.now c.args.legality.now.spare c.args.command c.requires.of_config c.requires.legal c.requires.ranked c.requires.agrees c.requires.ready
 
 pub returns-in-Refresh-clause-agrees : goal.returns-in-Refresh-clause-agrees
 returns-in-Refresh-clause-agrees c =
     subst (λ (b : Bus). AgreesWith c.args.config.now b.trace c.follow.new.rows) (sym c.«record».ensures.bus)
-    (agrees_after c.args.config.now c.args.legality.now.bus c.args.command c.args.rows.now c.follow.new.rows c.requires.legal c.requires.agrees c.follow.ensures.bytes.shape c.follow.ensures.opened)
+    (agrees_after c.args.config.now c.args.legality.now.bus c.args.command c.args.rows.now c.follow.new.rows c.requires.agrees c.follow.ensures.bytes.shape c.follow.ensures.opened)
 
 pub returns-in_default : goal.returns-in_default
 returns-in_default c = record {
@@ -21,7 +21,7 @@ returns-in_default c = record {
   spare = entry_takes c.args.command c.args.legality.now c.«record».new.self c.«record».ensures.bus c.«record».ensures.spare;
   opened = c.follow.ensures.opened;
   agrees = subst (λ (b : Bus). AgreesWith c.args.config.now b.trace c.follow.new.rows) (sym c.«record».ensures.bus)
-      (agrees_after c.args.config.now c.args.legality.now.bus c.args.command c.args.rows.now c.follow.new.rows c.requires.legal c.requires.agrees c.follow.ensures.bytes.shape c.follow.ensures.opened);
+      (agrees_after c.args.config.now c.args.legality.now.bus c.args.command c.args.rows.now c.follow.new.rows c.requires.agrees c.follow.ensures.bytes.shape c.follow.ensures.opened);
   bytes = c.follow.ensures.bytes;
   debt = no_refresh c.args.command c.args.debt.now c.in_default.not-Refresh;
 }

@@ -3,8 +3,16 @@ use Rattle.ddr_text.specs.Input.{IsText}
 use Rattle.std.proofs.lemmas.Result.{err_from_is_err_and}
 use Rattle.ddr_timing.specs.declared.profile.TheConstants.{PROFILE_S}
 use Rattle.ddr_text.specs.MapText.{map_text}
-use Rattle.ddr_text.proofs.MapLemmas.{map_fault, map_unwritten, map_written, said_of}
+use Rattle.ddr_text.proofs.MapLemmas.{map_fault, map_unwritten, map_written, opening_fault, said_of}
 use Rattle.ddr_text.proofs.map.map.Goals as goal
+
+pub returns-in_err-config-clause-fault : goal.returns-in_err-config-clause-fault
+returns-in_err-config-clause-fault g c =
+    let text = c.in_ok-text.ensures.text in
+    let same = text.0 ∙ c.as_slice.ensures.value in
+    let is_text = subst IsText c.as_slice.ensures.value text.1 in
+    let p = err_from_is_err_and c.from_residual-in_err-config.result c.from_residual-in_err-config.ensures.1 in
+    rw (p.1, p.2) (opening_fault (g.R.Read.remaining c.args.reader.now) c.in_ok-input.input.items c.in_ok-text.text.now PROFILE_S.now c.args.sample c.in_err-config.field-0.0 c.in_ok-input.ensures.all same is_text c.in_err-config.ensures.refused)
 
 pub returns-in_err-lines-clause-fault : goal.returns-in_err-lines-clause-fault
 returns-in_err-lines-clause-fault g c =

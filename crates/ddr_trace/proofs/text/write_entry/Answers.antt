@@ -25,3 +25,11 @@ returns-in-PreAll-clause-text c = rw c.in-PreAll.is (rw (c.from-in-PreAll.ensure
 pub returns-in-Refresh-clause-text : goal.returns-in-Refresh-clause-text
 unfolding command_fields
 returns-in-Refresh-clause-text c = rw c.in-Refresh.is (rw (c.from-in-Refresh.ensures) at c.write_record-in-Refresh.ensures.text)
+
+pub returns-in-RdAuto-clause-text : goal.returns-in-RdAuto-clause-text
+unfolding command_fields
+returns-in-RdAuto-clause-text c = rw c.in-RdAuto.is (rw (c.column_numbers-numbers-in-RdAuto.ensures) at c.write_record-in-RdAuto.ensures.text)
+
+pub returns-in-WrAuto-clause-text : goal.returns-in-WrAuto-clause-text
+unfolding command_fields
+returns-in-WrAuto-clause-text c = rw c.in-WrAuto.is (rw (c.column_numbers-numbers-in-WrAuto.ensures) at c.write_record-in-WrAuto.ensures.text)

@@ -10,7 +10,7 @@ use Rattle.ddr_channel.specs.Issue.{bus_with, refreshes_with}
 use Rattle.ddr_channel.specs.Kept.{Kept, state_of, AgreesWith}
 use Rattle.ddr_channel.specs.Room.{KeepsRoom, wants_memory}
 use Rattle.ddr_channel.specs.View.{kept_of}
-use Rattle.ddr_channel.proofs.CycleLemmas.{choosing, chosen_legal, chosen_due, chosen_room, chosen_served, Made, after, state_after, whole_after, state_refused}
+use Rattle.ddr_channel.proofs.CycleLemmas.{choosing, chosen_legal, chosen_rank, chosen_due, chosen_room, chosen_served, Made, after, state_after, whole_after, state_refused}
 use Rattle.ddr_channel.proofs.IssueLemmas.{agrees_ready}
 use Rattle.ddr_channel.proofs.RoomLemmas.{wanted}
 use Rattle.ddr_channel.proofs.channel.Channel.make_cycle.Goals as goal
@@ -46,6 +46,9 @@ issue-requires-clause-legal c =
     let chosen = c.choice-choice.ensures ∙ ap (λ (k : Kept). choice_of (at_choice (state_of k))) (sym c.self.view_is) in
     subst (λ (b : Bus). IfSome c.command_of-command.result (λ d. broken_now b d ≡ None)) (sym c.reserve.ensures.bus)
     (chosen_legal c.self.inside c.choice-choice.result c.command_of-command.result c.self.invariant chosen c.command_of-command.ensures)
+
+pub issue-requires-clause-ranked : goal.issue-requires-clause-ranked
+issue-requires-clause-ranked c = chosen_rank c.self.inside.pending.waiting c.choice-choice.result c.command_of-command.result c.command_of-command.ensures
 
 pub issue-requires-clause-agrees : goal.issue-requires-clause-agrees
 issue-requires-clause-agrees c =

@@ -1,6 +1,7 @@
 -- The rules on commands come first, and then those on refresh.
 use Rattle.std.proofs.Common.{sym, ◌∙◌}
-use Rattle.ddr_legality.proofs.BrokenLemmas.{command_first, rank_here, then_refresh}
+use Rattle.ddr_legality.proofs.BrokenLemmas.{command_first, place_kept, then_refresh}
+use Rattle.ddr_legality.proofs.PassedLemmas.{counted_of}
 use Rattle.ddr_legality.proofs.checker.SoFar.lowest.Goals as goal
 
 pub returns-in-Some : goal.returns-in-Some
@@ -13,5 +14,5 @@ returns c = λ history passed.
     let i = c.args.self.now.issued in
     let e = c.args.entry.now in
     let none = sym (c.broken_by.ensures history passed.issued) ∙ c.in_default.is in
-    c.broken_by-2.ensures history passed.refreshes (rank_here i.config i.start c.args.end history e none)
+    c.broken_by-2.ensures history (rw c.refreshes_of.ensures (counted_of c.args.self.now history e passed (place_kept i.config i.start c.args.end history e none)))
     ∙ sym (then_refresh i.config i.start c.args.end history e none)

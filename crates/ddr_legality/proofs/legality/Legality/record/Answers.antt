@@ -1,7 +1,7 @@
 -- A command that breaks no rule leaves the trace legal.
 use Rattle.std.proofs.Common.{◌+◌}
 use Rattle.ddr_trace.specs.Commands.{entry}
-use Rattle.ddr_legality.proofs.BrokenLemmas.{place_kept}
+use Rattle.ddr_legality.proofs.BrokenLemmas.{after_kept, place_kept}
 use Rattle.ddr_legality.proofs.LegalLemmas.{IsLegal-append, keeps_from_none}
 use Rattle.ddr_legality.proofs.legality.Legality.record.Goals as goal
 
@@ -14,7 +14,9 @@ pub invariant_of-self : goal.invariant_of-self
 invariant_of-self c = record {
   issued =
       let a = c.self.inside in
-      rw c.push_reserved.ensures.items (c.issue.ensures.issued a.entries.items (a.now + 1) c.self.invariant.issued (rw (← c.self.view_is) at c.requires.legal));
+      let e = entry a.now c.args.command in
+      let after = after_kept a.issued.config a.issued.start (a.now + 1) a.entries.items e (rw (← c.self.view_is) at c.requires.legal) in
+      rw c.push_reserved.ensures.items (c.issue.ensures.issued a.entries.items c.self.invariant.issued after);
   legal =
       let a = c.self.inside in
       let e = entry a.now c.args.command in

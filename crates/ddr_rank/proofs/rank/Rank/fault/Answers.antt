@@ -5,4 +5,4 @@ use Rattle.ddr_rank.proofs.rank.Rank.fault.Goals as goal
 
 pub returns : goal.returns
 returns c = λ history stands after.
-    c.lowest.ensures ∙ lowest_rule-alike _ _ (law c.args.self.now history stands c.args.cycle c.args.command c.requires)
+    c.lowest.ensures ∙ lowest_rule-alike _ _ (law c.args.self.now history c.args.cycle c.args.command stands c.requires)

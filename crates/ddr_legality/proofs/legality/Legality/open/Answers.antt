@@ -1,0 +1,12 @@
+-- The empty trace is legal.
+use Rattle.std.proofs.Common.{◌+◌, arith}
+use Rattle.ddr_legality.proofs.LegalLemmas.{IsLegal-empty}
+use Rattle.ddr_legality.proofs.legality.Legality.open.Goals as goal
+
+pub invariant_of-result : goal.invariant_of-result
+invariant_of-result c = record {
+  issued = rw c.new.ensures.items c.in_ok-open.ensures.issued;
+  legal = rw c.new.ensures.items (IsLegal-empty c.in_ok-open.field-0.config c.in_ok-open.field-0.start (c.args.first + 1));
+  begun = omega (arith, c.in_ok-open.ensures.start);
+  clock = omega arith;
+}

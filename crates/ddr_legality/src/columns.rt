@@ -1,0 +1,70 @@
+//! The last read and the last write of a rank, as much as the rule on two ranks asks of them.
+ghost use Rattle.std.specs.Prelude.{◌≡◌};
+ghost use Rattle.ddr_trace.specs.Commands.{is_column};
+ghost use Rattle.ddr_legality.specs.Columns.{columns_noted, is_switched_soon, switches_soon};
+
+use ddr_timing::timing::Timing;
+use ddr_trace::command::{Command, Entry, is_before};
+use ddr_trace::ranks::rank_switch;
+
+/// The last read and the last write of a rank, with their cycles. An RDA is a read and a WRA a write.
+#[derive(Clone, Copy)]
+pub(crate) struct Columns {
+    read: Option<Entry>,
+    write: Option<Entry>,
+}
+
+impl Columns {
+    /// Neither yet.
+    pub const NONE: Columns = Columns {
+        read: None,
+        write: None,
+    };
+
+    /// Keeps a command of the rank, where it is a read or a write.
+    pub fn note(&mut self, entry: &Entry)
+        ensures { self.new ≡ columns_noted entry.now self.old }
+    {
+        match entry.command {
+            Command::Rd { .. } | Command::RdAuto { .. } => self.read = Some(*entry),
+            Command::Wr { .. } | Command::WrAuto { .. } => self.write = Some(*entry),
+            Command::Act { .. }
+            | Command::Pre { .. }
+            | Command::PreAll { .. }
+            | Command::Refresh { .. } => {}
+        }
+    }
+
+    /// Whether an entry of another rank is a read or a write too close behind these two.
+    pub fn are_left_too_soon(&self, entry: &Entry, timing: &Timing) -> bool
+        ensures { result ≡ switches_soon timing.now self.now entry.now }
+    {
+        is_column(&entry.command)
+            && (is_switched_soon(&self.read, entry, timing)
+                || is_switched_soon(&self.write, entry, timing))
+    }
+}
+
+/// Whether the entry, of another rank, stands too close behind this one.
+fn is_switched_soon(last: &Option<Entry>, entry: &Entry, timing: &Timing) -> bool
+    ensures { result ≡ is_switched_soon timing.now last.now entry.now }
+{
+    match last {
+        Some(last) => is_before(
+            entry.cycle,
+            last.cycle,
+            rank_switch(&last.command, &entry.command, timing),
+        ),
+        None => false,
+    }
+}
+
+/// Whether the command is a read or a write.
+fn is_column(command: &Command) -> bool
+    ensures { result ≡ is_column command.now }
+{
+    matches!(
+        command,
+        Command::Rd { .. } | Command::Wr { .. } | Command::RdAuto { .. } | Command::WrAuto { .. }
+    )
+}
