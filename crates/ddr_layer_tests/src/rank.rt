@@ -197,36 +197,114 @@ fn state_and_row(rt: HostRuntime) -> Result<(), Fail> {
     states(&rt, rt.alloc(), &config, STATES)
 }
 
-/// Commands, the group and the bank that are asked for, and the open row.
-type Row = (&'static [Step], u32, u32, Option<u32>);
+/// Commands, the cycle, the group and the bank that are asked for, and the open row.
+type Row = (&'static [Step], u64, u32, u32, Option<u32>);
 
-fn row_of(rt: &impl Abort, rank: &Rank, group: u32, bank: u32, row: Option<u32>) {
-    let found = rank.open_row(group, bank);
-    assert_eq!(rt; found, row, "of {group} and {bank}");
+fn row_of(rt: &impl Abort, rank: &Rank, cycle: u64, group: u32, bank: u32, row: Option<u32>) {
+    let found = rank.open_row(cycle, group, bank);
+    assert_eq!(rt; found, row, "of {group} and {bank} at {cycle}");
 }
 
 fn rows(rt: &impl Abort, alloc: Global, config: &Config, cases: &[Row]) -> Result<(), Fail> {
-    for (steps, group, bank, row) in cases {
+    for (steps, cycle, group, bank, row) in cases {
         let rank = issued(rt, alloc, config, steps)?;
-        row_of(rt, &rank, *group, *bank, *row);
+        row_of(rt, &rank, *cycle, *group, *bank, *row);
     }
     Ok(())
 }
 
+/// An RDA in cycle 4 begins to close its bank in cycle 10, by RAS.
 const ROWS: &[Row] = &[
-    (READ_AGAIN, 0, 0, Some(1)),
-    (READ_AGAIN, 0, 1, None),
-    (READ_AGAIN, 4, 0, None),
-    (READ_AGAIN, 0, 4, None),
-    (CLOSED, 0, 0, None),
-    (ACTIVE, 1, 2, Some(3)),
-    (IDLE_AGAIN, 1, 2, None),
+    (READ_AGAIN, 19, 0, 0, Some(1)),
+    (READ_AGAIN, 19, 0, 1, None),
+    (READ_AGAIN, 19, 4, 0, None),
+    (READ_AGAIN, 19, 0, 4, None),
+    (CLOSED, 11, 0, 0, None),
+    (ACTIVE, 9, 1, 2, Some(3)),
+    (IDLE_AGAIN, 51, 1, 2, None),
+    (READ_AUTO, 9, 0, 0, Some(0)),
+    (READ_AUTO, 10, 0, 0, None),
+    (READ_AUTO, 9, 0, 1, None),
 ];
 
 #[test]
 fn open_rows(rt: HostRuntime) -> Result<(), Fail> {
     let config = profile_s(rt.alloc())?;
     rows(&rt, rt.alloc(), &config, ROWS)
+}
+
+const READ_AUTO: &[Step] = &[Step::Act(0, 0, 0, 0), Step::RdAuto(4, 0, 0, 0, 0)];
+
+const WRITTEN_AUTO: &[Step] = &[Step::Act(0, 0, 0, 0), Step::WrAuto(4, 0, 0, 0, 0)];
+
+/// Of two open banks of a group one is read, or written, and to close.
+const ONE_READ_AUTO: &[Step] = &[
+    Step::Act(0, 0, 0, 0),
+    Step::Act(3, 0, 1, 0),
+    Step::RdAuto(7, 0, 0, 0, 0),
+];
+
+const ONE_WRITTEN_AUTO: &[Step] = &[
+    Step::Act(0, 0, 0, 0),
+    Step::Act(3, 0, 1, 0),
+    Step::WrAuto(7, 0, 0, 0, 0),
+];
+
+/// A WRA in cycle 4 begins to close its bank in cycle 16, by CWL + 4 + WR.
+const AUTO: &[Bound] = &[
+    (WRITTEN_AUTO, Step::Act(20, 0, 0, 1), Rule::Rp),
+    (WRITTEN_AUTO, Step::Pre(16, 0, 0), Rule::Wr),
+    (READ_AUTO, Step::Act(14, 0, 0, 1), Rule::Rc),
+    (READ_AUTO, Step::Refresh(14), Rule::RpRef),
+    (WRITTEN_AUTO, Step::Refresh(20), Rule::RpRef),
+    (ONE_READ_AUTO, Step::Rd(12, 0, 1, 0, 0), Rule::CcdL),
+    (ONE_READ_AUTO, Step::WrAuto(14, 0, 1, 0, 0), Rule::Rtw),
+    (ONE_WRITTEN_AUTO, Step::WrAuto(12, 0, 1, 0, 0), Rule::CcdL),
+    (ONE_WRITTEN_AUTO, Step::RdAuto(18, 0, 1, 0, 0), Rule::WtrL),
+];
+
+const AUTO_STATES: &[State] = &[
+    (WRITTEN_AUTO, Step::Act(15, 0, 0, 1), Some(Rule::State)),
+    (READ_AUTO, Step::Rd(9, 0, 0, 0, 0), Some(Rule::State)),
+    (READ_AUTO, Step::RdAuto(9, 0, 0, 0, 0), Some(Rule::State)),
+    (READ_AUTO, Step::Rd(30, 0, 0, 0, 0), Some(Rule::State)),
+    (READ_AUTO, Step::Refresh(9), Some(Rule::State)),
+];
+
+#[test]
+fn rows_that_close_by_themselves(rt: HostRuntime) -> Result<(), Fail> {
+    let config = profile_s(rt.alloc())?;
+    bounds(&rt, rt.alloc(), &config, AUTO)?;
+    states(&rt, rt.alloc(), &config, AUTO_STATES)
+}
+
+/// With WTR_L of 1 and WR of 30. The RDA closes its bank from cycle 15 on, though the write before it is in recovery
+/// until cycle 41, over the next ACT.
+const LONG_RECOVERY: &[Bound] = &[
+    (WRITTEN_THEN_AUTO, Step::Act(19, 0, 0, 1), Rule::Rp),
+    (OPENED_IN_RECOVERY, Step::Pre(41, 0, 0), Rule::Wr),
+    (OPENED_IN_RECOVERY, Step::PreAll(41), Rule::Wr),
+];
+
+const WRITTEN_THEN_AUTO: &[Step] = &[
+    Step::Act(0, 0, 0, 0),
+    Step::Wr(4, 0, 0, 0, 0),
+    Step::RdAuto(12, 0, 0, 0, 0),
+];
+
+const OPENED_IN_RECOVERY: &[Step] = &[
+    Step::Act(0, 0, 0, 0),
+    Step::Wr(4, 0, 0, 0, 0),
+    Step::RdAuto(12, 0, 0, 0, 0),
+    Step::Act(19, 0, 0, 1),
+];
+
+#[test]
+fn recovery_outlives_an_auto_precharge(rt: HostRuntime) -> Result<(), Fail> {
+    let mut config = profile_s(rt.alloc())?;
+    config.timing.wtr_l = 1;
+    config.timing.wr = 30;
+    bounds(&rt, rt.alloc(), &config, LONG_RECOVERY)
 }
 
 const OPENED: &[Step] = &[Step::Act(0, 0, 0, 0)];

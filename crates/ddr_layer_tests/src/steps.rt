@@ -8,6 +8,8 @@ pub enum Step {
     Act(u64, u32, u32, u32),
     Rd(u64, u32, u32, u32, u32),
     Wr(u64, u32, u32, u32, u32),
+    RdAuto(u64, u32, u32, u32, u32),
+    WrAuto(u64, u32, u32, u32, u32),
     Pre(u64, u32, u32),
     PreAll(u64),
     Refresh(u64),
@@ -19,6 +21,8 @@ impl Step {
             Step::Act(cycle, ..)
             | Step::Rd(cycle, ..)
             | Step::Wr(cycle, ..)
+            | Step::RdAuto(cycle, ..)
+            | Step::WrAuto(cycle, ..)
             | Step::Pre(cycle, ..)
             | Step::PreAll(cycle)
             | Step::Refresh(cycle) => cycle,
@@ -42,6 +46,20 @@ impl Step {
                 line,
             },
             Step::Wr(_, group, bank, row, line) => Command::Wr {
+                rank,
+                group,
+                bank,
+                row,
+                line,
+            },
+            Step::RdAuto(_, group, bank, row, line) => Command::RdAuto {
+                rank,
+                group,
+                bank,
+                row,
+                line,
+            },
+            Step::WrAuto(_, group, bank, row, line) => Command::WrAuto {
                 rank,
                 group,
                 bank,
