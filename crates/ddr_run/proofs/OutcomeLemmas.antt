@@ -7,7 +7,7 @@ use Rattle.ddr_trace.specs.Traces.{Recorded}
 use Rattle.ddr_workers.specs.declared.requests.Item.{Item}
 use Rattle.ddr_workers.specs.declared.requests.Route.{Route}
 use Rattle.ddr_workers.specs.Closing.{AreAllEnds, AreComplete, AreMatched}
-use Rattle.ddr_workers.specs.Open.{IsOpened}
+use Rattle.ddr_workers.specs.Open.{IsOpened, IsOpenedAt}
 use Rattle.ddr_workers.specs.Port.{PortState, PortEnded, IsEndOfPort}
 use Rattle.ddr_workers.specs.Sides.{PutSide, new_put}
 use Rattle.ddr_workers.specs.Worker.{WorkerState, WorkerEnded}
@@ -54,8 +54,8 @@ verdict_end config traces channel before was past so_far =
 new_side : (o : Option (PutSide Route Item)) (new side : PutSide Route Item) → o ≡ Some new → o ≡ Some side → new.put ≡ [] → side.put ≡ []
 new_side o new side is_new is_side empty = let same : new ≡ side = cc in ap (λ (x : PutSide Route Item). x.put) (sym same) ∙ empty
 
-pub new_ports : (config : Config) (id : ℕ) (ports : List PortState) (workers : List WorkerState) → IsOpened config id ports workers → AreNewPorts ports
-new_ports config id ports workers system k p is =
+pub new_ports : (config : Config) (first id : ℕ) (ports : List PortState) (workers : List WorkerState) → IsOpenedAt config first id ports workers → AreNewPorts ports
+new_ports config first id ports workers system k p is =
     let new = system.port k p is in
     record {
       port = ap (λ (s : PortState). s.core.port) new;
@@ -77,13 +77,13 @@ port_ends instructions (p ∷ ports) [] m = absurd m
 -- what the law of all ends says
 abbrev AllEndsLaw : Type 0
 AllEndsLaw =
-    (config : Config) (id : ℕ) (ports : List PortState) (workers : List WorkerState) (port_ends : List PortEnded) (worker_ends : List WorkerEnded) → IsOpened config id ports workers → 0 < length ports → 0 < length workers → AreAllEnds ports workers port_ends worker_ends
+    (config : Config) (first id : ℕ) (ports : List PortState) (workers : List WorkerState) (port_ends : List PortEnded) (worker_ends : List WorkerEnded) → IsOpenedAt config first id ports workers → 0 < length ports → 0 < length workers → AreAllEnds ports workers port_ends worker_ends
     → AreComplete id port_ends worker_ends
 
 pub complete : AllEndsLaw → (config : Config) (instructions : List Instruction) (ports : List PortState) (workers : List WorkerState) (ended : Ended) (ends : List PortEnded) → 0 < config.limits.ports → 0 < config.geometry.channels → IsOpened config RUN ports workers
     → AreEnded ports workers instructions ended → ends ≡ map (λ h. h.end) ended.ports.items → AreComplete RUN ends ended.workers.items
 complete law config instructions ports workers ended ends some_port some_channel system all ends_are =
-    law config RUN ports workers ends ended.workers.items system (omega (arith, some_port, system.ports_are)) (omega (arith, some_channel, system.workers_are)) (record {
+    law config 0 RUN ports workers ends ended.workers.items system (omega (arith, some_port, system.ports_are)) (omega (arith, some_channel, system.workers_are)) (record {
       port = subst (AreMatched IsEndOfPort ports) (sym ends_are) (port_ends instructions ports ended.ports.items all.hosted);
       worker = all.worked;
     })

@@ -6,7 +6,7 @@ use Rattle.std.proofs.lemmas.List.Folds.{list_any_at, list_any_none}
 use Rattle.std.proofs.lemmas.Option.{get_or_from_slice_get, slice_get_within}
 use Rattle.ddr_timing.specs.declared.config.Config.{Config}
 use Rattle.ddr_workers.specs.Closing.{AreAllEnds, AreComplete, AreEndsOf, AreMatched, channel_of, has_each, has_number, has_twice, is_foreign, is_missing, port_of}
-use Rattle.ddr_workers.specs.Open.{IsOpened}
+use Rattle.ddr_workers.specs.Open.{IsOpenedAt}
 use Rattle.ddr_workers.specs.Port.{PortState, PortEnded, IsEndOfPort}
 use Rattle.ddr_workers.specs.Worker.{WorkerState, WorkerEnded, IsEndOf}
 use Rattle.ddr_workers.proofs.ChangedLemmas.{some_there}
@@ -63,7 +63,7 @@ module _ {X : Type 0} (key : X → ℕ) where
   each_number : (count : ℕ) (xs : List X) → AreInPlace key 0 count xs → has_each key count xs ≡ true
   each_number count xs placed = all_range (λ n. has_number key n xs) 0 count (λ n above below. is_number n count xs placed (omega (arith, below)))
 
-module _ (config : Config) (id : ℕ) (ports : List PortState) (workers : List WorkerState) (port_ends : List PortEnded) (worker_ends : List WorkerEnded) (opened : IsOpened config id ports workers)
+module _ (config : Config) (first id : ℕ) (ports : List PortState) (workers : List WorkerState) (port_ends : List PortEnded) (worker_ends : List WorkerEnded) (opened : IsOpenedAt config first id ports workers)
     (all : AreAllEnds ports workers port_ends worker_ends) where
   port_at : (k : ℕ) (e : PortEnded) → slice_get port_ends k ≡ Some e → (s : PortState) × (slice_get ports k ≡ Some s) × IsEndOfPort s e
   port_at = matched_at IsEndOfPort ports port_ends all.port
@@ -127,10 +127,10 @@ module _ (config : Config) (id : ℕ) (ports : List PortState) (workers : List W
       (neither (eqb (length worker_ends) 0) _ (ne_eqb (length worker_ends) 0 (λ none. omega (arith, none, some_worker, workers_placed.many)))
       (neither (list_any (λ e. not (has_each channel_of (length e.requests) worker_ends)) port_ends) _ each_channel each_port))
 
-pub all_ends : (config : Config) (id : ℕ) (ports : List PortState) (workers : List WorkerState) (port_ends : List PortEnded) (worker_ends : List WorkerEnded)
-    → IsOpened config id ports workers → 0 < length ports → 0 < length workers → AreAllEnds ports workers port_ends worker_ends → AreComplete id port_ends worker_ends
-all_ends config id ports workers port_ends worker_ends opened some_port some_worker all = record {
-  one = one_open config id ports workers port_ends worker_ends opened (ends_of config id ports workers port_ends worker_ends opened all);
-  own = none_foreign config id ports workers port_ends worker_ends opened all;
-  whole = none_missing config id ports workers port_ends worker_ends opened all some_port some_worker;
+pub all_ends : (config : Config) (first id : ℕ) (ports : List PortState) (workers : List WorkerState) (port_ends : List PortEnded) (worker_ends : List WorkerEnded)
+    → IsOpenedAt config first id ports workers → 0 < length ports → 0 < length workers → AreAllEnds ports workers port_ends worker_ends → AreComplete id port_ends worker_ends
+all_ends config first id ports workers port_ends worker_ends opened some_port some_worker all = record {
+  one = one_open config first id ports workers port_ends worker_ends opened (ends_of config first id ports workers port_ends worker_ends opened all);
+  own = none_foreign config first id ports workers port_ends worker_ends opened all;
+  whole = none_missing config first id ports workers port_ends worker_ends opened all some_port some_worker;
 }

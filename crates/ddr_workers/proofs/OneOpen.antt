@@ -7,7 +7,7 @@ use Rattle.ddr_timing.specs.declared.config.Config.{Config}
 use Rattle.ddr_workers.specs.declared.completions.Delivery.{Delivery}
 use Rattle.ddr_workers.specs.declared.requests.Route.{Route}
 use Rattle.ddr_workers.specs.Closing.{AreEndsOf, AreOfOneOpen}
-use Rattle.ddr_workers.specs.Open.{IsOpened}
+use Rattle.ddr_workers.specs.Open.{IsOpenedAt}
 use Rattle.ddr_workers.specs.Port.{PortState, PortEnded}
 use Rattle.ddr_workers.specs.Sides.{PutSide, PutId, TakeId, put_id}
 use Rattle.ddr_workers.specs.Worker.{WorkerState, WorkerEnded}
@@ -23,9 +23,9 @@ module _ {S T : Type 0} where
   pub same_length : (sides sides' : List (PutSide S T)) → map who_of sides' ≡ map who_of sides → length sides' ≡ length sides
   same_length sides sides' same = sym (length-map sides' who_of) ∙ ap length same ∙ length-map sides who_of
 
-pub one_open : (config : Config) (id : ℕ) (ports : List PortState) (workers : List WorkerState) (port_ends : List PortEnded) (worker_ends : List WorkerEnded)
-    → IsOpened config id ports workers → AreEndsOf ports workers port_ends worker_ends → AreOfOneOpen id port_ends worker_ends
-one_open config id ports workers port_ends worker_ends opened ends = λ k m e w e_there w_there e_id w_id.
+pub one_open : (config : Config) (first id : ℕ) (ports : List PortState) (workers : List WorkerState) (port_ends : List PortEnded) (worker_ends : List WorkerEnded)
+    → IsOpenedAt config first id ports workers → AreEndsOf ports workers port_ends worker_ends → AreOfOneOpen id port_ends worker_ends
+one_open config first id ports workers port_ends worker_ends opened ends = λ k m e w e_there w_there e_id w_id.
     let p = ends.port k e e_there in
     let c = ends.worker m w w_there in
     record {

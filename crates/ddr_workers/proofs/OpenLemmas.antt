@@ -8,7 +8,7 @@ use Rattle.ddr_workers.specs.declared.completions.Delivery.{Delivery}
 use Rattle.ddr_workers.specs.declared.requests.Item.{Item}
 use Rattle.ddr_workers.specs.declared.requests.Route.{Route}
 use Rattle.ddr_workers.specs.Lanes.{AreLanes, AreEach, AreFrom}
-use Rattle.ddr_workers.specs.Open.{IsNewQueue, IsNewWorker, IsOpened, IsPortOf, IsPortRow, IsWorkerRow, IsWorkerTake, new_port}
+use Rattle.ddr_workers.specs.Open.{IsNewQueue, IsNewWorker, IsOpenedAt, IsPortOf, IsPortRow, IsWorkerRow, IsWorkerTake, new_port}
 use Rattle.ddr_workers.specs.Port.{PortState}
 use Rattle.ddr_workers.specs.Sides.{PutSide, TakeSide, new_put}
 use Rattle.ddr_workers.specs.Worker.{WorkerState}
@@ -77,17 +77,17 @@ all_from P (x ∷ xs) each = All-cons P x xs (each 0 x refl) (all_from P xs (λ 
 pub port_takes : (config : Config) (rows : List (List (PutSide Delivery Completion))) (takes : List (TakeSide Delivery Completion)) → Deliveries config rows takes → All (λ (take : TakeSide Delivery Completion). take.took ≡ []) takes
 port_takes config rows takes lanes = all_from (λ (take : TakeSide Delivery Completion). take.took ≡ []) takes (λ k take there. (lanes.new k take there).took)
 
-pub opened : (config : Config) (id : ℕ) (rows : List (List (PutSide Route Item))) (takes : List (TakeSide Route Item)) (done_rows : List (List (PutSide Delivery Completion))) (done_takes : List (TakeSide Delivery Completion))
+pub opened : (config : Config) (first id : ℕ) (rows : List (List (PutSide Route Item))) (takes : List (TakeSide Route Item)) (done_rows : List (List (PutSide Delivery Completion))) (done_takes : List (TakeSide Delivery Completion))
     (ports : List PortState) (workers : List WorkerState) → Routes config rows takes → Deliveries config done_rows done_takes
-    → AreEach (IsPortOf config id) 0 rows done_takes ports → AreEach (IsNewWorker config id) 0 done_rows takes workers → IsOpened config id ports workers
-opened config id rows takes done_rows done_takes ports workers routes deliveries each_port each_worker =
+    → AreEach (IsPortOf config id) 0 rows done_takes ports → AreEach (IsNewWorker config first id) 0 done_rows takes workers → IsOpenedAt config first id ports workers
+opened config first id rows takes done_rows done_takes ports workers routes deliveries each_port each_worker =
     let port_at = λ (p : ℕ) (port : PortState) (there : slice_get ports p ≡ Some port). each_at (IsPortOf config id) 0 p rows done_takes ports port each_port there in
-    let worker_at = λ (c : ℕ) (w : WorkerState) (there : slice_get workers c ≡ Some w). each_at (IsNewWorker config id) 0 c done_rows takes workers w each_worker there in
+    let worker_at = λ (c : ℕ) (w : WorkerState) (there : slice_get workers c ≡ Some w). each_at (IsNewWorker config first id) 0 c done_rows takes workers w each_worker there in
     let aim : ℕ → Route = λ channel. record { geometry = config.geometry; channel = channel } in
     let done_aim : ℕ → Delivery = λ port. record { geometry = config.geometry; port = port } in
     record {
       ports_are = each_length (IsPortOf config id) 0 rows done_takes ports each_port ∙ routes.rows_are;
-      workers_are = each_length (IsNewWorker config id) 0 done_rows takes workers each_worker ∙ deliveries.rows_are;
+      workers_are = each_length (IsNewWorker config first id) 0 done_rows takes workers each_worker ∙ deliveries.rows_are;
       port = λ p port there.
           let e = port_at p port there in
           e.is ∙ ap₂ (λ r t. new_port config id (0 + p) r t) (sym (ap (λ (s : PortState). s.requests) e.is)) (sym (ap (λ (s : PortState). s.completions) e.is))
@@ -95,7 +95,7 @@ opened config id rows takes done_rows done_takes ports workers routes deliveries
       worker = λ c w there.
           let e = worker_at c w there in
           let is = e.is in
-          subst (λ n. IsNewWorker config id n w.completions w.requests w) (sym (from_none c)) (record {
+          subst (λ n. IsNewWorker config first id n w.completions w.requests w) (sym (from_none c)) (record {
             id_is = is.id_is;
             number_is = is.number_is;
             channel = is.channel;

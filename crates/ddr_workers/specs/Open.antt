@@ -37,11 +37,11 @@ pub record IsNewDonePut (geometry : Geometry) (channel port : ℕ) (side : PutSi
   pub delivery : side.who.queue.purpose ≡ record { geometry = geometry; port = port }
   pub put : side.put ≡ []
 
--- a worker before its first turn
-pub record IsNewWorker (config : Config) (id number : ℕ) (completions : List (PutSide Delivery Completion)) (requests : TakeSide Route Item) (w : WorkerState) : Type 0 where
+-- a worker before its first turn, whose channel's clock begins so
+pub record IsNewWorker (config : Config) (first id number : ℕ) (completions : List (PutSide Delivery Completion)) (requests : TakeSide Route Item) (w : WorkerState) : Type 0 where
   pub id_is : w.id ≡ id
   pub number_is : w.number ≡ number
-  pub channel : state_of w.channel ≡ opened config 0
+  pub channel : state_of w.channel ≡ opened config first
   pub requests_are : w.requests ≡ requests
   pub completions_are : w.completions ≡ completions
   pub held : w.held ≡ None
@@ -75,13 +75,13 @@ pub record IsNewQueue {S T : Type 0} (aim : S) (most sides_made : ℕ) (take : T
   pub took : take.took ≡ []
   pub empty : take.empty ≡ 0
 
--- Ports and workers before the first call: the queues are new ones, and each has a port at one end and a worker at the
--- other.
-pub record IsOpened (config : Config) (id : ℕ) (ports : List PortState) (workers : List WorkerState) : Type 0 where
+-- Ports and workers before the first call: the queues are new ones, each has a port at one end and a worker at the other,
+-- and the channels' clocks begin with this cycle.
+pub record IsOpenedAt (config : Config) (first id : ℕ) (ports : List PortState) (workers : List WorkerState) : Type 0 where
   pub ports_are : length ports ≡ config.limits.ports
   pub workers_are : length workers ≡ config.geometry.channels
   pub port : (p : ℕ) (port : PortState) → slice_get ports p ≡ Some port → port ≡ new_port config id p port.requests port.completions
-  pub worker : (c : ℕ) (w : WorkerState) → slice_get workers c ≡ Some w → IsNewWorker config id c w.completions w.requests w
+  pub worker : (c : ℕ) (w : WorkerState) → slice_get workers c ≡ Some w → IsNewWorker config first id c w.completions w.requests w
   -- a port has a put side for each channel, and no more
   pub sides : (p : ℕ) (port : PortState) → slice_get ports p ≡ Some port → length port.requests ≡ config.geometry.channels
   -- a worker has a put side for each port, and no more
@@ -92,3 +92,7 @@ pub record IsOpened (config : Config) (id : ℕ) (ports : List PortState) (worke
   -- of each port's queue the port has the take side, and each worker the put side of its channel
   pub window : (p : ℕ) (port : PortState) → slice_get ports p ≡ Some port → IsNewQueue (record { geometry = config.geometry; port = p }) config.limits.window config.geometry.channels port.completions
   pub completions : (p c : ℕ) (port : PortState) (w : WorkerState) → slice_get ports p ≡ Some port → slice_get workers c ≡ Some w → slice_get w.completions p ≡ Some (new_put port.completions.who.queue c)
+
+-- the same, with clocks that begin at 0
+abbrev pub IsOpened : Config → ℕ → List PortState → List WorkerState → Type 0
+IsOpened config id ports workers = IsOpenedAt config 0 id ports workers

@@ -8,7 +8,7 @@ ghost use Rattle.ddr_workers.specs.Ended.{IsEnded, IsWorkerEnded};
 ghost use Rattle.ddr_workers.specs.Gathered.{with_all};
 ghost use Rattle.ddr_workers.specs.Joined.{AreReady, HasRoomFor, IsIntakeJoined, IsRoomFor, IsWindowJoined, OfEach};
 ghost use Rattle.ddr_workers.specs.Lanes.{lists};
-ghost use Rattle.ddr_workers.specs.Open.{IsOpened};
+ghost use Rattle.ddr_workers.specs.Open.{IsOpenedAt};
 ghost use Rattle.ddr_workers.specs.Port.{PortEnded, PortState};
 ghost use Rattle.ddr_workers.specs.Sides.{AreSides};
 ghost use Rattle.ddr_workers.specs.Worker.{WorkerEnded, WorkerState};
@@ -246,19 +246,20 @@ pub fn close<R: Wait>(
     Ok(join_all(rt, room, ports, workers))
 }
 
-/// The ends of ports and workers that one call of `open` made may be closed together, whatever each did in between.
+/// The ends of ports and workers that one call of `open` or `open_at` made may be closed together, whatever each did in
+/// between.
 ///
 /// A law: it does nothing. That an end is a port's or a worker's is told by `finish` and by `run`.
 pub fn ends_of_one_open()
-    ensures { (config : Config) (id : ℕ) (ports : List PortState) (workers : List WorkerState) (port_ends : List PortEnded) (worker_ends : List WorkerEnded)
-        → IsOpened config id ports workers → AreEndsOf ports workers port_ends worker_ends → AreOfOneOpen id port_ends worker_ends }
+    ensures { (config : Config) (first id : ℕ) (ports : List PortState) (workers : List WorkerState) (port_ends : List PortEnded) (worker_ends : List WorkerEnded)
+        → IsOpenedAt config first id ports workers → AreEndsOf ports workers port_ends worker_ends → AreOfOneOpen id port_ends worker_ends }
 {}
 
-/// The ends of all ports and workers that one call of `open` made, in their order, are neither foreign nor missing: `close`
-/// closes them, or is refused memory.
+/// The ends of all ports and workers that one call of `open` or `open_at` made, in their order, are neither foreign nor
+/// missing: `close` closes them, or is refused memory.
 ///
 /// A law: it does nothing.
 pub fn all_ends_of_one_open()
-    ensures { (config : Config) (id : ℕ) (ports : List PortState) (workers : List WorkerState) (port_ends : List PortEnded) (worker_ends : List WorkerEnded)
-        → IsOpened config id ports workers → 0 < length ports → 0 < length workers → AreAllEnds ports workers port_ends worker_ends → AreComplete id port_ends worker_ends }
+    ensures { (config : Config) (first id : ℕ) (ports : List PortState) (workers : List WorkerState) (port_ends : List PortEnded) (worker_ends : List WorkerEnded)
+        → IsOpenedAt config first id ports workers → 0 < length ports → 0 < length workers → AreAllEnds ports workers port_ends worker_ends → AreComplete id port_ends worker_ends }
 {}

@@ -34,4 +34,4 @@ pub mod worker;
 
 pub use closing::close;
 pub use error::OpenError;
-pub use system::open;
+pub use system::{open, open_at};

@@ -1,7 +1,8 @@
 //! Opens the queues of a configuration, and the ports and workers at their ends.
-ghost use Rattle.std.specs.Prelude.{◌≡◌, length, [], All, IfOk};
+ghost use Rattle.std.specs.Prelude.{◌≡◌, ◌≤◌, length, [], All, IfOk};
+ghost use Rattle.ddr_timing.specs.declared.units.TheConstants.{CLOCK_STOP};
 ghost use Rattle.ddr_workers.specs.Lanes.{AreLanes, AreEach, AreFrom, lists};
-ghost use Rattle.ddr_workers.specs.Open.{IsOpened, IsNewWorker, IsPortRow, IsPortOf, IsWorkerRow, IsWorkerTake};
+ghost use Rattle.ddr_workers.specs.Open.{IsOpened, IsOpenedAt, IsNewWorker, IsPortRow, IsPortOf, IsWorkerRow, IsWorkerTake};
 
 use crate::completions::{DonePut, DoneTake};
 use crate::error::OpenError;
@@ -80,25 +81,27 @@ fn open_ports(
     Ok(ports)
 }
 
-/// The workers, each over its row of put sides and its take side.
+/// The workers, each over its row of put sides and its take side. Their channels' clocks begin with this cycle.
 fn open_workers(
     alloc: Global,
     config: &Config,
+    first: u64,
     id: u64,
     mut rows: Vec<Vec<DonePut>>,
     mut takes: Vec<RequestTake>,
 ) -> Result<Vec<Worker>, OpenError>
     requires rows { length rows.items ≡ config.now.geometry.channels }
     requires takes { length takes.items ≡ config.now.geometry.channels }
+    requires first { first ≤ CLOCK_STOP }
     requires row { AreFrom (IsWorkerRow config.now.geometry config.now.limits.ports) 0 (lists rows.items) }
     requires take { AreFrom (IsWorkerTake config.now.geometry config.now.limits.ports) 0 takes.items }
-    ensures { IfOk result (λ workers. AreEach (IsNewWorker config.now id) 0 (lists rows.items) takes.items workers.items) }
+    ensures { IfOk result (λ workers. AreEach (IsNewWorker config.now first id) 0 (lists rows.items) takes.items workers.items) }
 {
     let mut workers = Vec::new(alloc);
     for number in 0..config.geometry.channels {
         let row = rows.remove(0);
         let take = takes.remove(0);
-        workers.push(Worker::open(alloc, config, id, number, take, row)?)?;
+        workers.push(Worker::open(alloc, config, first, id, number, take, row)?)?;
     }
     Ok(workers)
 }
@@ -109,10 +112,23 @@ fn open_workers(
 pub fn open(alloc: Global, config: &Config, id: u64) -> Result<(Vec<Port>, Vec<Worker>), OpenError>
     ensures { IfOk result (λ both. IsOpened config.now id both.0.items both.1.items) }
 {
+    open_at(alloc, config, id, 0)
+}
+
+/// Opens ports and workers as `open` does, and the clocks begin with this cycle.
+pub fn open_at(
+    alloc: Global,
+    config: &Config,
+    id: u64,
+    first_cycle: u64,
+) -> Result<(Vec<Port>, Vec<Worker>), OpenError>
+    requires { first_cycle ≤ CLOCK_STOP }
+    ensures { IfOk result (λ both. IsOpenedAt config.now first_cycle id both.0.items both.1.items) }
+{
     let (port_rows, worker_takes) = request_lanes(alloc, config)?;
     let (worker_rows, port_takes) = completion_lanes(alloc, config)?;
     let ports = open_ports(alloc, config, id, port_rows, port_takes)?;
-    let workers = open_workers(alloc, config, id, worker_rows, worker_takes)?;
+    let workers = open_workers(alloc, config, first_cycle, id, worker_rows, worker_takes)?;
     Ok((ports, workers))
 }
 

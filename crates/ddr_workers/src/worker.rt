@@ -3,7 +3,7 @@
 //!
 //! Below stand `Channel` and the queues. A turn has five steps: the gate is asked; a completion is pushed; an item is
 //! taken; the channel makes a cycle; and the worker ends where nothing is left to do.
-ghost use Rattle.std.specs.Prelude.{◌≡◌, ℕ, ◌<◌, ◌↔◌, true, false, length, All, [], None, Some, IfErr, IfOk, IfSome, IsTrue, OnErr, OnOk, slice_get};
+ghost use Rattle.std.specs.Prelude.{◌≡◌, ℕ, ◌<◌, ◌≤◌, ◌↔◌, true, false, length, All, [], None, Some, IfErr, IfOk, IfSome, IsTrue, OnErr, OnOk, slice_get};
 ghost use Rattle.ddr_timing.specs.declared.units.TheConstants.{CLOCK_STOP};
 ghost use Rattle.ddr_channel.specs.Kept as kept;
 ghost use Rattle.ddr_arbiter.specs.declared.choice.Choice.TheVariants.{Nothing};
@@ -172,26 +172,28 @@ fn push_to<R: Wait>(rt: &R, sides: &mut Vec<DonePut>, done: Done) -> Result<(), 
 }
 
 impl Worker {
-    /// A worker before its first turn, over the sides of its queues. Its channel's clock begins at 0.
+    /// A worker before its first turn, over the sides of its queues. Its channel's clock begins with this cycle.
     pub(crate) fn open(
         alloc: Global,
         config: &Config,
+        first: u64,
         id: u64,
         number: u32,
         requests: RequestTake,
         completions: Vec<DonePut>,
     ) -> Result<Worker, OpenError>
+        requires first { first ≤ CLOCK_STOP }
         requires route { requests.who.queue.purpose ≡ record { geometry = config.now.geometry; channel = number } }
         requires ports { requests.who.count ≡ length completions.items }
         requires took { requests.took ≡ [] }
         requires sides { (p : ℕ) (side : PutSide Delivery Completion) → slice_get completions.items p ≡ Some side → IsNewDonePut config.now.geometry number p side }
-        ensures { IfOk result (IsNewWorker config.now id number completions.items requests) }
+        ensures { IfOk result (IsNewWorker config.now first id number completions.items requests) }
     {
         let noted = vec![in alloc; false; completions.len()]?;
         Ok(Worker {
             id,
             number,
-            channel: Channel::open(alloc, config, 0)?,
+            channel: Channel::open(alloc, config, first)?,
             requests,
             completions,
             held: None,

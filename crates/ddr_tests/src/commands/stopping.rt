@@ -1,14 +1,18 @@
 //! How the threads of a run stop one another, and why the run ends then.
+ghost use Rattle.std.specs.Prelude.{◌≤◌};
+ghost use Rattle.ddr_timing.specs.declared.units.TheConstants.{CLOCK_STOP};
+
 use ddr_run::flag::{Flag, Start, Stop, Watch};
 use ddr_run::run::run_threads;
-use ddr_run::threads::{Seat, first_stop, left_by};
+use ddr_run::threads::{Seat, first_stop, left_by, run_all};
 use ddr_text::fault::Fault;
 use ddr_text::script::Instruction;
 use ddr_timing::config::Config;
 use ddr_timing::profile::PROFILE_S;
+use ddr_timing::units::CLOCK_STOP;
 use ddr_workers::gate::{Gate, Turn};
-use ddr_workers::open;
 use ddr_workers::worker::{Cause, Stopped, Worker};
+use ddr_workers::{open, open_at};
 use std::alloc::{AllocError, Global};
 use std::sync::Wait;
 use std::test::Fail;
@@ -189,5 +193,73 @@ fn a_port_that_gives_up_ends_the_run(rt: HostRuntime) -> Result<(), Fail> {
         assert_eq!(rt; stop, Some(Stop::PortBroken), "{asks:?}");
     }
     assert_eq!(rt; stop_of(&rt, rt.alloc(), &[(0, 0), (1, 131_072)])?, None);
+    Ok(())
+}
+
+/// The first address of channel 1.
+const HALF: u64 = 131_072;
+
+/// Reads, and how many cycles each channel may still make. A read needs 13 cycles: ACT in cycle 0, RD in cycle 4 (RCD), and
+/// it is done in cycle 12 (CL, and the 4 clocks of its burst).
+struct Spent {
+    left: u64,
+    asks: Asks<'static>,
+    /// By which fault the run ends. None if it comes to its end.
+    fault: Option<Fault>,
+}
+
+/// A clock is spent on channel 0, on channel 1 beside another that has nothing to do, and on both. One more cycle would
+/// have been enough.
+const SPENT: &[Spent] = &[
+    Spent {
+        left: 12,
+        asks: &[(0, 0)],
+        fault: Some(Fault::ClockSpent),
+    },
+    Spent {
+        left: 13,
+        asks: &[(0, 0)],
+        fault: None,
+    },
+    Spent {
+        left: 12,
+        asks: &[(1, HALF)],
+        fault: Some(Fault::ClockSpent),
+    },
+    Spent {
+        left: 13,
+        asks: &[(1, HALF)],
+        fault: None,
+    },
+    Spent {
+        left: 0,
+        asks: &[(0, 0), (1, HALF), (0, 64)],
+        fault: Some(Fault::ClockSpent),
+    },
+];
+
+/// Why a run of these reads stops whose clocks begin with this cycle. None if it comes to its end.
+fn stop_from<R: Threads + Wait + Sync>(
+    rt: &R,
+    alloc: Global,
+    first_cycle: u64,
+    asks: Asks<'_>,
+) -> Result<Option<Stop>, Fail>
+    requires { first_cycle ≤ CLOCK_STOP }
+{
+    let config = Config::read(alloc, PROFILE_S)?;
+    let _limits = config.limits;
+    let instructions = reads(alloc, asks)?;
+    let (ports, workers) = open_at(alloc, &config, 0, first_cycle)?;
+    Ok(run_all(rt, alloc, instructions.as_slice(), ports, workers).err())
+}
+
+#[test]
+fn a_clock_that_is_spent_ends_the_run(rt: HostRuntime) -> Result<(), Fail> {
+    for Spent { left, asks, fault } in SPENT {
+        let first_cycle = CLOCK_STOP.saturating_sub(*left);
+        let stop = stop_from(&rt, rt.alloc(), first_cycle, asks)?;
+        assert_eq!(rt; stop.map(Fault::from), *fault, "{left} {asks:?}");
+    }
     Ok(())
 }

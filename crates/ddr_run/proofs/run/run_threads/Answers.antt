@@ -11,7 +11,7 @@ use Rattle.ddr_run.proofs.OutcomeLemmas.{complete, new_ports}
 use Rattle.ddr_run.proofs.run.run_threads.Goals as goal
 
 pub run_all-requires-clause-numbers : goal.run_all-requires-clause-numbers
-run_all-requires-clause-numbers g c κs outlives = new_ports c.args.config.now RUN c.in_ok-ports.ports.items c.in_ok-ports.workers.items c.in_ok-ports.ensures
+run_all-requires-clause-numbers g c κs outlives = new_ports c.args.config.now 0 RUN c.in_ok-ports.ports.items c.in_ok-ports.workers.items c.in_ok-ports.ensures
 
 pub close-requires : goal.close-requires
 close-requires g c = (complete c.all_ends_of_one_open.ensures c.args.config.now (map view c.args.instructions.now) c.in_ok-ports.ports.items c.in_ok-ports.workers.items c.in_ok-ended.ended c.in_ok-replies.replies.ends.items (search rules) (search rules) c.in_ok-ports.ensures c.in_ok-ended.ensures.ended c.in_ok-replies.ensures.ends).one

@@ -23,7 +23,7 @@ returns-in-Ok g c =
     (λ ends a b. follows ends (end_of_same first begun.0 ends.0 same a) (end_of_same second begun.1 ends.1 same_other b)) in
     record {
       one = of_ends (λ ends. AreOfOneOpen id (ends.0 ∷ ends.1 ∷ []) (ends.2 ∷ ends.3 ∷ []))
-          (λ ends a b e f. c.ends_of_one_open.ensures config id (first ∷ second ∷ []) (one ∷ two ∷ []) (ends.0 ∷ ends.1 ∷ []) (ends.2 ∷ ends.3 ∷ []) opened
+          (λ ends a b e f. c.ends_of_one_open.ensures config 0 id (first ∷ second ∷ []) (one ∷ two ∷ []) (ends.0 ∷ ends.1 ∷ []) (ends.2 ∷ ends.3 ∷ []) opened
           (ends_of_two config id first second one two opened ends.0 ends.1 ends.2 ends.3 a b e f));
       id = of_ends (λ ends. (ends.0.id ≡ id) × (ends.1.id ≡ id))
           (λ ends a b e f. (first_id config id first second one two opened ends.0 ends.1 ends.2 ends.3 a b e f, second_id config id first second one two opened ends.0 ends.1 ends.2 ends.3 a b e f));

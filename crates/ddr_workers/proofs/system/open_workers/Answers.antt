@@ -19,7 +19,7 @@ loop-number-preserved c =
     let rows = c.loop-number.rows.items in
     let takes = c.loop-number.takes.items in
     let n = c.loop-number.number in
-    let P = IsNewWorker c.args.config.now c.args.id in
+    let P = IsNewWorker c.args.config.now c.args.first c.args.id in
     let Q = IsWorkerTake c.args.config.now.geometry c.args.config.now.limits.ports in
     let some : 0 < length rows = omega (arith, c.loop-number-test.true, before.rows_left) in
     let some' : 0 < length takes = omega (arith, c.loop-number-test.true, before.takes_left) in
@@ -39,5 +39,5 @@ loop-number-preserved c =
 pub returns : goal.returns
 returns c =
     let before = c.loop-number.invariant in
-    all_complete (IsNewWorker c.args.config.now c.args.id) c.loop-number.number (lists c.loop-number.rows.items) c.loop-number.takes.items c.loop-number.workers.items (lists c.args.rows.items) c.args.takes.items
+    all_complete (IsNewWorker c.args.config.now c.args.first c.args.id) c.loop-number.number (lists c.loop-number.rows.items) c.loop-number.takes.items c.loop-number.workers.items (lists c.args.rows.items) c.args.takes.items
     (omega (arith, c.loop-number-test.false, before.rows_left, length-map c.loop-number.rows.items (λ row. row.items))) (omega (arith, c.loop-number-test.false, before.takes_left)) before.made

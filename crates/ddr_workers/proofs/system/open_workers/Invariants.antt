@@ -10,5 +10,5 @@ invariant-loop-number l = record {
   takes_left : l.number + length l.takes.items ≡ l.config.geometry.channels;
   row : AreFrom (IsWorkerRow l.config.geometry l.config.limits.ports) l.number (lists l.rows.items);
   take : AreFrom (IsWorkerTake l.config.geometry l.config.limits.ports) l.number l.takes.items;
-  made : Completes (IsNewWorker l.config l.id) l.number (lists l.rows.items) l.takes.items l.workers.items (lists l.initial.rows.items) l.initial.takes.items;
+  made : Completes (IsNewWorker l.config l.first l.id) l.number (lists l.rows.items) l.takes.items l.workers.items (lists l.initial.rows.items) l.initial.takes.items;
 }
