@@ -1,8 +1,9 @@
-//! Commands of rank 0 as the tests of `rank`, `legality` and `channel` write them.
+//! Commands as the tests of `rank`, `legality` and `channel` write them.
 use ddr_trace::command::{Command, Entry};
 use std::alloc::{AllocError, Global};
 
-/// A command of rank 0, with its cycle and then the group, the bank, the row and the line that it names.
+/// A command with its cycle and then the group, the bank, the row and the line that it names. It is of rank 0 where no
+/// other is given.
 #[derive(Clone, Copy)]
 pub enum Step {
     Act(u64, u32, u32, u32),
@@ -30,7 +31,11 @@ impl Step {
     }
 
     pub fn command(self) -> Command {
-        let rank = 0;
+        self.command_of(0)
+    }
+
+    /// The command of a rank.
+    pub fn command_of(self, rank: u32) -> Command {
         match self {
             Step::Act(_, group, bank, row) => Command::Act {
                 rank,

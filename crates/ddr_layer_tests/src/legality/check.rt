@@ -111,7 +111,7 @@ const FAULTS: &[(&[Step], u64, u64, Option<(usize, Rule)>)] = &[
     (&[Step::Refresh(1810)], 10, 2010, None),
 ];
 
-fn fault_at(at: Option<(usize, Rule)>) -> Option<Fault> {
+pub fn fault_at(at: Option<(usize, Rule)>) -> Option<Fault> {
     let (place, rule) = at?;
     Some(Fault { place, rule })
 }
@@ -126,10 +126,10 @@ fn faults(rt: HostRuntime) -> Result<(), Fail> {
 
 /// Numbers that look like chance: a linear congruential generator of 64 bits, with the constants of Knuth's MMIX.
 #[derive(Drop)]
-struct Chance(u64);
+pub struct Chance(pub u64);
 
 impl Chance {
-    fn below(&mut self, bound: u32) -> u32
+    pub fn below(&mut self, bound: u32) -> u32
         requires { 0 < bound }
     {
         self.0 = self
@@ -140,7 +140,7 @@ impl Chance {
     }
 
     /// Mostly a few clocks, and sometimes up to 12 refresh intervals.
-    fn gap(&mut self) -> u64 {
+    pub fn gap(&mut self) -> u64 {
         if self.below(24) == 0 {
             u64::from(self.below(2400))
         } else {
@@ -180,7 +180,7 @@ impl Chance {
     }
 }
 
-fn last_cycle(entries: &[Entry]) -> u64 {
+pub fn last_cycle(entries: &[Entry]) -> u64 {
     match entries {
         [.., last] => last.cycle,
         [] => 0,
@@ -203,7 +203,7 @@ fn rule_of(
     Ok(rule_in(found))
 }
 
-fn rule_in(found: Option<Fault>) -> Option<Rule> {
+pub fn rule_in(found: Option<Fault>) -> Option<Rule> {
     let fault = found?;
     Some(fault.rule)
 }

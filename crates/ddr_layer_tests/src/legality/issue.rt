@@ -22,7 +22,7 @@ fn bus_from(alloc: Global, first: u64) -> Result<Legality, Fail> {
 }
 
 /// Goes on to a cycle.
-fn wait_until(bus: &mut Legality, cycle: u64) {
+pub fn wait_until(bus: &mut Legality, cycle: u64) {
     for _tick in bus.now()..cycle {
         if bus.now() < CLOCK_STOP {
             bus.tick();
@@ -180,7 +180,7 @@ fn check_may(rt: &impl Abort, bus: &Legality, command: Command, rule: Option<Rul
 }
 
 fn check_row(rt: &impl Abort, bus: &Legality, group: u32, bank: u32, row: Option<u32>) {
-    let found = bus.open_row(group, bank);
+    let found = bus.open_row(0, group, bank);
     assert_eq!(rt; found, row, "of {group} and {bank} in {}", bus.now());
 }
 
