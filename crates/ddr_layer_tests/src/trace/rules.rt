@@ -1,28 +1,9 @@
 //! The first fault of traces on either side of each rule.
 use super::entries::{act, pre, pre_all, rd, refresh, wr};
+use super::{Case, check};
 use crate::sample::sample;
-use ddr_timing::config::Config;
-use ddr_trace::checker::{Fault, first_fault};
 use ddr_trace::command::{Command, Entry};
 use ddr_trace::rule::Rule;
-use std::process::Abort;
-
-/// A rule, commands, the first cycle behind them, and the place that breaks the rule, where the trace isn't legal.
-type Case = (Rule, &'static [Entry], u64, Option<usize>);
-
-fn fault_at(place: Option<usize>, rule: Rule) -> Option<Fault> {
-    Some(Fault {
-        place: place?,
-        rule,
-    })
-}
-
-fn check(rt: &impl Abort, config: &Config, start: u64, cases: &[Case]) {
-    for (rule, entries, end, place) in cases {
-        let found = first_fault(entries, config, start, *end);
-        assert_eq!(rt; found, fault_at(*place, *rule), "{rule:?}");
-    }
-}
 
 const ORDER: &[Case] = &[
     (Rule::Order, &[act!(0, 0, 0, 0), refresh!(0)], 5, Some(1)),
