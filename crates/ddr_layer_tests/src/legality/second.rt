@@ -150,10 +150,7 @@ const FAULTS: &[(&[Ranked], u64, Option<(usize, Rule)>)] = &[
     ),
     (&[(2, Step::Refresh(0))], 20, Some((0, Rule::Place))),
     (
-        &[
-            (0, Step::Act(0, 0, 0, 0)),
-            (1, Step::Rd(4, 0, 0, 0, 0)),
-        ],
+        &[(0, Step::Act(0, 0, 0, 0)), (1, Step::Rd(4, 0, 0, 0, 0))],
         20,
         Some((1, Rule::State)),
     ),
