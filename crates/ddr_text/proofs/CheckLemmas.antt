@@ -15,6 +15,7 @@ use Rattle.ddr_text.specs.declared.fault.Fault.TheVariants as faults
 use Rattle.ddr_text.specs.Body.{AreParts, HasPartsFault, parts_of}
 use Rattle.ddr_text.specs.Check.{HasCheckFault, IsChecked, IsVerdict, SaysTrace, verdict_text}
 use Rattle.ddr_text.specs.Fault.{trace_fault_of}
+use Rattle.ddr_text.specs.Sink.{write_fault}
 use Rattle.ddr_text.proofs.BodyLemmas.{not_of_parts}
 
 -- what was read says what the body's records say
@@ -60,6 +61,18 @@ not_read answer error.Truncated A was other is = absurd (let impossible = sym wa
 not_read answer error.TooLong A was other is = absurd (let impossible = sym was ∙ is in cc)
 not_read answer error.OutOfMemory A was other is = absurd (let impossible = sym was ∙ is in cc)
 
+-- nor as one that can't be written
+pub not_written : (answer : Result Bool Fault) (refusal : TraceError) (said : Result Recorded TraceError) (A : Type 0) → NotWrite said → IsAnswer said (Err refusal) → answer ≡ Err (trace_fault_of refusal) → answer ≡ Err faults.Write → A
+unfolding NotWrite
+not_written answer error.Write said A other_than told was is = absurd (subst NotWrite (sym told) other_than)
+not_written answer error.Read said A other_than told was is = absurd (let impossible = sym was ∙ is in cc)
+not_written answer error.Header said A other_than told was is = absurd (let impossible = sym was ∙ is in cc)
+not_written answer (error.Row line) said A other_than told was is = absurd (let impossible = sym was ∙ is in cc)
+not_written answer (error.Order line) said A other_than told was is = absurd (let impossible = sym was ∙ is in cc)
+not_written answer error.Truncated said A other_than told was is = absurd (let impossible = sym was ∙ is in cc)
+not_written answer error.TooLong said A other_than told was is = absurd (let impossible = sym was ∙ is in cc)
+not_written answer error.OutOfMemory said A other_than told was is = absurd (let impossible = sym was ∙ is in cc)
+
 -- the fault of a body that is refused
 pub trace_fault : (remaining : Option (List ℕ)) (profile : List ℕ) (sample : Bool) (config : Config) (refusal : TraceError) (said : Result Recorded TraceError) → NotWrite said → IsAnswer said (Err refusal) → ((other : Result Recorded TraceError) → said ≡ other → IfSome remaining (λ input. SaysTrace sample profile input config other)) → IfSome remaining (λ input. HasCheckFault sample profile input (trace_fault_of refusal))
 unfolding NotWrite
@@ -92,6 +105,7 @@ trace_checked (Some input) profile sample config trace verdict legal text old ne
 }
 
 -- a verdict that was not written
-pub verdict_unwritten : (remaining : Option (List ℕ)) (profile : List ℕ) (sample : Bool) (config : Config) (trace : Recorded) (fault : Fault) → fault ≡ faults.Write → IfSome remaining (λ input. SaysTrace sample profile input config (Ok trace)) → IfSome remaining (λ input. HasCheckFault sample profile input fault)
-verdict_unwritten None profile sample config trace fault e says = tt
-verdict_unwritten (Some input) profile sample config trace fault e says = rw e (config, trace, says)
+pub verdict_unwritten : (remaining : Option (List ℕ)) (profile : List ℕ) (sample : Bool) (config : Config) (trace : Recorded) (may_fail : Bool) (fault : Fault) → fault ≡ write_fault may_fail → IfSome remaining (λ input. SaysTrace sample profile input config (Ok trace)) → IfSome remaining (λ input. HasCheckFault sample profile input fault)
+verdict_unwritten None profile sample config trace may_fail fault e says = tt
+verdict_unwritten (Some input) profile sample config trace true fault e says = rw e (config, trace, says)
+verdict_unwritten (Some input) profile sample config trace false fault e says = rw e tt

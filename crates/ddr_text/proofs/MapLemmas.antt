@@ -1,5 +1,5 @@
 -- The text of a map.
-use Rattle.std.proofs.Common.{◌≡◌, ℕ, ◌+◌, ◌*◌, ◌<◌, ◌≤◌, Bool, List, [], ◌∷◌, ◌++◌, length, get_or, drop, Option, Some, None, Result, Ok, Err, refl, sym, subst, ap, ◌∙◌, IfErr, IfSome, OnOk, append_assoc, arith}
+use Rattle.std.proofs.Common.{◌≡◌, ℕ, ◌+◌, ◌*◌, ◌<◌, ◌≤◌, Bool, true, false, List, [], ◌∷◌, ◌++◌, length, get_or, drop, Option, Some, None, Result, Ok, Err, refl, sym, subst, ap, ◌∙◌, IfErr, IfSome, OnOk, append_assoc, arith}
 use Rattle.std.specs.Fmt.{decimal}
 use Rattle.std.specs.Io.KnownBytes.{Appends}
 use Rattle.std.specs.Option.{option_map_or}
@@ -14,6 +14,7 @@ use Rattle.ddr_text.specs.declared.fault.Fault.{Fault}
 use Rattle.ddr_text.specs.declared.fault.Fault.TheVariants as faults
 use Rattle.ddr_text.specs.Body.{IsOpened, IsRefused, parts_of}
 use Rattle.ddr_text.specs.MapText.{HasMapFault, IsMapFault, IsMapped, SaysPlaces, address_text, line_text, map_text, text_from}
+use Rattle.ddr_text.specs.Sink.{write_fault}
 use Rattle.ddr_text.proofs.BodyLemmas.{not_of_parts}
 
 -- beyond the memory
@@ -94,7 +95,8 @@ map_written (Ok v) None profile text sample old new says written = tt
 map_written (Ok v) (Some input) profile text sample old new says written = record { text = text; says = says; written = written }
 
 -- a text that was not written
-pub map_unwritten : (r : Result (Unit {0}) Fault) (remaining : Option (List ℕ)) (profile text : List ℕ) (sample : Bool) → IfSome remaining (λ input. SaysPlaces sample profile input (Ok text)) → IfErr r (λ fault. fault ≡ faults.Write) → IfErr r (λ fault. IfSome remaining (λ input. HasMapFault sample profile input fault))
-map_unwritten (Ok v) remaining profile text sample says refused = tt
-map_unwritten (Err fault) None profile text sample says refused = tt
-map_unwritten (Err fault) (Some input) profile text sample says refused = rw refused (text, says)
+pub map_unwritten : (r : Result (Unit {0}) Fault) (remaining : Option (List ℕ)) (profile text : List ℕ) (sample may_fail : Bool) → IfSome remaining (λ input. SaysPlaces sample profile input (Ok text)) → IfErr r (λ fault. fault ≡ write_fault may_fail) → IfErr r (λ fault. IfSome remaining (λ input. HasMapFault sample profile input fault))
+map_unwritten (Ok v) remaining profile text sample may_fail says refused = tt
+map_unwritten (Err fault) None profile text sample may_fail says refused = tt
+map_unwritten (Err fault) (Some input) profile text sample true says refused = rw refused (text, says)
+map_unwritten (Err fault) (Some input) profile text sample false says refused = rw refused tt

@@ -9,3 +9,4 @@ pub mod Lines
 pub mod MapText
 pub mod Requests
 pub mod Script
+pub mod Sink

@@ -10,6 +10,7 @@ ghost use Rattle.ddr_text.specs.Fault.{is_before_output};
 use crate::body::read_parts;
 use crate::fault::Fault;
 use crate::input::{read_source, text_of};
+use crate::sink::Sink;
 use crate::source::Source;
 use crate::writing::write_whole;
 use ddr_legality::checker::first_fault;
@@ -20,7 +21,6 @@ use ddr_trace::reader::read_trace;
 use ddr_trace::text::TraceError;
 use ddr_trace::trace::Trace;
 use std::alloc::{AllocError, Global};
-use std::io::Write;
 
 /// Reads a trace, and writes `legal`, or `fault PLACE RULE` for its first fault; answers whether it is legal. It
 /// is legal where it breaks no rule, the two on refresh among them.
@@ -29,9 +29,10 @@ use std::io::Write;
 /// configuration of either version, a line `---` and the text. A place counts the commands from 0, and is their number where the
 /// trace's end is at fault.
 ///
-/// Fails as `read_parts` does, and by the fault that comes first in the trace's text; as `Read` where the reader fails, and so
-/// never over bytes in memory. Nothing is written before the verdict is there, so only `Write` may leave a part of it.
-pub fn check<R: Source, W: Write>(
+/// Fails as `read_parts` does, and by the fault that comes first in the trace's text; as `Read` where the reader fails and as
+/// `Write` where the writer does, and so never over bytes in memory. Nothing is written before the verdict is there, so only
+/// `Write` may leave a part of it.
+pub fn check<R: Source, W: Sink>(
     alloc: Global,
     sample: bool,
     reader: &mut R,
@@ -39,7 +40,9 @@ pub fn check<R: Source, W: Write>(
 ) -> Result<bool, Fault>
     ensures untouched { IfErr result (λ fault. IsTrue (is_before_output fault) → writer.new ≡ writer.old) }
     ensures sure { IsErrOf result Fault.Read → IsTrue R.may_fail }
-    ensures spared { IsErrOf result Fault.OutOfMemory → writer.new ≡ writer.old }
+    ensures taken { IsErrOf result Fault.Write → IsTrue W.may_fail }
+    ensures spared { IsErrOf result Fault.OutOfMemory → W.contents writer.new ≡ W.contents writer.old }
+    ensures unmoved { IsErrOf result Fault.OutOfMemory → IsTrue W.may_fail → writer.new ≡ writer.old }
     ensures fault { IfErr result (λ fault. IfSome (R.remaining reader.old) (λ input.
         HasCheckFault sample PROFILE_S.now input fault)) }
     ensures written { IfOk result (λ legal. IfSome (R.remaining reader.old) (λ input.

@@ -5,8 +5,8 @@
 //! `command` the words of the command line ask for, with the texts of `help`. An input goes from module to module: `source`
 //! is where it comes from, `input` makes a text of its bytes, `body` takes the configuration off it, `script` reads a line
 //! and `instructions` a whole script, and `requests` looks for what no port takes. `check` and `map` are commands over a
-//! reader and a writer, and `writing` gives text out. `fault` is what can go wrong in a command, and `ending` what ends the
-//! program.
+//! reader and a writer; `writing` gives text out, and `sink` is where it goes. `fault` is what can go wrong in a command,
+//! and `ending` what ends the program.
 #![tactic(auto)]
 
 pub mod body;
@@ -21,5 +21,6 @@ pub mod job;
 pub mod map;
 pub mod requests;
 pub mod script;
+pub mod sink;
 pub mod source;
 pub mod writing;

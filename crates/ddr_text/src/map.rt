@@ -10,13 +10,13 @@ use crate::body::open;
 use crate::fault::Fault;
 use crate::input::{LONGEST_INPUT, read_source, text_of};
 use crate::script::{LineError, number};
+use crate::sink::Sink;
 use crate::source::Source;
 use crate::writing::write_whole;
 use ddr_address_map::map::Map;
 use ddr_timing::profile::PROFILE_S;
 use ddr_timing::units::LINE_COLUMNS;
 use std::alloc::{AllocError, Global};
-use std::io::Write;
 
 /// Reads addresses, one a line, and writes where each lies, in the order of the lines.
 ///
@@ -25,9 +25,9 @@ use std::io::Write;
 /// For each one line is written: `ADDR CHANNEL GROUP BANK ROW COL OFFSET`, where `COL` counts device columns and
 /// `OFFSET` bytes, or `ADDR out` from the capacity on. Empty lines are skipped.
 ///
-/// Fails as `open` does, and as `MapLine` at the first line that is no address. Nothing is written before the whole
-/// text is there, so only `Write` may leave a part of it.
-pub fn map<R: Source, W: Write>(
+/// Fails as `open` does, as `MapLine` at the first line that is no address, and as `Write` where the writer fails, and so
+/// never over bytes in memory. Nothing is written before the whole text is there, so only `Write` may leave a part of it.
+pub fn map<R: Source, W: Sink>(
     alloc: Global,
     sample: bool,
     reader: &mut R,
@@ -35,7 +35,9 @@ pub fn map<R: Source, W: Write>(
 ) -> Result<(), Fault>
     ensures untouched { IfErr result (λ fault. IsTrue (is_before_output fault) → writer.new ≡ writer.old) }
     ensures sure { IsErrOf result Fault.Read → IsTrue R.may_fail }
-    ensures spared { IsErrOf result Fault.OutOfMemory → writer.new ≡ writer.old }
+    ensures taken { IsErrOf result Fault.Write → IsTrue W.may_fail }
+    ensures spared { IsErrOf result Fault.OutOfMemory → W.contents writer.new ≡ W.contents writer.old }
+    ensures unmoved { IsErrOf result Fault.OutOfMemory → IsTrue W.may_fail → writer.new ≡ writer.old }
     ensures fault { IfErr result (λ fault. IfSome (R.remaining reader.old) (λ input.
         HasMapFault sample PROFILE_S.now input fault)) }
     ensures written { OnOk result (IfSome (R.remaining reader.old) (λ input.

@@ -1,6 +1,6 @@
 //! Where an input comes from: bytes in memory, or a reader that may fail.
 //!
-//! Nothing of the program stands below; `input` reads from it.
+//! Nothing of the program stands below; `input` reads from it, and `sink` writes to a `Device`.
 ghost use Rattle.std.specs.Prelude.{Bool, IsTrue, OnErr, false, true};
 ghost use Rattle.std.specs.Io.{ReadsAtMost};
 ghost use Rattle.std.specs.Io.KnownBytes.{ReadConsumes};
@@ -28,7 +28,7 @@ impl Source for &[u8] {
     }
 }
 
-/// A file, a terminal or another reader that may fail.
+/// A file, a terminal or another reader or writer that may fail.
 #[derive(Drop)]
 pub struct Device<R>(pub R);
 

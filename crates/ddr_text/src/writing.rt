@@ -1,39 +1,36 @@
 //! Text to a writer.
 //!
-//! `fault` stands below; every command writes by this.
-ghost use Rattle.std.specs.Prelude.{◌≡◌, IfErr, OnOk};
+//! `fault` and `sink` stand below; every command writes by this.
+ghost use Rattle.std.specs.Prelude.{◌≡◌, IfErr, IsErrOf, IsTrue, OnOk};
 ghost use Rattle.std.specs.Io.KnownBytes.{Appends, Keeps};
+ghost use Rattle.ddr_text.specs.Sink.{write_fault};
 
 use crate::fault::Fault;
-use std::io::Write;
+use crate::sink::Sink;
 
-/// Writes a part of what a command writes. Fails as `Write`, after which some of it may have been written.
-pub fn write_text<W: Write>(writer: &mut W, text: &str) -> Result<(), Fault>
+/// Writes a part of what a command writes. Fails as `Write` where the writer may fail, after which some of it may have been
+/// written, and else as `OutOfMemory`, and then none has.
+pub fn write_text<W: Sink>(writer: &mut W, text: &str) -> Result<(), Fault>
     ensures written { OnOk result (Appends (W.contents writer.old) (W.contents writer.new) text.now) }
-    ensures refused { IfErr result (λ fault. fault ≡ Fault.Write) }
+    ensures refused { IfErr result (λ fault. fault ≡ write_fault W.may_fail) }
+    ensures spared { IsErrOf result Fault.OutOfMemory → W.contents writer.new ≡ W.contents writer.old }
 {
-    match writer.write_all(text.as_bytes()) {
-        Ok(()) => Ok(()),
-        Err(_) => Err(Fault::Write),
-    }
+    writer.write_bytes(text.as_bytes())
 }
 
-/// Gives on what was written. Fails as `Write`.
-pub fn flush<W: Write>(writer: &mut W) -> Result<(), Fault>
+/// Gives on what was written. Fails as `Write`, where the writer may fail.
+pub fn flush<W: Sink>(writer: &mut W) -> Result<(), Fault>
     ensures kept { OnOk result (Keeps (W.contents writer.old) (W.contents writer.new)) }
-    ensures refused { IfErr result (λ fault. fault ≡ Fault.Write) }
+    ensures refused { IfErr result (λ fault. (fault ≡ Fault.Write) × IsTrue W.may_fail) }
 {
-    match writer.flush() {
-        Ok(()) => Ok(()),
-        Err(_) => Err(Fault::Write),
-    }
+    writer.flush_bytes()
 }
 
-/// Writes all that a command writes, and flushes. Fails as `Write`, after which some of it may have been
-/// written.
-pub fn write_whole<W: Write>(writer: &mut W, text: &str) -> Result<(), Fault>
+/// Writes all that a command writes, and flushes. Fails as `write_text` does.
+pub fn write_whole<W: Sink>(writer: &mut W, text: &str) -> Result<(), Fault>
     ensures written { OnOk result (Appends (W.contents writer.old) (W.contents writer.new) text.now) }
-    ensures refused { IfErr result (λ fault. fault ≡ Fault.Write) }
+    ensures refused { IfErr result (λ fault. fault ≡ write_fault W.may_fail) }
+    ensures spared { IsErrOf result Fault.OutOfMemory → W.contents writer.new ≡ W.contents writer.old }
 {
     write_text(writer, text)?;
     flush(writer)

@@ -37,6 +37,6 @@ returns-clause-fault g c =
     let text = c.in_ok-text.ensures.text in
     let same = text.0 ∙ c.as_slice.ensures.value in
     let is_text = subst IsText c.as_slice.ensures.value text.1 in
-    map_unwritten c.write_whole.result (g.R.Read.remaining c.args.reader.now) PROFILE_S.now c.as_str.result.now c.args.sample
+    map_unwritten c.write_whole.result (g.R.Read.remaining c.args.reader.now) PROFILE_S.now c.as_str.result.now c.args.sample g.W.Sink.may_fail
     (said_of (g.R.Read.remaining c.args.reader.now) c.in_ok-input.input.items c.in_ok-text.text.now PROFILE_S.now c.args.sample c.in_ok-config.config c.in_ok-config.body.now c.new.result.geometry (Ok c.as_str.result.now) c.in_ok-input.ensures.all same is_text c.in_ok-config.ensures.opened c.new.ensures (c.in_ok-lines.ensures ∙ ap Ok (sym c.as_str.ensures.value)))
     c.write_whole.ensures.refused
