@@ -27,10 +27,11 @@ use Rattle.ddr_sim.specs.Replies.{refused_text, reply_text}
 use Rattle.ddr_sim.specs.Rounds.{Run, Course, ◌then◌, after, channel_served, channels_served, items_of, outstanding, port_served, ports_served, replied, round, rounds, round_closed, stopped, until_refused}
 use Rattle.ddr_sim.specs.Runs.{after_submit, all_followed, channel_text, channels_ended, drained, followed, ports_ended, submitted}
 use Rattle.ddr_text.specs.Script.{view}
+use Rattle.ddr_text.specs.Sink.{write_fault}
 use Rattle.ddr_text.specs.declared.script.Instruction as kept
 use Rattle.std.proofs.lemmas.List.{at_drop_more, at_drop_all}
 use Rattle.ddr_sim.specs.Simulated.{BeginsWith, printed_in, ComesTo, IsCycleFault, IsFrontPrinted, IsSameRun, Leads, Prints, Simulated, is_popping, run_at}
-use Rattle.ddr_sim.proofs.Growth.{Grows, begins_on, begins_then, ports_more, round_grows}
+use Rattle.ddr_sim.proofs.Growth.{Grows, begins_on, begins_then, ports_more, round_grows, submitted_grows}
 use Rattle.ddr_sim.proofs.StepCounts.{release_pops}
 
 -- what an event was answered
@@ -244,8 +245,9 @@ device_failed f a b ca cb faults.OutOfMemory grows silent spared is = λ begin t
 device_failed f a b ca cb _ grows silent spared is = absurd (elim is as (λ _. ⊥) [ inl e ↦ cc | inr e ↦ cc ])
 
 -- the writer failed
-write_failed : (f : Run → Course) (a b : Simulated) (ca cb : Option (List ℕ)) (fault : Fault) → fault ≡ faults.Write → Leads f a ca b cb (Err fault)
-write_failed f a b ca cb fault is = λ begin text printed. subst (λ (e : Fault). ComesTo begin b cb (Err e) (f (run_at a text))) (sym is) tt
+write_failed : (f : Run → Course) (a b : Simulated) (ca cb : Option (List ℕ)) (may_fail : Bool) (fault : Fault) → Grows f → b.silent ≡ a.silent → (◌≡◌ {A = Result (Unit {0}) Fault} (Err fault) (Err faults.OutOfMemory) → cb ≡ ca) → fault ≡ write_fault may_fail → Leads f a ca b cb (Err fault)
+write_failed f a b ca cb true fault grows silent spared is = device_failed f a b ca cb fault grows silent (λ e. spared (ap (λ (x : Fault). Err x) e)) (inl is)
+write_failed f a b ca cb false fault grows silent spared is = device_failed f a b ca cb fault grows silent (λ e. spared (ap (λ (x : Fault). Err x) e)) (inr is)
 
 -- a round
 
@@ -312,15 +314,16 @@ refused_silently p asked a b ca cause v is state left silent none = λ begin tex
   subst (λ k. Prints k begin ca (text ++ refused_text p cause)) (sym none) (subst (λ k. Prints k begin ca text) (sym silent ∙ none) printed),
 )
 
-pub refused_aloud : (p : ℕ) (asked : Asked) (a b : Simulated) (ca cb : Option (List ℕ)) (cause : Refusal) (said : List ℕ) (r : Result (Unit {0}) Fault) → step (state_of a.world) (Submit p asked) ≡ Err cause → state_of b.world ≡ state_of a.world → b.left ≡ a.left → b.silent ≡ a.silent → b.silent ≡ false
-    → said ≡ refused_text p cause → OnOk r (Appends ca cb said) → IfErr r (λ fault. fault ≡ faults.Write) → Leads (λ run. Ok (submitted p asked run)) a ca b cb r
-refused_aloud p asked a b ca cb cause said (Ok v) is state left silent aloud same wrote failed = λ begin text printed. (
+pub refused_aloud : (p : ℕ) (asked : Asked) (a b : Simulated) (ca cb : Option (List ℕ)) (may_fail : Bool) (cause : Refusal) (said : List ℕ) (r : Result (Unit {0}) Fault) → step (state_of a.world) (Submit p asked) ≡ Err cause → state_of b.world ≡ state_of a.world → b.left ≡ a.left → b.silent ≡ a.silent → b.silent ≡ false
+    → said ≡ refused_text p cause → OnOk r (Appends ca cb said) → IfErr r (λ fault. fault ≡ write_fault may_fail) → (r ≡ Err faults.OutOfMemory → cb ≡ ca) → Leads (λ run. Ok (submitted p asked run)) a ca b cb r
+refused_aloud p asked a b ca cb may_fail cause said (Ok v) is state left silent aloud same wrote failed spared = λ begin text printed. (
   text ++ refused_text p cause,
   refused_run p asked a b cause text is state left,
   subst (λ k. Prints k begin cb (text ++ refused_text p cause)) (sym aloud)
       (Appends-trans begin ca cb text (refused_text p cause) (subst (λ k. Prints k begin ca text) (sym silent ∙ aloud) printed) (subst (Appends ca cb) same wrote)),
 )
-refused_aloud p asked a b ca cb cause said (Err fault) is state left silent aloud same wrote failed = write_failed (λ run. Ok (submitted p asked run)) a b ca cb fault failed
+refused_aloud p asked a b ca cb may_fail cause said (Err fault) is state left silent aloud same wrote failed spared =
+    write_failed (λ run. Ok (submitted p asked run)) a b ca cb may_fail fault (submitted_grows p asked) silent spared failed
 
 -- a run that goes on
 

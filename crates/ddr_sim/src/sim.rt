@@ -10,12 +10,12 @@ use ddr_text::body::open;
 use ddr_text::fault::Fault;
 use ddr_text::input::{read_source, text_of};
 use ddr_text::instructions::{Form, instructions_of};
+use ddr_text::sink::Sink;
 use ddr_text::source::Source;
 use ddr_text::writing::flush;
 use ddr_timing::config::Config;
 use ddr_timing::profile::PROFILE_S;
 use std::alloc::Global;
-use std::io::Write;
 
 /// Reads a script and runs it.
 ///
@@ -27,8 +27,8 @@ use std::io::Write;
 /// line of the script that is at fault, or as `ScriptLimit` at the first request too many. At these nothing is written.
 /// A run that needs too many rounds fails as `ScriptLimit` too, and what was written before stands, as at every later
 /// fault; of a trace nothing is written where memory runs out. At its end the core is drained and closed; one that is not
-/// drained would be told as `NotDrained`. Over bytes in memory it never fails as `Read`.
-pub fn sim<R: Source, W: Write>(
+/// drained would be told as `NotDrained`. Over bytes in memory it never fails as `Read` or as `Write`.
+pub fn sim<R: Source, W: Sink>(
     alloc: Global,
     sample: bool,
     trace: Option<u32>,
@@ -37,6 +37,7 @@ pub fn sim<R: Source, W: Write>(
 ) -> Result<(), Fault>
     ensures untouched { IfErr result (λ fault. IsTrue (is_before_output fault) → writer.new ≡ writer.old) }
     ensures sure { IsErrOf result Fault.Read → IsTrue R.may_fail }
+    ensures taken { IsErrOf result Fault.Write → IsTrue W.may_fail }
     ensures fault { IfErr result (λ fault. IfSome (R.remaining reader.old) (λ input.
         HasSimFault sample PROFILE_S.now trace input (W.contents writer.old) (W.contents writer.new) fault)) }
     ensures written { OnOk result (IfSome (R.remaining reader.old) (λ input.

@@ -1,7 +1,7 @@
 //! A run of a script over the core: its instructions, its rounds and its Ends.
 //!
 //! `reply`, `ddr_text` and `ddr_world` stand below, and `sim` above.
-ghost use Rattle.std.specs.Prelude.{◌≡◌, ◌==◌, ◌+◌, ◌-◌, ◌<◌, ◌≤◌, ◌^◌, ◌⊎◌, [], true, IfErr, IfOk, IsTrue, OnOk, Ok, Some, map};
+ghost use Rattle.std.specs.Prelude.{◌≡◌, ◌==◌, ◌+◌, ◌-◌, ◌<◌, ◌≤◌, ◌^◌, ◌⊎◌, [], true, IfErr, IfOk, IsErrOf, IsTrue, OnOk, Ok, Some, map};
 ghost use Rattle.std.specs.Io.KnownBytes.{Appends};
 ghost use Rattle.ddr_ports.specs.Asked.{asked_of};
 ghost use Rattle.ddr_world.specs.Answer.{IsAnswered};
@@ -13,6 +13,7 @@ ghost use Rattle.ddr_world.specs.State.{IsDrained};
 ghost use Rattle.ddr_sim.specs.Rounds.{channel_served, channels_served, outstanding, port_served, ports_served, round, rounds, until_refused};
 ghost use Rattle.ddr_sim.specs.Runs.{all_followed, begun, channel_text, channels_ended, drained, followed, ports_ended, submitted, whole};
 ghost use Rattle.ddr_text.specs.Script.{view};
+ghost use Rattle.ddr_text.specs.Sink.{write_fault};
 ghost use Rattle.ddr_sim.specs.Simulated.{IsCycleFault, IsFrontPrinted, IsSameRun, Leads, added, is_popping, run_at};
 
 use crate::reply::{refused_text, reply_text};
@@ -20,13 +21,13 @@ use ddr_channel::channel::Channel;
 use ddr_ports::request::Request;
 use ddr_text::fault::Fault;
 use ddr_text::script::Instruction;
+use ddr_text::sink::Sink;
 use ddr_text::writing::write_text;
 use ddr_timing::config::Config;
 use ddr_trace::text::write_trace;
 use ddr_world::event::{Event, Outcome, Refusal};
 use ddr_world::world::World;
 use std::alloc::{AllocError, Global};
-use std::io::Write;
 use std::marker::Model;
 
 /// The most rounds that a run makes, this project's choice.
@@ -77,9 +78,9 @@ impl Simulation {
     /// Follows the instructions of a script in order, then makes rounds until nothing is outstanding, then pushes and
     /// takes the Ends. Replies and refusals are printed as they come.
     ///
-    /// Fails as `ScriptLimit` where one round too many is to be made, as `ClockSpent`, `OutOfMemory` and `Write`.
-    /// What was printed before stands.
-    pub fn run<W: Write>(
+    /// Fails as `ScriptLimit` where one round too many is to be made, as `ClockSpent`, as `OutOfMemory`, and as `Write` where the
+    /// writer fails. What was printed before stands.
+    pub fn run<W: Sink>(
         &mut self,
         alloc: Global,
         instructions: &[Instruction],
@@ -87,6 +88,7 @@ impl Simulation {
     ) -> Result<(), Fault>
         requires { self.old.waiting ≡ 0 }
         ensures leads { Leads (whole self.old.config (map view instructions.now)) self.old (W.contents writer.old) self.new (W.contents writer.new) result }
+        ensures taken { IsErrOf result Fault.Write → IsTrue W.may_fail }
         ensures silent { self.new.silent ≡ self.old.silent }
     {
         self.follow_all(alloc, instructions, writer)?;
@@ -96,7 +98,7 @@ impl Simulation {
     }
 
     /// Follows the instructions of a script, in order.
-    fn follow_all<W: Write>(
+    fn follow_all<W: Sink>(
         &mut self,
         alloc: Global,
         instructions: &[Instruction],
@@ -104,6 +106,7 @@ impl Simulation {
     ) -> Result<(), Fault>
         requires { self.old.waiting ≡ 0 }
         ensures leads { Leads (all_followed self.old.config (map view instructions.now)) self.old (W.contents writer.old) self.new (W.contents writer.new) result }
+        ensures taken { IsErrOf result Fault.Write → IsTrue W.may_fail }
         ensures config { self.new.config ≡ self.old.config }
         ensures silent { self.new.silent ≡ self.old.silent }
     {
@@ -114,7 +117,7 @@ impl Simulation {
     }
 
     /// Asks a port for what a line of the script says, or makes the rounds that it says.
-    fn follow<W: Write>(
+    fn follow<W: Sink>(
         &mut self,
         alloc: Global,
         instruction: &Instruction,
@@ -122,6 +125,7 @@ impl Simulation {
     ) -> Result<(), Fault>
         requires { self.old.waiting < 2 ^ 64 - 1 }
         ensures leads { Leads (followed self.old.config (view instruction.now)) self.old (W.contents writer.old) self.new (W.contents writer.new) result }
+        ensures taken { IsErrOf result Fault.Write → IsTrue W.may_fail }
         ensures same { IsSameRun self.old self.new 1 }
     {
         match instruction {
@@ -147,7 +151,7 @@ impl Simulation {
     }
 
     /// Asks a port for a request. Where it is refused the cause is printed.
-    fn ask<W: Write>(
+    fn ask<W: Sink>(
         &mut self,
         alloc: Global,
         port: u32,
@@ -156,6 +160,7 @@ impl Simulation {
     ) -> Result<(), Fault>
         requires { self.old.waiting < 2 ^ 64 - 1 }
         ensures leads { Leads (λ run. Ok (submitted port (asked_of request.entry) run)) self.old (W.contents writer.old) self.new (W.contents writer.new) result }
+        ensures taken { IsErrOf result Fault.Write → IsTrue W.may_fail }
         ensures same { IsSameRun self.old self.new 1 }
     {
         let Err(cause) = self.make(Event::Submit(port, request)) else {
@@ -169,8 +174,9 @@ impl Simulation {
     }
 
     /// Makes so many rounds.
-    fn rounds<W: Write>(&mut self, alloc: Global, count: u32, writer: &mut W) -> Result<(), Fault>
+    fn rounds<W: Sink>(&mut self, alloc: Global, count: u32, writer: &mut W) -> Result<(), Fault>
         ensures leads { Leads (rounds self.old.config count) self.old (W.contents writer.old) self.new (W.contents writer.new) result }
+        ensures taken { IsErrOf result Fault.Write → IsTrue W.may_fail }
         ensures same { IsSameRun self.old self.new 0 }
     {
         for _made in 0..count {
@@ -180,8 +186,9 @@ impl Simulation {
     }
 
     /// Makes rounds until nothing is outstanding.
-    fn drain<W: Write>(&mut self, alloc: Global, writer: &mut W) -> Result<(), Fault>
+    fn drain<W: Sink>(&mut self, alloc: Global, writer: &mut W) -> Result<(), Fault>
         ensures leads { Leads (drained self.old.config self.old.left) self.old (W.contents writer.old) self.new (W.contents writer.new) result }
+        ensures taken { IsErrOf result Fault.Write → IsTrue W.may_fail }
         ensures same { IsSameRun self.old self.new 0 }
     {
         'rounds: while !self.is_idle() {
@@ -199,8 +206,9 @@ impl Simulation {
 
     /// Makes a round: each channel's part in order, then each port's. Fails as `ScriptLimit` where no further one may
     /// be made.
-    fn round<W: Write>(&mut self, alloc: Global, writer: &mut W) -> Result<(), Fault>
+    fn round<W: Sink>(&mut self, alloc: Global, writer: &mut W) -> Result<(), Fault>
         ensures leads { Leads (round self.old.config) self.old (W.contents writer.old) self.new (W.contents writer.new) result }
+        ensures taken { IsErrOf result Fault.Write → IsTrue W.may_fail }
         ensures same { IsSameRun self.old self.new 0 }
         ensures left { OnOk result (self.old.left ≡ self.new.left + 1) }
     {
@@ -243,8 +251,9 @@ impl Simulation {
     }
 
     /// The ports' part of a round.
-    fn serve_ports<W: Write>(&mut self, alloc: Global, writer: &mut W) -> Result<(), Fault>
+    fn serve_ports<W: Sink>(&mut self, alloc: Global, writer: &mut W) -> Result<(), Fault>
         ensures leads { Leads (λ run. Ok (ports_served self.old.config.limits.ports run)) self.old (W.contents writer.old) self.new (W.contents writer.new) result }
+        ensures taken { IsErrOf result Fault.Write → IsTrue W.may_fail }
         ensures same { IsSameRun self.old self.new 0 }
         ensures left { self.new.left ≡ self.old.left }
     {
@@ -255,13 +264,9 @@ impl Simulation {
     }
 
     /// A port's part of a round: it collects what was delivered, and each reply in front is printed and released.
-    fn serve_port<W: Write>(
-        &mut self,
-        alloc: Global,
-        port: u32,
-        writer: &mut W,
-    ) -> Result<(), Fault>
+    fn serve_port<W: Sink>(&mut self, alloc: Global, port: u32, writer: &mut W) -> Result<(), Fault>
         ensures leads { Leads (λ run. Ok (port_served port run)) self.old (W.contents writer.old) self.new (W.contents writer.new) result }
+        ensures taken { IsErrOf result Fault.Write → IsTrue W.may_fail }
         ensures same { IsSameRun self.old self.new 0 }
         ensures left { self.new.left ≡ self.old.left }
     {
@@ -273,8 +278,9 @@ impl Simulation {
     }
 
     /// Prints the reply in front of a port, if there is one, and tells whether there was.
-    fn print_front<W: Write>(&self, alloc: Global, port: u32, writer: &mut W) -> Result<bool, Fault>
+    fn print_front<W: Sink>(&self, alloc: Global, port: u32, writer: &mut W) -> Result<bool, Fault>
         ensures printed { IfOk result (IsFrontPrinted port (front_of (state_of self.now.world) port) self.now.silent (W.contents writer.old) (W.contents writer.new)) }
+        ensures taken { IsErrOf result Fault.Write → IsTrue W.may_fail }
         ensures spared { IfErr result (λ fault. fault ≡ Fault.OutOfMemory → W.contents writer.new ≡ W.contents writer.old) }
         ensures fault { IfErr result (λ fault. (fault ≡ Fault.Write) ⊎ (fault ≡ Fault.OutOfMemory)) }
     {
@@ -338,13 +344,14 @@ impl Simulation {
     }
 
     /// Writes the trace of a channel, and flushes. Where memory runs out nothing is written.
-    pub fn write_trace<W: Write>(
+    pub fn write_trace<W: Sink>(
         &self,
         alloc: Global,
         channel: u32,
         writer: &mut W,
     ) -> Result<(), Fault>
         ensures written { OnOk result (Appends (W.contents writer.old) (W.contents writer.new) (channel_text (state_of self.now.world) channel)) }
+        ensures taken { IsErrOf result Fault.Write → IsTrue W.may_fail }
         ensures spared { IfErr result (λ fault. fault ≡ Fault.OutOfMemory → W.contents writer.new ≡ W.contents writer.old) }
         ensures fault { IfErr result (λ fault. (fault ≡ Fault.Write) ⊎ (fault ≡ Fault.OutOfMemory)) }
     {
@@ -379,13 +386,12 @@ fn text_of(alloc: Global, channel: &Channel) -> Result<Vec<u8>, Fault>
     }
 }
 
-/// Writes bytes, and gives them on. Fails as `Write`.
-fn write_bytes<W: Write>(writer: &mut W, bytes: &[u8]) -> Result<(), Fault>
+/// Writes bytes, and gives them on. Where memory runs out nothing is written.
+fn write_bytes<W: Sink>(writer: &mut W, bytes: &[u8]) -> Result<(), Fault>
     ensures written { OnOk result (Appends (W.contents writer.old) (W.contents writer.new) bytes.now) }
-    ensures refused { IfErr result (λ fault. fault ≡ Fault.Write) }
+    ensures refused { IfErr result (λ fault. fault ≡ write_fault W.may_fail) }
+    ensures spared { IsErrOf result Fault.OutOfMemory → W.contents writer.new ≡ W.contents writer.old }
 {
-    if writer.write_all(bytes).is_err() || writer.flush().is_err() {
-        return Err(Fault::Write);
-    }
-    Ok(())
+    writer.write_bytes(bytes)?;
+    writer.flush_bytes()
 }

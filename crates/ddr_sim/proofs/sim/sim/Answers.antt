@@ -82,7 +82,7 @@ returns-in_err-flush-in-None-clause-fault g c =
     let mid = g.W.Write.contents c.run.new.writer in
     let silent = c.run.ensures.silent ∙ c.in_ok-simulation.ensures.silent ∙ c.is_some.ensures in
     let p = err_from_is_err_and c.from_residual-in_err-flush-in-None.result c.from_residual-in_err-flush-in-None.ensures.1 in
-    rw (p.1, p.2) (flush_fault (g.R.Read.remaining c.args.reader.now) PROFILE_S.now c.args.sample c.args.trace config (map view items) old (g.W.Write.contents c.flush.new.writer) c.in_err-flush-in-None.field-0.0 said c.in_err-flush-in-None.ensures.refused)
+    rw (p.1, p.2) (flush_fault (g.R.Read.remaining c.args.reader.now) PROFILE_S.now c.args.sample c.args.trace config (map view items) old (g.W.Write.contents c.flush.new.writer) c.in_err-flush-in-None.field-0.0 said c.in_err-flush-in-None.ensures.refused.0)
 
 pub returns-in_err-write_trace-in-Some-clause-fault : goal.returns-in_err-write_trace-in-Some-clause-fault
 returns-in_err-write_trace-in-Some-clause-fault g c =

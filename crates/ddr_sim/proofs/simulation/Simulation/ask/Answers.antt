@@ -15,5 +15,5 @@ pub returns-clause-leads : goal.returns-clause-leads
 returns-clause-leads g c =
     let answer = c.in-Err.ensures.answer in
     let aloud = sym (ap (λ (s : Simulated). s.silent) c.self.view_is) ∙ c.if-self.false in
-    refused_aloud c.args.port (asked_of c.args.request) c.args.self.now c.make.new.self (g.W.Write.contents c.args.writer.now) (g.W.Write.contents c.write_text.new.writer) c.in-Err.cause c.as_str.result.now c.write_text.result
-    answer.refused answer.err c.make.ensures.left c.make.ensures.same.silent aloud (c.as_str.ensures.value ∙ c.in_ok-text.ensures) c.write_text.ensures.written c.write_text.ensures.refused
+    refused_aloud c.args.port (asked_of c.args.request) c.args.self.now c.make.new.self (g.W.Write.contents c.args.writer.now) (g.W.Write.contents c.write_text.new.writer) g.W.Sink.may_fail c.in-Err.cause c.as_str.result.now c.write_text.result
+    answer.refused answer.err c.make.ensures.left c.make.ensures.same.silent aloud (c.as_str.ensures.value ∙ c.in_ok-text.ensures) c.write_text.ensures.written c.write_text.ensures.refused c.write_text.ensures.spared
