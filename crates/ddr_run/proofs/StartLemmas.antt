@@ -1,5 +1,5 @@
 -- What an input of a run in threads says, and which fault it has.
-use Rattle.std.proofs.Common.{◌≡◌, ℕ, List, Bool, false, Option, None, Some, Result, Ok, Err, IfSome, refl, subst, ◌∙◌}
+use Rattle.std.proofs.Common.{◌≡◌, ℕ, List, Bool, true, false, Option, None, Some, Result, Ok, Err, IfSome, refl, subst, ◌∙◌}
 use Rattle.std.specs.Str.Lines.{lines}
 use Rattle.ddr_timing.specs.declared.config.Config.{Config}
 use Rattle.ddr_text.specs.declared.fault.Fault.{Fault}
@@ -11,6 +11,7 @@ use Rattle.ddr_text.specs.Input.{IsText}
 use Rattle.ddr_text.specs.Instructions.{AreRead, form_of, instructions_of}
 use Rattle.ddr_text.specs.Requests.{IsTaken, first_fault}
 use Rattle.ddr_text.specs.Script.{Instruction}
+use Rattle.ddr_text.specs.Sink.{write_fault}
 use Rattle.ddr_text.proofs.BodyLemmas.{not_of_parts}
 use Rattle.ddr_run.specs.Started.{AreChecked, HasChecked, HasRunFault, SaysRequests, stop_fault}
 
@@ -83,3 +84,8 @@ stopped text profile sample stops.OutOfMemory checked = tt
 stopped text profile sample stops.ClockSpent checked = checked
 stopped text profile sample stops.PortBroken checked = checked
 stopped text profile sample stops.ThreadsRefused checked = checked
+
+-- a text that was not written
+pub unwritten : (text profile : List ℕ) (sample may_fail : Bool) (fault : Fault) → fault ≡ write_fault may_fail → HasChecked sample profile text None → HasRunFault sample profile text fault
+unwritten text profile sample true fault e checked = rw e checked
+unwritten text profile sample false fault e checked = rw e tt

@@ -1,7 +1,7 @@
 //! A run of a script in threads: bytes in, the replies of each port and a verdict on each channel's trace out.
 //!
 //! `threads`, `outcome` and `ddr_text` stand below, and `ddr_tool` above.
-ghost use Rattle.std.specs.Prelude.{◌≡◌, IfErr, IfOk, IfSome, None, map, string_bytes};
+ghost use Rattle.std.specs.Prelude.{◌≡◌, ◌≢◌, IfErr, IfOk, IfSome, IsErrOf, IsTrue, None, map, string_bytes};
 ghost use Rattle.ddr_text.specs.Input.{IsText};
 ghost use Rattle.ddr_text.specs.Script.{view};
 ghost use Rattle.ddr_run.specs.declared.flag.Stop.TheVariants.{OutOfMemory};
@@ -16,13 +16,14 @@ use ddr_text::input::{read_input, text_of};
 use ddr_text::instructions::{Form, instructions_of};
 use ddr_text::requests::check_requests;
 use ddr_text::script::Instruction;
+use ddr_text::sink::Sink;
 use ddr_text::writing::write_whole;
 use ddr_timing::config::Config;
 use ddr_timing::profile::PROFILE_S;
 use ddr_workers::closing::{CloseError, all_ends_of_one_open};
 use ddr_workers::{close, open as open_system};
 use std::alloc::Global;
-use std::io::{Read, Write};
+use std::io::Read;
 use std::sync::Wait;
 use std::thread::Threads;
 
@@ -39,15 +40,19 @@ const RUN: u64 = 0;
 /// Fails as `open` does, then as `ScriptLine` at the first line of the script that is at fault, of which `cycle` is
 /// one, or as `ScriptLimit` at the first request too many, and then as `RequestLine` at the first request that no port
 /// takes. Where a thread stops before its end it fails as `OutOfMemory`, `ClockSpent` or `PortBroken`, and where the system
-/// gives too few threads as `ThreadsRefused`. Nothing is written before all threads ended.
-pub fn run<H: Threads + Wait + Sync, R: Read, W: Write>(
+/// gives too few threads as `ThreadsRefused`. Nothing is written before all threads ended. Over bytes in memory it never fails
+/// as `Write`.
+pub fn run<H: Threads + Wait + Sync, R: Read, W: Sink>(
     rt: &H,
     alloc: Global,
     sample: bool,
     reader: &mut R,
     writer: &mut W,
 ) -> Result<bool, Fault>
-    ensures untouched { IfErr result (λ fault. (fault ≡ Fault.Write → ⊥) → writer.new ≡ writer.old) }
+    ensures untouched { IfErr result (λ fault. fault ≢ Fault.Write → fault ≢ Fault.OutOfMemory → writer.new ≡ writer.old) }
+    ensures taken { IsErrOf result Fault.Write → IsTrue W.may_fail }
+    ensures spared { IsErrOf result Fault.OutOfMemory → W.contents writer.new ≡ W.contents writer.old }
+    ensures unmoved { IsErrOf result Fault.OutOfMemory → IsTrue W.may_fail → writer.new ≡ writer.old }
     ensures fault { IfErr result (λ fault. IfSome (R.remaining reader.old) (λ input.
         HasRunFault sample PROFILE_S.now input fault)) }
     ensures written { IfOk result (λ legal. IfSome (R.remaining reader.old) (λ input.
@@ -61,7 +66,8 @@ pub fn run<H: Threads + Wait + Sync, R: Read, W: Write>(
     Ok(legal)
 }
 
-/// The configuration of a text, and its script's instructions, each of which asks for what a port takes.
+/// The configuration of a text, and its script's instructions, each of which asks for what a port takes. Nothing is written
+/// yet, so it never fails as `Write`.
 fn read_requests(
     alloc: Global,
     sample: bool,
@@ -70,6 +76,7 @@ fn read_requests(
     requires { IsText text.now }
     ensures ok { IfOk result (λ read. AreChecked sample PROFILE_S.now text.now read.0 (map view read.1.items) None) }
     ensures err { IfErr result (HasRunFault sample PROFILE_S.now text.now) }
+    ensures sure { IfErr result (λ fault. fault ≢ Fault.Write) }
 {
     let (config, body) = open(alloc, sample, text)?;
     let form = Form {

@@ -3,11 +3,10 @@ use Rattle.std.proofs.Common.{List, None, map, subst, string_bytes, ◌∙◌}
 use Rattle.std.proofs.lemmas.Result.{err_from_is_err_and}
 use Rattle.std.specs.Io.KnownBytes.{Appends}
 use Rattle.ddr_timing.specs.declared.profile.TheConstants.{PROFILE_S}
-use Rattle.ddr_text.specs.declared.fault.Fault.TheVariants as faults
 use Rattle.ddr_text.specs.declared.script.Instruction as kept
 use Rattle.ddr_text.specs.Script.{view}
 use Rattle.ddr_run.specs.Started.{HasChecked, HasRunFault, IsRan, IsThreaded, stop_fault}
-use Rattle.ddr_run.proofs.StartLemmas.{of_input, stopped}
+use Rattle.ddr_run.proofs.StartLemmas.{of_input, stopped, unwritten}
 use Rattle.ddr_run.proofs.run.run.Goals as goal
 
 pub returns-in_err-config-clause-fault : goal.returns-in_err-config-clause-fault
@@ -26,7 +25,8 @@ pub returns-in_err-write_whole-clause-fault : goal.returns-in_err-write_whole-cl
 returns-in_err-write_whole-clause-fault g c =
     let checked : HasChecked c.args.sample PROFILE_S.now c.in_ok-text.text.now None = (c.in_ok-config.config, map view c.in_ok-config.instructions.items, c.in_ok-config.ensures.ok) in
     let p = err_from_is_err_and c.from_residual-in_err-write_whole.result c.from_residual-in_err-write_whole.ensures.1 in
-    rw (p.1, p.2 ∙ c.in_err-write_whole.ensures.refused) (of_input (g.R.Read.remaining c.args.reader.now) c.in_ok-input.input.items c.in_ok-text.text.now (λ input. HasRunFault c.args.sample PROFILE_S.now input faults.Write) c.in_ok-input.ensures.all (c.in_ok-text.ensures.text.0 ∙ c.as_slice.ensures.value) checked)
+    rw p.1 (of_input (g.R.Read.remaining c.args.reader.now) c.in_ok-input.input.items c.in_ok-text.text.now (λ input. HasRunFault c.args.sample PROFILE_S.now input p.0) c.in_ok-input.ensures.all (c.in_ok-text.ensures.text.0 ∙ c.as_slice.ensures.value)
+    (unwritten c.in_ok-text.text.now PROFILE_S.now c.args.sample g.W.Sink.may_fail p.0 (p.2 ∙ c.in_err-write_whole.ensures.refused) checked))
 
 pub returns-clause-written : goal.returns-clause-written
 returns-clause-written g c =
