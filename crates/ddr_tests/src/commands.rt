@@ -15,10 +15,10 @@ use ddr_sim::sim::sim;
 use ddr_text::check::check;
 use ddr_text::fault::Fault;
 use ddr_text::map::map;
+use ddr_text::sink::Sink;
 use ddr_text::source::Source;
 use ddr_timing::profile::PROFILE_S;
 use std::alloc::{AllocError, Global};
-use std::io::Write;
 use std::process::Abort;
 use std::str;
 
@@ -47,7 +47,7 @@ enum Command {
 }
 
 /// How a command ends. Answers false where it is a check, and the trace is not legal.
-fn end_of<R: Source, W: Write>(
+fn end_of<R: Source, W: Sink>(
     alloc: Global,
     command: Command,
     sample: bool,

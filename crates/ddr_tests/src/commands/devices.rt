@@ -204,12 +204,12 @@ fn write_in(
     calls: u32,
 ) -> (Vec<u8>, Result<bool, Fault>) {
     let mut reader = input.as_bytes();
-    let mut writer = Full {
+    let mut writer = Device(Full {
         text: Vec::new(alloc),
         calls,
-    };
+    });
     let end = end_of(alloc, command, true, &mut reader, &mut writer);
-    (writer.text, end)
+    (writer.0.text, end)
 }
 
 /// That a run which writes in so many calls, of those that are needed, writes a beginning of the text, or all of it.
@@ -281,12 +281,12 @@ fn run_to<R: Threads + Wait + Sync>(
     calls: u32,
 ) -> (Vec<u8>, Result<bool, Fault>) {
     let mut reader = WRITE_THEN_READ.as_bytes();
-    let mut writer = Full {
+    let mut writer = Device(Full {
         text: Vec::new(alloc),
         calls,
-    };
+    });
     let end = run(rt, alloc, true, &mut reader, &mut writer);
-    (writer.text, end)
+    (writer.0.text, end)
 }
 
 #[test]
