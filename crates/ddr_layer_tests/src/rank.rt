@@ -2,6 +2,7 @@
 ghost use Rattle.std.specs.Prelude.{◌≡◌, IfOk, IsTrue};
 ghost use Rattle.ddr_trace.specs.Rules.{is_in};
 
+use crate::sample::changed;
 use crate::steps::Step;
 use ddr_rank::rank::Rank;
 use ddr_timing::config::Config;
@@ -301,9 +302,8 @@ const OPENED_IN_RECOVERY: &[Step] = &[
 
 #[test]
 fn recovery_outlives_an_auto_precharge(rt: HostRuntime) -> Result<(), Fail> {
-    let mut config = profile_s(rt.alloc())?;
-    config.timing.wtr_l = 1;
-    config.timing.wr = 30;
+    let text = changed(rt.alloc(), &[("wtr_l", "wtr_l = 1"), ("wr", "wr = 30")])?;
+    let config = Config::read(rt.alloc(), text.as_str())?;
     bounds(&rt, rt.alloc(), &config, LONG_RECOVERY)
 }
 
