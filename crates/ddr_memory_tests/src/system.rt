@@ -1,5 +1,5 @@
 //! Ports and workers in threads: a write and a read of each of two ports, each on a channel of its own. A worker to which memory is
-//! refused is run again, and so is `close`.
+//! refused is run again, and so is `close`. Where a thread isn't started, since that is refused memory, nothing is tried.
 ghost use Rattle.std.specs.Prelude.{◌≡◌, ◌∷◌, [], IfOk, IfSome, vec_capacity};
 ghost use Rattle.std.specs.Thread.{IsSync};
 ghost use Rattle.ddr_workers.specs.Closing.{AreOfOneOpen};
@@ -7,7 +7,7 @@ ghost use Rattle.ddr_workers.specs.Open.{IsOpened};
 ghost use Rattle.ddr_workers.specs.Port.{IsEndOfPort, IsSamePort};
 ghost use Rattle.ddr_workers.specs.Worker.{IsEndOf};
 
-use super::Met;
+use super::{Met, NO_THREAD};
 use crate::entries::{act, is_trace, rd, wr};
 use crate::sample::sample;
 use ddr_address_map::request::{Echo, Kind};
@@ -35,13 +35,55 @@ const HALF: u64 = 131_072;
 /// How often a port polls, and how many turns the workers make together.
 const TRIES: u64 = 10_000_000;
 
-/// Stops the workers once they made too many turns, or when it is told to.
+/// How many threads there are: one for both ports, and one for each worker.
+const THREADS: u64 = 3;
+
+/// How often a thread looks for the others, and after how many looks it lets them go on.
+const LOOKS: u32 = 1_000_000_000;
+
+const LOOKS_AT_ONCE: u32 = 100_000;
+
+/// Stops the workers once they made too many turns, or when it is told to. It also lets threads wait for one another.
 #[derive(Drop)]
 struct Turns {
     made: AtomicU64,
+    // How many threads have begun.
+    begun: AtomicU64,
+    // 1 where a thread has waited for the others in vain.
+    alone: AtomicU64,
 }
 
 impl Turns {
+    fn new() -> Turns {
+        Turns {
+            made: AtomicU64::new(0),
+            begun: AtomicU64::new(0),
+            alone: AtomicU64::new(0),
+        }
+    }
+
+    fn is_alone(&self) -> bool {
+        self.alone.load(Ordering::SeqCst) == 1
+    }
+
+    /// Waits until all threads have begun, and says whether they have.
+    fn has_begun(&self) -> bool {
+        self.begun.fetch_add(1, Ordering::SeqCst);
+        for looked in 0..LOOKS {
+            if self.begun.load(Ordering::SeqCst) == THREADS {
+                return !self.is_alone();
+            }
+            if looked % LOOKS_AT_ONCE == 0 {
+                if self.is_alone() {
+                    return false;
+                }
+                thread::yield_now();
+            }
+        }
+        self.alone.store(1, Ordering::SeqCst);
+        false
+    }
+
     /// Stops each worker at its next turn.
     fn stop(&self) {
         self.made.store(TRIES, Ordering::SeqCst);
@@ -188,6 +230,9 @@ fn host_both<R: Wait>(rt: &R, gate: &Turns, first: Port, second: Port) -> Hosted
     ensures first { IfSome result.0 (IsEndOfPort first) }
     ensures second { IfSome result.1 (IsEndOfPort second) }
 {
+    if !gate.has_begun() {
+        return (None, None);
+    }
     let first = host(rt, first, Asks { addr: 0, byte: 1 });
     let second = host(
         rt,
@@ -221,6 +266,9 @@ fn run_stopped<R: Wait>(rt: &R, gate: &Turns, stopped: Stopped) -> Option<Worker
 fn run<R: Wait>(rt: &R, gate: &Turns, worker: Worker) -> (Option<WorkerEnd>, bool)
     ensures { IfSome result.0 (IsEndOf worker) }
 {
+    if !gate.has_begun() {
+        return (None, false);
+    }
     match worker.run(rt, gate) {
         Ok(end) => (Some(end), false),
         Err(stopped) => (run_stopped(rt, gate, stopped), true),
@@ -300,17 +348,19 @@ fn run_parts<R: Threads + Wait + Sync>(
     rt: &R,
     ports: (Port, Port),
     workers: (Worker, Worker),
-) -> Option<(AllEnds, bool)>
-    ensures first { IfSome result (λ all. IsEndOfPort ports.0 all.0.0) }
-    ensures second { IfSome result (λ all. IsEndOfPort ports.1 all.0.1) }
-    ensures first_work { IfSome result (λ all. IsEndOf workers.0 all.0.2) }
-    ensures second_work { IfSome result (λ all. IsEndOf workers.1 all.0.3) }
+) -> Result<(AllEnds, bool), &'static str>
+    ensures first { IfOk result (λ all. IsEndOfPort ports.0 all.0.0) }
+    ensures second { IfOk result (λ all. IsEndOfPort ports.1 all.0.1) }
+    ensures first_work { IfOk result (λ all. IsEndOf workers.0 all.0.2) }
+    ensures second_work { IfOk result (λ all. IsEndOf workers.1 all.0.3) }
 {
-    let gate = Turns {
-        made: AtomicU64::new(0),
-    };
+    let gate = Turns::new();
     let (hosted, worked) = run_threads(rt, &gate, ports, workers);
-    all_ends(hosted, worked)
+    match all_ends(hosted, worked) {
+        Some(all) => Ok(all),
+        None if gate.is_alone() => Err(NO_THREAD),
+        None => Err("all ends"),
+    }
 }
 
 /// Opens a system and runs it to its end.
@@ -324,8 +374,8 @@ fn run_system<R: Threads + Wait + Sync>(
     ends_of_one_open();
     let (first, second, first_worker, second_worker) = open_two(alloc, config)?;
     match run_parts(rt, (first, second), (first_worker, second_worker)) {
-        Some(all) => Ok(all),
-        None => Err("all ends"),
+        Ok(all) => Ok(all),
+        Err(what) => Err(what),
     }
 }
 
