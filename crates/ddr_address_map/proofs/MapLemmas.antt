@@ -8,7 +8,7 @@ use Rattle.ddr_timing.specs.declared.geometry.Digit.{Digit}
 use Rattle.ddr_timing.specs.declared.geometry.Digit.TheVariants.{Channel, Group, Bank, Column, Row, Rank}
 use Rattle.ddr_timing.specs.declared.geometry.Geometry.{Geometry}
 use Rattle.ddr_address_map.specs.declared.place.Place.{Place}
-use Rattle.ddr_address_map.specs.Map.{rank_count, size_of, capacity_of, digit_of, number_of, digit_in, place_with, with_bank_xor, in_range, place_of, address_of}
+use Rattle.ddr_address_map.specs.Map.{size_of, capacity_of, digit_of, number_of, digit_in, place_with, with_bank_xor, in_range, place_of, address_of}
 use Rattle.ddr_address_map.proofs.Radix.{times, times-each_once, length-each_once, numbers, numbers-positive, numbers-each_once, digit_of-below, number_of-same, number_of-digits, number_of-below, digit_of-number}
 
 two_or_four : (n : ℕ) → (nat_eq n 2 || nat_eq n 4) ≡ true → (2 ≤ n) × (n ≤ 4)
@@ -21,7 +21,7 @@ size_of-positive shape Group = omega (arith, two_or_four shape.groups shape.grou
 size_of-positive shape Bank = omega arith
 size_of-positive shape Column = omega (arith, shape.columns_range)
 size_of-positive shape Row = omega (arith, shape.rows_range)
-size_of-positive shape Rank = omega arith
+size_of-positive shape Rank = omega (arith, shape.ranks_range)
 
 -- each digit stands at most once
 pub times-map : (shape : Geometry) (d : Digit) → times shape.map d ≡ 1
@@ -39,7 +39,7 @@ rank_last channels ranks groups lines rows = omega arith
 pub capacity_of-numbers : (shape : Geometry) → capacity_of shape ≡ 64 * numbers (size_of shape) shape.map
 capacity_of-numbers shape =
     ap (λ n. 64 * n)
-    (rank_last shape.channels (rank_count shape) shape.groups (shape.columns / 8) shape.rows
+    (rank_last shape.channels shape.ranks shape.groups (shape.columns / 8) shape.rows
     ∙ sym (numbers-each_once (size_of shape) shape.map shape.map_order))
 
 -- XOR twice with the same bits of the row gives the bank back
@@ -90,10 +90,10 @@ seven_tests a b c d e f g a' b' c' d' e' f' g' h = (grind (arith, nat_tests), gr
 
 pub IsInRange-test : (shape : Geometry) (place : Place) → in_range shape place ≡ true → IsInRange shape place
 IsInRange-test shape place test =
-    let all = seven_tests place.channel place.rank place.group place.bank place.row place.line place.offset shape.channels (rank_count shape) shape.groups 4 shape.rows (shape.columns / 8) 64 test in
+    let all = seven_tests place.channel place.rank place.group place.bank place.row place.line place.offset shape.channels shape.ranks shape.groups 4 shape.rows (shape.columns / 8) 64 test in
     record { digits = by_digit all; offset = all.6 }
   where
-    by_digit : (place.channel < shape.channels) × (place.rank < rank_count shape) × (place.group < shape.groups) × (place.bank < 4) × (place.row < shape.rows) × (place.line < shape.columns / 8) × (place.offset < 64) → (d : Digit) → digit_in place d < size_of shape d
+    by_digit : (place.channel < shape.channels) × (place.rank < shape.ranks) × (place.group < shape.groups) × (place.bank < 4) × (place.row < shape.rows) × (place.line < shape.columns / 8) × (place.offset < 64) → (d : Digit) → digit_in place d < size_of shape d
     by_digit all Channel = all.0
     by_digit all Rank = all.1
     by_digit all Group = all.2
@@ -261,13 +261,15 @@ capacity-more shape addr rest left more =
       | inr past ↦ past
     ]
 
-pub capacity-bound : (shape : Geometry) → capacity_of shape ≤ 2 ^ 36
+pub capacity-bound : (shape : Geometry) → capacity_of shape ≤ 2 ^ 37
 capacity-bound shape =
     let group = two_or_four shape.groups shape.groups_are in
     let line : shape.columns / 8 ≤ 128 = omega (arith, shape.columns_range) in
-    let banks : shape.channels * shape.groups * 4 ≤ 64 = omega (arith, mul-le shape.channels shape.groups 4 4 shape.channels_range.1 group.1) in
-    let upper : shape.channels * shape.groups * 4 * (shape.columns / 8) ≤ 64 * 128 = mul-le (shape.channels * shape.groups * 4) (shape.columns / 8) 64 128 banks line in
-    omega (arith, mul-le (shape.channels * shape.groups * 4 * (shape.columns / 8)) shape.rows (64 * 128) 131072 upper shape.rows_range.1)
+    let ranks : shape.channels * shape.ranks ≤ 4 * 2 = mul-le shape.channels shape.ranks 4 2 shape.channels_range.1 shape.ranks_range.1 in
+    let groups : shape.channels * shape.ranks * shape.groups ≤ 8 * 4 = mul-le (shape.channels * shape.ranks) shape.groups 8 4 ranks group.1 in
+    let banks : shape.channels * shape.ranks * shape.groups * 4 ≤ 128 = omega (arith, groups) in
+    let upper : shape.channels * shape.ranks * shape.groups * 4 * (shape.columns / 8) ≤ 128 * 128 = mul-le (shape.channels * shape.ranks * shape.groups * 4) (shape.columns / 8) 128 128 banks line in
+    omega (arith, mul-le (shape.channels * shape.ranks * shape.groups * 4 * (shape.columns / 8)) shape.rows (128 * 128) 131072 upper shape.rows_range.1)
 
-pub numbers-bound : (shape : Geometry) → numbers (size_of shape) shape.map ≤ 2 ^ 30
+pub numbers-bound : (shape : Geometry) → numbers (size_of shape) shape.map ≤ 2 ^ 31
 numbers-bound shape = omega (arith, capacity-bound shape, capacity_of-numbers shape)

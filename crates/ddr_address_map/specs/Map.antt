@@ -8,10 +8,6 @@ use Rattle.ddr_timing.specs.declared.units.TheConstants.{GROUP_BANKS, LINE_BYTES
 use Rattle.ddr_timing.specs.Order.{same_digit}
 use Rattle.ddr_address_map.specs.declared.place.Place.{Place}
 
--- the ranks of a channel: the crates above serve one so far, whatever the configuration says
-abbrev pub rank_count : Geometry → ℕ
-rank_count shape = 1
-
 -- how many values a digit has
 abbrev pub size_of : Geometry → Digit → ℕ
 size_of shape Channel = shape.channels
@@ -19,11 +15,11 @@ size_of shape Group = shape.groups
 size_of shape Bank = GROUP_BANKS
 size_of shape Column = shape.columns / LINE_COLUMNS
 size_of shape Row = shape.rows
-size_of shape Rank = rank_count shape
+size_of shape Rank = shape.ranks
 
 -- the bytes of the memory
 abbrev pub capacity_of : Geometry → ℕ
-capacity_of shape = LINE_BYTES * (shape.channels * rank_count shape * shape.groups * GROUP_BANKS * (shape.columns / LINE_COLUMNS) * shape.rows)
+capacity_of shape = LINE_BYTES * (shape.channels * shape.ranks * shape.groups * GROUP_BANKS * (shape.columns / LINE_COLUMNS) * shape.rows)
 
 -- one digit of a number in mixed radix; the order has the least significant digit first
 unfoldable pub digit_of : (Digit → ℕ) → List Digit → ℕ → Digit → ℕ
@@ -60,7 +56,7 @@ with_bank_xor shape place =
 abbrev pub in_range : Geometry → Place → Bool
 in_range shape place =
     nat_lt place.channel shape.channels
-    && nat_lt place.rank (rank_count shape)
+    && nat_lt place.rank shape.ranks
     && nat_lt place.group shape.groups
     && nat_lt place.bank GROUP_BANKS
     && nat_lt place.row shape.rows

@@ -1,6 +1,5 @@
 -- What contracts see of a request and of its completion: numbers and lists, and no boxes.
-use Rattle.std.specs.Prelude.{ℕ, List, refl}
-use Rattle.std.specs.Coded.{Coded}
+use Rattle.std.specs.Prelude.{ℕ, List}
 use Rattle.ddr_address_map.specs.declared.place.Place.{Place}
 use Rattle.ddr_address_map.specs.declared.request.Echo.{Echo}
 

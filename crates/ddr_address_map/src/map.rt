@@ -6,7 +6,7 @@
 ghost use Rattle.std.specs.Prelude.{ℕ, ◌≡◌, ◌+◌, ◌<◌, ◌≤◌, ◌↔◌, if◌then◌else◌, IsTrue, IsSome, IfSome};
 ghost use Rattle.ddr_timing.specs.declared.geometry.Digit.{Digit};
 ghost use Rattle.ddr_timing.specs.Order.{same_digit};
-ghost use Rattle.ddr_address_map.specs.Map.{rank_count, size_of, capacity_of, digit_in, with_bank_xor, in_range, place_of, address_of};
+ghost use Rattle.ddr_address_map.specs.Map.{size_of, capacity_of, digit_in, with_bank_xor, in_range, place_of, address_of};
 
 use crate::place::Place;
 use ddr_timing::config::Config;
@@ -91,7 +91,7 @@ impl Map {
     {
         let size = match digit {
             Digit::Channel => self.geometry.channels,
-            Digit::Rank => self.rank_count(),
+            Digit::Rank => self.geometry.ranks,
             Digit::Group => self.geometry.groups,
             Digit::Bank => GROUP_BANKS,
             Digit::Column => self.geometry.columns / LINE_COLUMNS,
@@ -100,18 +100,11 @@ impl Map {
         u64::from(size)
     }
 
-    // The crates above serve one rank so far, whatever the configuration says.
-    fn rank_count(&self) -> u32
-        ensures { result ≡ rank_count self.now.geometry }
-    {
-        1
-    }
-
     fn is_in_range(&self, place: Place) -> bool
         ensures { result ≡ in_range self.now.geometry place }
     {
         place.channel < self.geometry.channels
-            && place.rank < self.rank_count()
+            && place.rank < self.geometry.ranks
             && place.group < self.geometry.groups
             && place.bank < GROUP_BANKS
             && place.row < self.geometry.rows

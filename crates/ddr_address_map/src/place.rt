@@ -4,8 +4,9 @@
 #[derive(Clone, Copy, Debug, PartialEq, Eq)]
 pub struct Place {
     pub channel: u32,
+    /// The rank in its channel, whose ranks share its command bus and its data bus.
     pub rank: u32,
-    /// The bank group.
+    /// The bank group in its rank.
     pub group: u32,
     /// The bank in its group.
     pub bank: u32,

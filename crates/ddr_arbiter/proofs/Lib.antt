@@ -1,6 +1,9 @@
+pub mod BankPlaceLemmas
+pub mod CandidateLemmas
 pub mod ChoiceLemmas
 pub mod CommandLemmas
+pub mod KnownLemmas
 pub mod LawLemmas
 pub mod PlaceLemmas
 pub mod RefreshLemmas
-pub mod WantedLemmas
+pub mod RowLemmas

@@ -1,53 +1,75 @@
 -- What a REF that is not legal says of the banks.
-use Rattle.std.proofs.Common.{◌≡◌, ◌≢◌, ◌+◌, true, false, Some, None, refl, sym, ap, ◌∙◌, inl, inr}
+use Rattle.std.proofs.Common.{◌≡◌, ◌≢◌, ℕ, ◌+◌, Bool, true, false, ◌&&◌, ◌||◌, cond, ltb, leb, Some, None, refl, sym, ap, ◌∙◌, inl, inr}
 use Rattle.std.specs.Option.{is_none}
-use Rattle.std.proofs.lemmas.Bool.{cases_Bool, lt-ltb}
-use Rattle.ddr_timing.specs.declared.geometry.Geometry.{Geometry}
+use Rattle.std.proofs.lemmas.Bool.{cases_Bool}
 use Rattle.ddr_trace.specs.declared.rule.Rule.{Rule}
 use Rattle.ddr_trace.specs.declared.rule.Rule.TheVariants as rule
 use Rattle.ddr_trace.specs.Commands.{entry}
 use Rattle.ddr_trace.specs.Legality.{lowest_rule}
-use Rattle.ddr_trace.specs.Rules.{breaks_order, is_in}
+use Rattle.ddr_trace.specs.Rules.{breaks_order}
 use Rattle.ddr_trace.proofs.LowestLemmas.{lowest_passes}
 use Rattle.ddr_legality.specs.Bus.{Bus, broken_now, is_legal_now}
 use Rattle.ddr_arbiter.specs.declared.choice.Choice.TheVariants as choice
 use Rattle.ddr_arbiter.specs.Commands.{precharge_all, refresh}
-use Rattle.ddr_arbiter.specs.Choice.{some_bank_active, refresh_choice, precharge_all_choice}
+use Rattle.ddr_arbiter.specs.Choice.{some_bank_active, refresh_choice_at}
+use Rattle.ddr_refresh.specs.Refreshes.{Refreshes, debt_of, is_forced}
 use Rattle.ddr_arbiter.proofs.CommandLemmas.{legal_keeps}
 
 -- in a cycle that is out of order nothing is legal
-out_of_order : (b : Bus) → breaks_order b.start (b.now + 1) b.trace (entry b.now precharge_all) ≡ true → is_legal_now b precharge_all ≡ false
+out_of_order : (b : Bus) (rank : ℕ) → breaks_order b.start (b.now + 1) b.trace (entry b.now (precharge_all rank)) ≡ true → is_legal_now b (precharge_all rank) ≡ false
 unfolding lowest_rule
-out_of_order b broken = rw broken refl
+out_of_order b rank broken = rw broken refl
 
--- there is a rank 0
-refresh_in : (g : Geometry) → is_in g refresh ≡ true
-refresh_in g = lt-ltb 0 g.ranks g.ranks_range.0
+-- nor is anything of a rank that is not there
+out_of_place : (b : Bus) (rank : ℕ) → breaks_order b.start (b.now + 1) b.trace (entry b.now (precharge_all rank)) ≡ false → ltb rank b.config.geometry.ranks ≡ false → is_legal_now b (precharge_all rank) ≡ false
+unfolding lowest_rule
+out_of_place b rank kept beyond = rw (kept, beyond) refl
 
 -- where the order is kept and some bank is active, STATE is the lowest rule that a REF breaks
-active_breaks_state : (b : Bus) → breaks_order b.start (b.now + 1) b.trace (entry b.now refresh) ≡ false → some_bank_active b ≡ true → broken_now b refresh ≡ Some rule.State
+active_breaks_state : (b : Bus) (rank : ℕ) → breaks_order b.start (b.now + 1) b.trace (entry b.now (refresh rank)) ≡ false → ltb rank b.config.geometry.ranks ≡ true → some_bank_active b rank ≡ true →
+    broken_now b (refresh rank) ≡ Some rule.State
 unfolding lowest_rule
-active_breaks_state b kept active = rw (kept, refresh_in b.config.geometry, active) refl
+active_breaks_state b rank kept inside active = rw (kept, inside, active) refl
 
 -- a legal REF finds all banks idle
-legal_idle : (b : Bus) → broken_now b refresh ≡ None → some_bank_active b ≡ false
-legal_idle b none = legal_keeps b refresh (ap is_none none) rule.State refl
+legal_idle : (b : Bus) (rank : ℕ) → broken_now b (refresh rank) ≡ None → some_bank_active b rank ≡ false
+legal_idle b rank none = legal_keeps b (refresh rank) (ap is_none none) rule.State refl
 
-pub refresh_legal : (b : Bus) → broken_now b refresh ≡ None → choice.Refresh ≡ refresh_choice b
-refresh_legal b none = rw (legal_idle b none, none) refl
+pub refresh_legal : (b : Bus) (rank : ℕ) → broken_now b (refresh rank) ≡ None → choice.Refresh rank ≡ refresh_choice_at b rank
+refresh_legal b rank none = rw (legal_idle b rank none, none) refl
 
 -- one that breaks STATE finds a bank active
-pub refresh_active : (b : Bus) → broken_now b refresh ≡ Some rule.State → precharge_all_choice b ≡ refresh_choice b
-refresh_active b broken =
-    let active : some_bank_active b ≡ true = lowest_passes _ rule.State broken in
+pub refresh_active : (b : Bus) (rank : ℕ) → broken_now b (refresh rank) ≡ Some rule.State →
+    cond (is_legal_now b (precharge_all rank)) (choice.PreAll rank) choice.Nothing ≡ refresh_choice_at b rank
+refresh_active b rank broken =
+    let active : some_bank_active b rank ≡ true = lowest_passes _ rule.State broken in
     rw active refl
 
 -- where it breaks another rule first, neither REF nor PREA is chosen
-pub refresh_waits : (b : Bus) (r : Rule) → r ≢ rule.State → broken_now b refresh ≡ Some r → choice.Nothing ≡ refresh_choice b
-refresh_waits b r other broken = elim (cases_Bool (some_bank_active b)) [
+pub refresh_waits : (b : Bus) (rank : ℕ) (r : Rule) → r ≢ rule.State → broken_now b (refresh rank) ≡ Some r → choice.Nothing ≡ refresh_choice_at b rank
+refresh_waits b rank r other broken = elim (cases_Bool (some_bank_active b rank)) [
   | inr idle ↦ rw (idle, broken) refl
-  | inl active ↦ elim (cases_Bool (breaks_order b.start (b.now + 1) b.trace (entry b.now refresh))) [
-    | inl late ↦ rw (active, out_of_order b late) refl
-    | inr kept ↦ let same : Some r ≡ Some rule.State = sym broken ∙ active_breaks_state b kept active in absurd (other (cc))
+  | inl active ↦ elim (cases_Bool (breaks_order b.start (b.now + 1) b.trace (entry b.now (refresh rank)))) [
+    | inl late ↦ rw (active, out_of_order b rank late) refl
+    | inr kept ↦ elim (cases_Bool (ltb rank b.config.geometry.ranks)) [
+      | inr beyond ↦ rw (active, out_of_place b rank kept beyond) refl
+      | inl inside ↦ let same : Some r ≡ Some rule.State = sym broken ∙ active_breaks_state b rank kept inside active in absurd (other (cc))
+    ]
   ]
 ]
+
+-- a debt
+
+-- what is forced with something pending is forced
+pub forced_either : (idle : Bool) (r : Refreshes) → (is_forced true r && is_forced idle r) ≡ is_forced idle r
+forced_either idle r = by_tests (ltb r.postpone (debt_of r)) (leb 1 (debt_of r)) idle
+  where
+    by_tests : (over one idle : Bool) → ((over || (true && one)) && (over || (idle && one))) ≡ (over || (idle && one))
+    by_tests true one idle = refl
+    by_tests false true true = refl
+    by_tests false true false = refl
+    by_tests false false true = refl
+    by_tests false false false = refl
+
+pub not_forced : (idle : Bool) (r : Refreshes) → is_forced true r ≡ false → false ≡ is_forced idle r
+not_forced idle r none = sym (ap (λ t. t && is_forced idle r) none) ∙ forced_either idle r

@@ -12,8 +12,8 @@ pub record Situation : Type 0 where
   pub waiting : List Waiting
   -- the commands that were issued, and this cycle
   pub bus : Bus
-  -- the refreshes that fell due and that were issued
-  pub refreshes : Refreshes
+  -- of each rank, from rank 0 on, the refreshes that fell due and that were issued
+  pub refreshes : List Refreshes
   pub policy : Policy
   -- writes are being drained
   pub drain : Bool
@@ -21,11 +21,11 @@ pub record Situation : Type 0 where
   pub room : Bool
 
 -- the situation that a scheduler finds in what it is given
-abbrev pub situation : PendingList → Kept → Refreshes → Policy → Bool → Bool → Situation
-situation pending legality debt policy drain room = record {
+abbrev pub situation : PendingList → Kept → List Refreshes → Policy → Bool → Bool → Situation
+situation pending legality debts policy drain room = record {
   waiting = pending.waiting;
   bus = legality.bus;
-  refreshes = debt;
+  refreshes = debts;
   policy = policy;
   drain = drain;
   room = room;

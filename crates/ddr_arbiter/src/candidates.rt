@@ -1,65 +1,77 @@
 //! Which of the pending requests may be served.
-ghost use Rattle.std.specs.Prelude.{◌≡◌, ◌<◌, ◌≤◌, All, length, not};
-ghost use Rattle.ddr_hazards.specs.Hazards.{is_blocked};
-ghost use Rattle.ddr_hazards.specs.PendingList.{is_same_kind};
-ghost use Rattle.ddr_arbiter.specs.Choice.{passes_at, unblocked, is_oldest_capped, of_kind, served_kind, candidates};
+ghost use Rattle.std.specs.Prelude.{◌≡◌, ◌<◌, ◌≤◌, List, All, length};
+ghost use Rattle.std.specs.List.{list_any, range_with_len};
+ghost use Rattle.ddr_refresh.specs.Refreshes.{Refreshes};
+ghost use Rattle.ddr_hazards.specs.PendingList.{IsInRank, is_same_kind};
+ghost use Rattle.ddr_arbiter.specs.Choice.{candidates, served_kind};
+ghost use Rattle.ddr_arbiter.specs.Forced.{AreForced};
+ghost use Rattle.ddr_arbiter.specs.Served.{capped_kind, is_candidate, is_free_of_marks, is_of_unmarked_rank, other_kind, places_of};
 
-use arrayvec::ArrayVec;
+use crate::refresh::Forced;
 use ddr_address_map::request::Kind;
-use ddr_hazards::pending::{KIND_CAPACITY, Pending};
+use ddr_hazards::pending::Pending;
 
-/// As many places as a list of pending requests may have.
-const CAPACITY: usize = 2 * KIND_CAPACITY as usize;
-
-/// Places of pending requests, the oldest first.
-pub(crate) type Places = ArrayVec<usize, CAPACITY>;
-
-/// The places of the requests that may be served in cycle `now`: where the oldest has reached the cap, it is
-/// alone; otherwise those with no older one to their line, of the kind that the mode serves, if any are.
-pub(crate) fn candidates(pending: &Pending, now: u64, cap: u32, drain: bool) -> Places
-    requires { All (λ w. w.admitted ≤ now) pending.now.waiting }
-    ensures { result.items ≡ candidates now cap drain pending.now.waiting }
-{
-    if is_oldest_capped(pending, now, cap) {
-        let mut oldest = Places::new();
-        oldest.push(0);
-        return oldest;
-    }
-    let unblocked = unblocked(pending);
-    let served = of_kind(served_kind(drain), pending, unblocked.as_slice());
-    if served.is_empty() { unblocked } else { served }
+/// Which of the pending requests are candidates, told without a list of them: of the `count` oldest those of the kind,
+/// with no older one to their line, of ranks that are not forced.
+#[derive(Clone, Copy)]
+pub(crate) struct Served {
+    pub kind: Kind,
+    pub count: usize,
+    pub forced: Forced,
 }
 
-/// Whether the age of the oldest request, in clocks, has reached the cap.
-fn is_oldest_capped(pending: &Pending, now: u64, cap: u32) -> bool
-    requires { All (λ w. w.admitted ≤ now) pending.now.waiting }
-    ensures { result ≡ is_oldest_capped now cap pending.now.waiting }
+/// The requests that may be served in cycle `now`, none of a rank that is forced: where the oldest has reached the cap,
+/// it is alone; otherwise those with no older one to their line, of the kind that the mode serves, if any are.
+pub(crate) fn candidates(
+    pending: &Pending,
+    now: u64,
+    cap: u32,
+    drain: bool,
+    forced: &Forced,
+) -> Served
+    requires admitted { All (λ w. w.admitted ≤ now) pending.now.waiting }
+    requires inside { All (λ w. IsInRank w.request.place) pending.now.waiting }
+    ensures places { (refreshes : List Refreshes) → AreForced pending.now.waiting refreshes forced.now
+        → candidates now cap drain pending.now.waiting refreshes ≡ places_of result pending.now.waiting }
+    ensures count { result.count ≤ length pending.now.waiting }
 {
-    match pending.oldest() {
-        Some((_, admitted)) => now - admitted >= u64::from(cap),
-        None => false,
+    if let Some(kind) = capped_kind(pending, now, cap) {
+        return Served {
+            kind,
+            count: 1,
+            forced: *forced,
+        };
     }
-}
-
-/// The places of the requests with no older one to their line.
-fn unblocked(pending: &Pending) -> Places
-    ensures { result.items ≡ unblocked pending.now.waiting }
-{
-    let mut places = Places::new();
-    for place in 0..pending.len() {
-        if is_free(pending, place) {
-            places.push(place);
+    let served = Served {
+        kind: served_kind(drain),
+        count: pending.len(),
+        forced: *forced,
+    };
+    if has_any(&served, pending) {
+        served
+    } else {
+        Served {
+            kind: other_kind(served.kind),
+            ..served
         }
     }
-    places
 }
 
-/// Whether no older request has the line of the request at the place.
-fn is_free(pending: &Pending, place: usize) -> bool
-    requires { place < length pending.now.waiting }
-    ensures { result ≡ not (is_blocked pending.now.waiting place) }
+/// The kind of the oldest request where its age, in clocks, has reached the cap.
+fn capped_kind(pending: &Pending, now: u64, cap: u32) -> Option<Kind>
+    requires { All (λ w. w.admitted ≤ now) pending.now.waiting }
+    ensures { result ≡ capped_kind now cap pending.now.waiting }
 {
-    !pending.blocked(place)
+    match pending.oldest() {
+        Some((request, admitted)) => {
+            if now - admitted >= u64::from(cap) {
+                Some(request.echo.kind)
+            } else {
+                None
+            }
+        }
+        None => None,
+    }
 }
 
 /// The kind of the requests that a mode serves first.
@@ -69,26 +81,68 @@ fn served_kind(drain: bool) -> Kind
     if drain { Kind::Write } else { Kind::Read }
 }
 
-/// Those of the places at which a request of the kind stands.
-fn of_kind(kind: Kind, pending: &Pending, places: &[usize]) -> Places
-    requires { length places.now ≤ CAPACITY }
-    ensures { result.items ≡ of_kind kind pending.now.waiting places.now }
+/// The other kind.
+fn other_kind(kind: Kind) -> Kind
+    ensures { result ≡ other_kind kind }
 {
-    let mut kept = Places::new();
-    for place in places {
-        if is_of_kind(kind, pending, *place) {
-            kept.push(*place);
-        }
+    match kind {
+        Kind::Read => Kind::Write,
+        Kind::Write => Kind::Read,
     }
-    kept
 }
 
-/// Whether the request at the place is of the kind.
-fn is_of_kind(kind: Kind, pending: &Pending, place: usize) -> bool
-    ensures { result ≡ passes_at (λ w. is_same_kind kind w.request.echo.kind) pending.now.waiting place }
+/// Whether there is any candidate.
+fn has_any(candidates: &Served, pending: &Pending) -> bool
+    requires inside { All (λ w. IsInRank w.request.place) pending.now.waiting }
+    requires count { candidates.now.count ≤ length pending.now.waiting }
+    ensures { result ≡ list_any (is_candidate candidates.now pending.now.waiting) (range_with_len 0 candidates.now.count) }
+{
+    for place in 0..candidates.count {
+        if is_candidate(candidates, pending, place) {
+            return true;
+        }
+    }
+    false
+}
+
+/// Whether the request at the place is a candidate, as far as its place goes.
+pub(crate) fn is_candidate(candidates: &Served, pending: &Pending, place: usize) -> bool
+    requires inside { All (λ w. IsInRank w.request.place) pending.now.waiting }
+    requires place { place < length pending.now.waiting }
+    ensures { result ≡ is_candidate candidates.now pending.now.waiting place }
 {
     match pending.get(place) {
-        Some((request, _)) => request.echo.kind == kind,
+        Some((request, _)) => {
+            is_same_kind(candidates.kind, request.echo.kind)
+                && is_free(&candidates.forced, pending, place)
+        }
+        None => false,
+    }
+}
+
+/// Whether the two kinds are one.
+pub(crate) fn is_same_kind(kind: Kind, other: Kind) -> bool
+    ensures { result ≡ is_same_kind kind other }
+{
+    other == kind
+}
+
+/// Whether no older request has the line of the request at the place, and its rank is not forced.
+pub(crate) fn is_free(forced: &Forced, pending: &Pending, place: usize) -> bool
+    requires inside { All (λ w. IsInRank w.request.place) pending.now.waiting }
+    requires place { place < length pending.now.waiting }
+    ensures { result ≡ is_free_of_marks forced.now pending.now.waiting place }
+{
+    !pending.blocked(place) && is_of_free_rank(forced, pending, place)
+}
+
+/// Whether the rank of the request at the place is not forced.
+fn is_of_free_rank(forced: &Forced, pending: &Pending, place: usize) -> bool
+    requires { All (λ w. IsInRank w.request.place) pending.now.waiting }
+    ensures { result ≡ is_of_unmarked_rank forced.now pending.now.waiting place }
+{
+    match pending.get(place) {
+        Some((request, _)) => !forced[request.place.rank as usize],
         None => false,
     }
 }

@@ -1,18 +1,15 @@
 //! What a channel does in a cycle: the scheduler's choice.
-ghost use Rattle.std.specs.Prelude.{◌≡◌, ◌==◌, ◌≤◌, ℕ, List, All, find};
-ghost use Rattle.ddr_hazards.specs.declared.waiting.Waiting.{Waiting};
-ghost use Rattle.ddr_hazards.specs.PendingList.{IsInRank};
-ghost use Rattle.ddr_refresh.specs.Refreshes.{is_forced};
-ghost use Rattle.ddr_arbiter.specs.Choice.{choice_of, column_place, can_column, row_choice, row_choice_at, can_precharge, is_something};
+ghost use Rattle.std.specs.Prelude.{◌≡◌, ◌≤◌, All, length};
+ghost use Rattle.ddr_hazards.specs.declared.pending.TheConstants.{RANKS};
+ghost use Rattle.ddr_arbiter.specs.Choice.{choice_of, column_choice, is_row_shared, is_same_row, is_something, share_row};
 ghost use Rattle.ddr_arbiter.specs.Laws.{IsLawful};
 ghost use Rattle.ddr_arbiter.specs.Situation.{situation};
-ghost use Rattle.ddr_arbiter.specs.Wanted.{IsMarked};
 
 use crate::candidates::candidates;
-use crate::commands::{can_activate, can_column, may, precharge_at};
+use crate::columns::column_place;
 use crate::policy::Policy;
-use crate::refresh::refresh_choice;
-use crate::wanted::{Marks, bank_number, wanted_rows};
+use crate::refresh::{forced_ranks, refresh_choice};
+use crate::rows::row_choice;
 use ddr_address_map::place::Place;
 use ddr_hazards::pending::Pending;
 use ddr_legality::legality::Legality;
@@ -24,138 +21,102 @@ use ddr_refresh::debt::Debt;
 pub enum Choice {
     Nothing,
     /// REF of the rank.
-    Refresh,
+    Refresh { rank: u32 },
     /// PREA of the rank.
-    PreAll,
+    PreAll { rank: u32 },
     /// ACT of the request's row.
     Act { place: usize },
     /// PRE of the request's bank.
     Pre { place: usize },
     /// The request's read or write.
     Column { place: usize },
+    /// The request's read or write, with auto-precharge.
+    ColumnAuto { place: usize },
 }
 
-/// The choice of the cycle that comes next on the command bus: a refresh where one has to be made, else the
+/// The choice of the cycle that comes next on the command bus: a refresh where a rank has to have one, else the
 /// column command of the oldest candidate whose command is legal, where there is room, else the ACT or PRE of the
 /// oldest that needs one (first ready, first come, first served: Rixner et al., Memory Access Scheduling, ISCA 2000;
-/// the drain of writes and the age cap are this project's choice).
+/// the drain of writes and the age cap are this project's choice). Where rows are closed, a column command has an
+/// auto-precharge unless another pending request wants its row.
 ///
-/// `drain` says whether writes are drained, and `room` whether one more request may be in flight or done.
+/// `debts` has one for each rank, from rank 0 on; `drain` says whether writes are drained, and `room` whether one more
+/// request may be in flight or done.
 pub fn choose(
     pending: &Pending,
     legality: &Legality,
-    debt: &Debt,
+    debts: &[Debt],
     policy: &Policy,
     drain: bool,
     room: bool,
 ) -> Choice
-    requires { All (λ w. w.admitted ≤ legality.now.bus.now) pending.now.waiting }
-    ensures exact { result ≡ choice_of (situation pending.now legality.entry.now debt.now policy.now drain room) }
-    ensures lawful { IsLawful (situation pending.now legality.entry.now debt.now policy.now drain room) result }
+    requires admitted { All (λ w. w.admitted ≤ legality.now.bus.now) pending.now.waiting }
+    requires ranks { length debts.now ≤ RANKS }
+    ensures exact { result ≡ choice_of (situation pending.now legality.entry.now debts.now policy.now drain room) }
+    ensures lawful { IsLawful (situation pending.now legality.entry.now debts.now policy.now drain room) result }
 {
-    if is_rank_forced(pending.len(), debt) {
-        return refresh_choice(legality);
+    let forced = forced_ranks(pending, debts);
+    let refresh = refresh_choice(pending, legality, debts, &forced);
+    if is_something(refresh) {
+        return refresh;
     }
-    let candidates = candidates(pending, legality.now(), policy.cap, drain);
-    let places = candidates.as_slice();
-    match column_place(pending, legality, places, room) {
-        Some(place) => Choice::Column { place },
-        None => row_choice(pending, legality, places),
+    if pending.len() == 0 {
+        return Choice::Nothing;
+    }
+    let candidates = candidates(pending, legality.now(), policy.cap, drain, &forced);
+    match column_place(pending, legality, &candidates, room) {
+        Some(place) => column_choice(policy.closed, pending, place),
+        None => row_choice(pending, legality, &candidates),
     }
 }
 
-/// Whether the rank has to be refreshed, with so many requests pending.
-fn is_rank_forced(count: usize, debt: &Debt) -> bool
-    ensures { result ≡ is_forced (count == 0) debt.now }
+/// The column command of the request at the place, with auto-precharge where rows are closed and no other pending
+/// request wants its row.
+fn column_choice(closed: bool, pending: &Pending, place: usize) -> Choice
+    ensures { result ≡ column_choice closed pending.now.waiting place }
 {
-    debt.forced(count == 0)
+    if closed && !is_row_shared(pending, place) {
+        Choice::ColumnAuto { place }
+    } else {
+        Choice::Column { place }
+    }
 }
 
-/// The oldest of the places whose request's column command is legal now, where there is room for it.
-fn column_place(
-    pending: &Pending,
-    legality: &Legality,
-    places: &[usize],
-    room: bool,
-) -> Option<usize>
-    ensures { result ≡ column_place legality.entry.now.bus pending.now.waiting places.now room }
+/// Whether another pending request wants the bank and the row of the one at the place.
+fn is_row_shared(pending: &Pending, place: usize) -> bool
+    ensures { result ≡ is_row_shared pending.now.waiting place }
 {
-    if !room {
-        return None;
-    }
-    for place in places {
-        if can_column_at(pending, legality, *place) {
-            return Some(*place);
+    for other in 0..pending.len() {
+        if other != place && share_row(pending, place, other) {
+            return true;
         }
     }
-    None
+    false
 }
 
-/// Whether the column command of the request at the place is legal now.
-fn can_column_at(pending: &Pending, legality: &Legality, place: usize) -> bool
-    ensures { result ≡ can_column legality.entry.now.bus pending.now.waiting place }
+/// Whether the requests at the two places want one bank and row.
+fn share_row(pending: &Pending, place: usize, other: usize) -> bool
+    ensures { result ≡ share_row pending.now.waiting place other }
 {
-    match pending.get(place) {
-        Some((request, _)) => can_column(legality, request),
-        None => false,
+    match (pending.get(place), pending.get(other)) {
+        (Some((request, _)), Some((another, _))) => is_same_row(another.place, request.place),
+        _ => false,
     }
 }
 
-/// The ACT or PRE of the oldest of the places whose request needs one that may be issued now.
-fn row_choice(pending: &Pending, legality: &Legality, places: &[usize]) -> Choice
-    requires { All (λ w. IsInRank w.request.place) pending.now.waiting }
-    ensures { result ≡ row_choice legality.entry.now.bus pending.now.waiting places.now }
+/// Whether the two places are in one row of one bank.
+fn is_same_row(p: Place, q: Place) -> bool
+    ensures { result ≡ is_same_row p q }
 {
-    let wanted = wanted_rows(pending, legality, places);
-    for place in places {
-        let choice = row_choice_at(pending, legality, &wanted, *place);
-        if is_something(choice) {
-            return choice;
-        }
-    }
-    Choice::Nothing
+    p.rank == q.rank && p.group == q.group && p.bank == q.bank && p.row == q.row
 }
 
 /// Whether a command is chosen.
-fn is_something(choice: Choice) -> bool
+pub(crate) fn is_something(choice: Choice) -> bool
     ensures { result ≡ is_something choice }
 {
     match choice {
         Choice::Nothing => false,
         _ => true,
-    }
-}
-
-/// The ACT or PRE that the request at the place needs, if it may be issued now, where the marks tell which
-/// open rows are wanted.
-fn row_choice_at(pending: &Pending, legality: &Legality, wanted: &Marks, place: usize) -> Choice
-    requires { All (λ w. IsInRank w.request.place) pending.now.waiting }
-    ensures { (places : List ℕ) → IsMarked legality.entry.now.bus pending.now.waiting places wanted.now
-        → result ≡ row_choice_at legality.entry.now.bus pending.now.waiting places place }
-{
-    match pending.get(place) {
-        Some((request, _)) => {
-            if can_activate(legality, request.place) {
-                Choice::Act { place }
-            } else if can_precharge(legality, wanted, request.place) {
-                Choice::Pre { place }
-            } else {
-                Choice::Nothing
-            }
-        }
-        None => Choice::Nothing,
-    }
-}
-
-/// Whether the bank of the place is active with another row, which isn't marked as wanted, and may be
-/// precharged now.
-fn can_precharge(legality: &Legality, wanted: &Marks, at: Place) -> bool
-    requires { IsInRank at }
-    ensures { (waiting : List Waiting) (places : List ℕ) → IsMarked legality.entry.now.bus waiting places wanted.now
-        → result ≡ can_precharge legality.entry.now.bus waiting places at }
-{
-    match legality.open_row(0, at.group, at.bank) {
-        Some(row) => row != at.row && !wanted[bank_number(at)] && may(legality, precharge_at(at)),
-        None => false,
     }
 }

@@ -11,6 +11,8 @@ pub struct Policy {
     pub low: u32,
     /// The write drain begins where at least this many writes are pending.
     pub high: u32,
+    /// Whether a row is closed behind the last column command that wants it.
+    pub closed: bool,
 }
 
 impl Policy {

@@ -49,5 +49,5 @@ ready_by e bank false true closes false = refl
 ready_by e bank false false true false = refl
 ready_by e bank false false false false = refl
 
-pub ready_after : (group bank : ℕ) (before : Option OpenBank) (e : Entry) → ready_row (bank_after (Pre 0 group bank) before e) ≡ row_after group bank e.command (ready_row before)
-ready_after group bank before e = ready_by e before (is_activate e.command) (is_precharge e.command) (is_auto e.command) (is_same_bank e.command (Pre 0 group bank))
+pub ready_after : (rank group bank : ℕ) (before : Option OpenBank) (e : Entry) → ready_row (bank_after (Pre rank group bank) before e) ≡ row_after rank group bank e.command (ready_row before)
+ready_after rank group bank before e = ready_by e before (is_activate e.command) (is_precharge e.command) (is_auto e.command) (is_same_bank e.command (Pre rank group bank))

@@ -1,5 +1,5 @@
 -- What opening, admission and the look at a cycle's situation make of a channel's fields.
-use Rattle.std.proofs.Common.{◌≡◌, ◌↔◌, IsTrue, ℕ, ◌+◌, ◌-◌, ◌*◌, ◌≤◌, Bool, true, false, eqb, ltb, leb, List, [], ◌∷◌, ◌++◌, None, Result, Ok, Err, IsErr, OnOk, IfErr, length, replicate, refl, sym, ap, subst, ◌∙◌, arith}
+use Rattle.std.proofs.Common.{◌≡◌, ◌↔◌, IsTrue, ℕ, zero, suc, ◌+◌, ◌-◌, ◌<◌, ◌≤◌, Bool, true, false, cond, eqb, ltb, leb, map, List, [], ◌∷◌, ◌++◌, None, Result, Ok, Err, IsErr, OnOk, IfErr, length, take, replicate, get_or, All, refl, sym, ap, subst, ◌∙◌, arith}
 use Rattle.std.proofs.Math.Path.{fun_ext}
 use Rattle.std.specs.List.{filter}
 use Rattle.std.proofs.lemmas.Bool.{false≢true}
@@ -7,7 +7,9 @@ use Rattle.std.proofs.lemmas.List.{length-append}
 use Rattle.circular_buffer.specs.Buffer.{Buffer, buffer}
 use Rattle.ddr_timing.specs.declared.config.Config.{Config}
 use Rattle.ddr_timing.specs.declared.units.TheConstants.{CLOCK_STOP, LINE_BYTES}
+use Rattle.ddr_timing.specs.Banks.{bank_number}
 use Rattle.ddr_trace.specs.Banks.{bank_behind, ready_row}
+use Rattle.ddr_trace.specs.Rules.{is_bank_in}
 use Rattle.ddr_trace.specs.declared.command.Command.TheVariants.{Pre}
 use Rattle.ddr_legality.specs.Bus.{Bus}
 use Rattle.ddr_legality.specs.Bus as bus
@@ -27,7 +29,7 @@ use Rattle.ddr_channel.specs.declared.channel.Channel.TheInside.{Inside}
 use Rattle.ddr_channel.specs.Choice.{policy_of, has_room, refreshes_of, situation_of}
 use Rattle.ddr_channel.specs.Cycle.{completed}
 use Rattle.ddr_channel.specs.History.{Call, Admit}
-use Rattle.ddr_channel.specs.Kept.{state_of}
+use Rattle.ddr_channel.specs.Kept.{line_cells, state_of}
 use Rattle.ddr_channel.specs.Memory.{LineAddress}
 use Rattle.ddr_channel.specs.Promise.{StandsFor}
 use Rattle.ddr_channel.specs.Sound.{IsServed, IsSound}
@@ -47,16 +49,32 @@ same_room s =
     let same : length (completed s).flight + length (completed s).done ≡ length s.flight + length s.done = omega arith in
     ap (λ n. ltb n s.config.limits.done) same
 
-pub situation_is : (a : Inside) (debt : Refreshes) (policy : Policy) (drain room : Bool) → IsWhole a → debt ≡ after_tick (refreshes_of (state_of (kept_of a))) → policy ≡ policy_of a.config → drain ≡ (choosing a).drain →
-    room ≡ ltb (length a.flight.items + length a.done.items) a.config.limits.done → situation a.pending a.legality debt policy drain room ≡ situation_of (choosing a)
-situation_is a debt policy drain room whole debt_is policy_is drain_is room_is =
+pub situation_is : (a : Inside) (debts : List Refreshes) (policy : Policy) (drain room : Bool) → IsWhole a → debts ≡ map after_tick (refreshes_of (state_of (kept_of a)) a.config.geometry.ranks) → policy ≡ policy_of a.config → drain ≡ (choosing a).drain →
+    room ≡ ltb (length a.flight.items + length a.done.items) a.config.limits.done → situation a.pending a.legality debts policy drain room ≡ situation_of (choosing a)
+situation_is a debts policy drain room whole debts_are policy_is drain_is room_is =
     let room_same = room_is ∙ sym (same_room (state_of (kept_of a))) in
-    λ i. record { waiting = a.pending.waiting; bus = bus_is a whole i; refreshes = debt_is i; policy = policy_is i; drain = drain_is i; room = room_same i }
+    λ i. record { waiting = a.pending.waiting; bus = bus_is a whole i; refreshes = debts_are i; policy = policy_is i; drain = drain_is i; room = room_same i }
+
+-- the debts of the ranks that the channel has
+pub taken_ranks : (s : State) (ranks : ℕ) → ranks ≤ 2 → take ranks (map after_tick (refreshes_of s 2)) ≡ map after_tick (refreshes_of s ranks)
+taken_ranks s zero few = refl
+taken_ranks s (suc zero) few = refl
+taken_ranks s (suc (suc zero)) few = refl
+taken_ranks s (suc (suc (suc ranks))) few = absurd (omega arith)
+
+-- no debt has counted more cycles than there were
+pub ticks_below : (a : Inside) → IsWhole a → a.legality.bus.now < CLOCK_STOP → All (λ (r : Refreshes). r.ticks < CLOCK_STOP) a.debts
+ticks_below a whole clock = subst (All (λ (r : Refreshes). r.ticks < CLOCK_STOP)) (sym whole.debts) by_rank
+  where
+    by_rank : (k : ℕ) (r : Refreshes) → k < 2 → (get_or (refreshes_of (state_of (kept_of a)) 2) k r).ticks < CLOCK_STOP
+    by_rank zero r within = omega (arith, clock)
+    by_rank (suc zero) r within = omega (arith, clock)
+    by_rank (suc (suc k)) r within = absurd (omega (arith, within))
 
 -- admission
 
 abbrev with_pending : Inside → PendingList → Inside
-with_pending a p = record { config = a.config; pending = p; drain = a.drain; debt = a.debt; flight = a.flight; done = a.done; legality = a.legality; rows = a.rows }
+with_pending a p = record { config = a.config; pending = p; drain = a.drain; debts = a.debts; flight = a.flight; done = a.done; legality = a.legality; rows = a.rows }
 
 whole_admitted : (a : Inside) (r : Request) → IsWhole a → IsServed a.config r.place → IsWhole (with_pending a (pending.after_admit r a.legality.bus.now a.pending))
 whole_admitted a r whole served = record {
@@ -65,7 +83,7 @@ whole_admitted a r whole served = record {
   clock = whole.clock;
   reads = whole.reads;
   writes = whole.writes;
-  debt = whole.debt;
+  debts = whole.debts;
   flight_room = whole.flight_room;
   done_room = whole.done_room;
   agrees = whole.agrees;
@@ -109,28 +127,32 @@ fields_open config first spare rows = record {
   config = config;
   pending = pending.opened config.limits.reads config.limits.writes;
   drain = false;
-  debt = refreshes.opened config.timing;
+  debts = refreshes.opened config.timing ∷ refreshes.opened config.timing ∷ [];
   flight = buffer [] config.limits.done;
   done = buffer [] config.limits.done;
   legality = record { bus = bus.opened config first; spare = spare };
   rows = rows;
 }
 
-pub fields_are_open : (config : Config) (first : ℕ) (p : PendingList) (debt : Refreshes) (flight done : Buffer Completion) (l : legality.Kept) (rows : Rows) →
-    p ≡ pending.opened config.limits.reads config.limits.writes → debt ≡ refreshes.opened config.timing → flight ≡ buffer [] config.limits.done → done ≡ buffer [] config.limits.done → l.bus ≡ bus.opened config first →
-    record { config = config; pending = p; drain = false; debt = debt; flight = flight; done = done; legality = l; rows = rows } ≡ fields_open config first l.spare rows
-fields_are_open config first p debt flight done l rows p_is debt_is flight_is done_is bus_are =
-    λ i. record { config = config; pending = p_is i; drain = false; debt = debt_is i; flight = flight_is i; done = done_is i; legality = record { bus = bus_are i; spare = l.spare }; rows = rows }
+pub fields_are_open : (config : Config) (first : ℕ) (p : PendingList) (debts : List Refreshes) (flight done : Buffer Completion) (l : legality.Kept) (rows : Rows) →
+    p ≡ pending.opened config.limits.reads config.limits.writes → debts ≡ refreshes.opened config.timing ∷ refreshes.opened config.timing ∷ [] → flight ≡ buffer [] config.limits.done → done ≡ buffer [] config.limits.done → l.bus ≡ bus.opened config first →
+    record { config = config; pending = p; drain = false; debts = debts; flight = flight; done = done; legality = l; rows = rows } ≡ fields_open config first l.spare rows
+fields_are_open config first p debts flight done l rows p_is debts_are flight_is done_is bus_are =
+    λ i. record { config = config; pending = p_is i; drain = false; debts = debts_are i; flight = flight_is i; done = done_is i; legality = record { bus = bus_are i; spare = l.spare }; rows = rows }
 
 pub state_open : (config : Config) (first spare : ℕ) (rows : Rows) → IsFresh config rows → state_of (kept_of (fields_open config first spare rows)) ≡ opened config first
 state_open config first spare rows fresh =
-    let zeros : (λ (address : LineAddress). cells rows address.bank address.row address.line) ≡ (λ _. replicate LINE_BYTES 0) = fun_ext (λ address. fresh.zeros address.bank address.row address.line) in
+    let zeros : line_cells config.geometry rows ≡ (λ _. replicate LINE_BYTES 0) = fun_ext (λ address. fresh_line address (is_bank_in config.geometry address.rank address.group address.bank)) in
     ap (λ (f : LineAddress → List ℕ). record (opened config first) { cells = f }) zeros
+  where
+    fresh_line : (address : LineAddress) (there : Bool) → cond there (cells rows (bank_number config.geometry address.rank address.group address.bank) address.row address.line) (replicate LINE_BYTES 0) ≡ replicate LINE_BYTES 0
+    fresh_line address true = fresh.zeros (bank_number config.geometry address.rank address.group address.bank) address.row address.line
+    fresh_line address false = refl
 
 -- before the first command no bank is ready
-no_command : (group bank : ℕ) → ready_row (bank_behind (Pre 0 group bank) []) ≡ None
+no_command : (rank group bank : ℕ) → ready_row (bank_behind (Pre rank group bank) []) ≡ None
 unfolding bank_behind
-no_command group bank = refl
+no_command rank group bank = refl
 
 pub whole_open : (config : Config) (first spare : ℕ) (rows : Rows) → first ≤ CLOCK_STOP → IsFresh config rows → IsWhole (fields_open config first spare rows)
 whole_open config first spare rows clock fresh =
@@ -142,13 +164,13 @@ whole_open config first spare rows clock fresh =
       clock = clock;
       reads = refl;
       writes = refl;
-      debt = ap (λ n. record (refreshes.opened config.timing) { ticks = n }) none;
+      debts = ap (λ n. record (refreshes.opened config.timing) { ticks = n } ∷ record (refreshes.opened config.timing) { ticks = n } ∷ []) none;
       flight_room = refl;
       done_room = refl;
       agrees = record {
         banks = fresh.banks;
         rows_are = fresh.rows;
         lines = fresh.lines;
-        opened = λ group bank g b. fresh.idle (group * 4 + bank) ∙ sym (no_command group bank);
+        opened = λ rank group bank r g b. fresh.idle (bank_number config.geometry rank group bank) ∙ sym (no_command rank group bank);
       };
     }

@@ -69,11 +69,12 @@ held_served_at weigh place (Some w) s is =
 
 held_served : (weigh : ℕ → ℕ → ℕ) (c : Choice) (s : State) → held weigh (served_by c s) ≡ held weigh s
 held_served weigh choice.Nothing s = refl
-held_served weigh choice.Refresh s = refl
-held_served weigh choice.PreAll s = refl
+held_served weigh (choice.Refresh rank) s = refl
+held_served weigh (choice.PreAll rank) s = refl
 held_served weigh (choice.Act place) s = refl
 held_served weigh (choice.Pre place) s = refl
 held_served weigh (choice.Column place) s = held_served_at weigh place (slice_get s.pending place) s refl
+held_served weigh (choice.ColumnAuto place) s = held_served_at weigh place (slice_get s.pending place) s refl
 
 -- a cycle loses no request and makes none
 pub held_cycle : (weigh : ℕ → ℕ → ℕ) (s : State) → held weigh (after_cycle s) ≡ held weigh s

@@ -1,43 +1,40 @@
 -- What every history keeps, call by call.
-use Rattle.std.proofs.Common.{◌≡◌, ℕ, zero, suc, ◌+◌, ◌<◌, ◌≤◌, Bool, true, false, ◌&&◌, not, cond, eqb, List, [], ◌∷◌, ◌++◌, Option, Some, None, All, map, length, take, drop, get_or, refl, sym, ap, ap₂, subst, ◌∙◌, ◌⊎◌, inl, inr, arith}
+use Rattle.std.proofs.Common.{◌≡◌, ℕ, zero, suc, ◌+◌, ◌<◌, ◌≤◌, Bool, true, false, not, cond, eqb, List, [], ◌∷◌, ◌++◌, Option, Some, None, map, length, take, drop, get_or, refl, sym, ap, ap₂, subst, ◌∙◌, ◌⊎◌, inl, inr, arith}
 use Rattle.std.specs.List.{AllByRecursion, AllPairs, filter, list_any, slice_get, remove, range_with_len, fold}
 use Rattle.std.specs.List.Sorted.{IsPermutation}
 use Rattle.std.specs.Option.{option_map, option_map_or}
-use Rattle.std.proofs.lemmas.Bool.{cases_eq, cases_Bool, cases_order, true≢false, eq-eqb, eqb-true, and_parts}
+use Rattle.std.proofs.lemmas.Bool.{cases_eq, cases_Bool, cases_order, true≢false}
 use Rattle.std.proofs.lemmas.List.{append_assoc, append-nil, length_push, length-map, map-append, take_at, take-append-le, take-append-drop, take-map}
-use Rattle.std.proofs.lemmas.List.Elements.{All-take, All-tail, filter-append}
+use Rattle.std.proofs.lemmas.List.Elements.{filter-append}
 use Rattle.std.proofs.lemmas.List.Quantifiers.{all_pairs_remove, all_pairs_push}
 use Rattle.std.proofs.lemmas.List.Sorted.{IsPermutation-refl, IsPermutation-more, IsPermutation-append_left}
 use Rattle.std.proofs.lemmas.Option.{slice_get_within, get_or_from_slice_get}
 use Rattle.circular_buffer.proofs.Places.{slice_get-append_left, slice_get-append_right}
 use Rattle.ddr_timing.specs.declared.config.Config.{Config}
-use Rattle.ddr_timing.specs.declared.geometry.Digit.TheVariants.{Bank, Rank}
 use Rattle.ddr_timing.specs.declared.units.TheConstants.{CLOCK_STOP}
 use Rattle.ddr_trace.specs.declared.command.Command.{Command}
 use Rattle.ddr_trace.specs.declared.command.Entry.{Entry}
 use Rattle.ddr_trace.specs.Commands.{entry, is_column}
 use Rattle.ddr_address_map.specs.declared.place.Place.{Place}
-use Rattle.ddr_address_map.specs.declared.request.Kind.{Kind}
-use Rattle.ddr_address_map.specs.declared.request.Kind.TheVariants.{Read, Write}
 use Rattle.ddr_address_map.specs.Requests.{Request, Completion}
-use Rattle.ddr_address_map.proofs.MapLemmas.{IsInRange-test}
 use Rattle.ddr_hazards.specs.declared.waiting.Waiting.{Waiting}
 use Rattle.ddr_hazards.specs.Hazards as hazards
 use Rattle.ddr_arbiter.specs.declared.choice.Choice.{Choice}
 use Rattle.ddr_arbiter.specs.declared.choice.Choice.TheVariants as choice
-use Rattle.ddr_arbiter.specs.Commands.{activate_at, precharge_at, column_at, column_of}
+use Rattle.ddr_arbiter.specs.Commands.{activate_at, precharge_at, column_of}
 use Rattle.ddr_arbiter.specs.Laws.{command_of, IsLawful}
 use Rattle.ddr_arbiter.proofs.LawLemmas.{choice_lawful}
 use Rattle.ddr_channel.specs.Choice.{situation_of, choice_of}
 use Rattle.ddr_channel.specs.Cycle.{at_choice, recorded, completion_at, completion_of, cells_after, served, served_at, served_by, issued, ticked, after_cycle}
-use Rattle.ddr_channel.specs.History.{Call, Admit, Cycle, Pop, Owner, History, begun, with_owner, after_call, run}
-use Rattle.ddr_channel.specs.Memory.{LineAddress, bank_number, line_of, is_same_line, line_over, line_after}
+use Rattle.ddr_channel.specs.History.{Call, Admit, Cycle, Pop, Owner, History, begun, owned, with_owner, after_call, run}
+use Rattle.ddr_channel.specs.Memory.{LineAddress, line_of, is_same_line, line_over, line_after}
 use Rattle.ddr_channel.specs.Promise.{answer_to, right_answer, owned_entry, requests_of, completions_of, MayCall, AreCalls}
 use Rattle.ddr_channel.specs.Sound.{IsServed, AreDue, IsSound}
 use Rattle.ddr_channel.specs.State.{State, after_admit, after_pop, is_queue_full}
-use Rattle.ddr_channel.proofs.ListLemmas.{slice_get-remove_before, slice_get-remove_behind, get_or-remove_before, get_or-remove_behind, take-remove_before, takes_both, split_at, map-remove, All-at, All-implies, All-last, All-taken, at_map, mapped_at, list_any-none_at, neither}
-use Rattle.ddr_channel.proofs.MemoryLemmas.{line_over-append, line_over-line_after, serve_line, line_kept, IsFormed, formed_after, NoneTo}
-use Rattle.ddr_channel.proofs.SoundLemmas.{IsSound-opened, IsSound-at_choice, IsSound-after_cycle, IsSound-after_admit, IsSound-after_pop, due_now, due_later, due_after, none_due, AreDue-append}
+use Rattle.ddr_channel.proofs.LegalNowLemmas.{column_is}
+use Rattle.ddr_channel.proofs.ListLemmas.{slice_get-remove_before, slice_get-remove_behind, get_or-remove_before, get_or-remove_behind, take-remove_before, takes_both, split_at, map-remove, All-implies, All-last, All-taken, at_map, mapped_at, list_any-none_at, neither}
+use Rattle.ddr_channel.proofs.MemoryLemmas.{same_parts, itself, line_over-append, line_over-line_after, serve_line, line_kept, IsFormed, formed_after, NoneTo}
+use Rattle.ddr_channel.proofs.SoundLemmas.{IsSound-opened, IsSound-after_cycle, IsSound-after_admit, IsSound-after_pop, due_now, due_later, due_after, none_due, AreDue-append}
 
 -- what a pending request would read is what the requests that were admitted before it leave
 abbrev pub PromisesAt : History → ℕ → Request → Type 0
@@ -79,7 +76,7 @@ map_same P f g [] same all = refl
 map_same P f g (x ∷ xs) same all = ap₂ ◌∷◌ (same x all.0) (map_same P f g xs same all.1)
 
 entry_kept : (accepted : List Request) (r : Request) (o : Owner) → o.place < length accepted → owned_entry accepted o ≡ owned_entry (accepted ++ r ∷ []) o
-entry_kept accepted r o placed = ap (option_map (λ q. entry o.cycle (column_of q))) (sym (slice_get-append_left accepted (r ∷ []) o.place placed))
+entry_kept accepted r o placed = ap (option_map (λ q. entry o.cycle (column_of o.auto q))) (sym (slice_get-append_left accepted (r ∷ []) o.place placed))
 
 answer_kept : (config : Config) (accepted : List Request) (r : Request) (o : Owner) → o.place < length accepted → right_answer config accepted o ≡ right_answer config (accepted ++ r ∷ []) o
 answer_kept config accepted r o placed =
@@ -292,54 +289,21 @@ keeps_recorded next h (Some c) row k = record {
 
 -- a cycle: a column command
 
-column_is : (kind : Kind) (p : Place) → is_column (column_at kind p) ≡ true
-column_is Read p = refl
-column_is Write p = refl
-
--- the bank of a place in the geometry is below 4
-bank_below : (config : Config) (p : Place) → IsServed config p → p.bank < 4
-bank_below config p is = (IsInRange-test config.geometry p is).digits Bank
-
--- the rank of a place in the geometry is the one that is served
-rank_below : (config : Config) (p : Place) → IsServed config p → p.rank < 1
-rank_below config p is = (IsInRange-test config.geometry p is).digits Rank
-
--- requests to one line are requests to one rank, group, bank, row and line of the row
-same_place : (config : Config) (address : LineAddress) (p q : Place) → IsServed config p → IsServed config q →
-    is_same_line address (line_of p) ≡ true → is_same_line address (line_of q) ≡ true → hazards.is_same_line p q ≡ true
-same_place config address p q here there to_p to_q =
-    let a = and_parts (eqb address.bank (bank_number p)) (eqb address.row p.row && eqb address.line p.line) to_p in
-    let b = and_parts (eqb address.bank (bank_number q)) (eqb address.row q.row && eqb address.line q.line) to_q in
-    let c = and_parts (eqb address.row p.row) (eqb address.line p.line) a.1 in
-    let d = and_parts (eqb address.row q.row) (eqb address.line q.line) b.1 in
-    let bank : bank_number p ≡ bank_number q = sym (eqb-true address.bank (bank_number p) a.0) ∙ eqb-true address.bank (bank_number q) b.0 in
-    let low = bank_below config p here in
-    let low' = bank_below config q there in
-    let row : p.row ≡ q.row = sym (eqb-true address.row p.row c.0) ∙ eqb-true address.row q.row d.0 in
-    let line : p.line ≡ q.line = sym (eqb-true address.line p.line c.1) ∙ eqb-true address.line q.line d.1 in
-    let group_is : p.group ≡ q.group = omega arith in
-    let bank_is : p.bank ≡ q.bank = omega arith in
-    let first = rank_below config p here in
-    let first' = rank_below config q there in
-    let rank_is : p.rank ≡ q.rank = omega arith in
-    rw (eq-eqb p.rank q.rank rank_is, eq-eqb p.group q.group group_is, eq-eqb p.bank q.bank bank_is, eq-eqb p.row q.row row, eq-eqb p.line q.line line) refl
+-- requests to one line are to the same places but for the channel and the offset
+same_place : (address : LineAddress) (p q : Place) → is_same_line address (line_of p) ≡ true → is_same_line address (line_of q) ≡ true → hazards.is_same_line p q ≡ true
+same_place address p q to_p to_q = subst (λ a. is_same_line a (line_of q) ≡ true) (same_parts address (line_of p) to_p) to_q
 
 -- where no older pending request is to the line of a request, none is to that line
-none_older : (config : Config) (older : List Waiting) (w : Waiting) → All (λ v. IsServed config v.request.place) older → IsServed config w.request.place →
-    list_any (λ v. hazards.is_same_line v.request.place w.request.place) older ≡ false →
+none_older : (older : List Waiting) (w : Waiting) → list_any (λ v. hazards.is_same_line v.request.place w.request.place) older ≡ false →
     (address : LineAddress) → is_same_line address (line_of w.request.place) ≡ true → NoneTo address (requests_of older)
-none_older config [] w all here none address same = refl
-none_older config (v ∷ vs) w all here none address same =
+none_older [] w none address same = refl
+none_older (v ∷ vs) w none address same =
     let parts = neither (hazards.is_same_line v.request.place w.request.place) (list_any (λ u. hazards.is_same_line u.request.place w.request.place) vs) none in
     let elsewhere : is_same_line address (line_of v.request.place) ≡ false = elim (cases_Bool (is_same_line address (line_of v.request.place))) [
-      | inl to_v ↦ absurd (true≢false (sym (same_place config address v.request.place w.request.place (all 0 v (omega arith)) here to_v same) ∙ parts.0))
+      | inl to_v ↦ absurd (true≢false (sym (same_place address v.request.place w.request.place to_v same) ∙ parts.0))
       | inr not_to_v ↦ not_to_v
     ] in
-    rw elsewhere (none_older config vs w (All-tail (λ (u : Waiting). IsServed config u.request.place) v vs all) here parts.1 address same)
-
--- the line of a place is one line
-itself : (a : LineAddress) → is_same_line a a ≡ true
-itself a = rw (eq-eqb a.bank a.bank refl, eq-eqb a.row a.row refl, eq-eqb a.line a.line refl) refl
+    rw elsewhere (none_older vs w parts.1 address same)
 
 -- what serves a request: it is pending, and no older one is to its line
 pub record Serves (h : History) (place : ℕ) (w : Waiting) : Type 0 where
@@ -414,14 +378,14 @@ answer_is s accepted o r here now cells =
     ap (option_map (answer_to s.config accepted o)) here
     ∙ ap₂ (λ (t : ℕ) (line : List ℕ). Some (completion_at s.config t line r)) now (sym cells)
 
-keeps_served : (next : ℕ) (h : History) (place : ℕ) (w : Waiting) → Serves h place w → AreDue next (h.state.flight ++ completion_of h.state w.request ∷ []) → Keeps next h →
-    Keeps next (record (with_owner (choice.Column place) h) { state = ticked (served place w.request (recorded (Some (column_of w.request)) h.state)) })
-keeps_served next h place w serves due k =
+keeps_served : (next : ℕ) (h : History) (auto : Bool) (place : ℕ) (w : Waiting) → Serves h place w → AreDue next (h.state.flight ++ completion_of h.state w.request ∷ []) → Keeps next h →
+    Keeps next (record (owned auto place h) { state = ticked (served place w.request (recorded (Some (column_of auto w.request)) h.state)) })
+keeps_served next h auto place w serves due k =
     let r = w.request in
     let s = h.state in
     let at = accepted_at next h place r k (request_here h place w serves) in
-    let o : Owner = record { place = get_or h.waiting place 0; cycle = s.now } in
-    let e = entry s.now (column_of r) in
+    let o : Owner = record { place = get_or h.waiting place 0; cycle = s.now; auto = auto } in
+    let e = entry s.now (column_of auto r) in
     let number : o.place ≡ at.0 = get_or_from_slice_get h.waiting place at.0 0 at.1 in
     let here : slice_get h.accepted o.place ≡ Some r = ap (slice_get h.accepted) number ∙ at.2 in
     let within = slice_get_within h.waiting place at.0 at.1 in
@@ -442,9 +406,9 @@ keeps_served next h place w serves due k =
           ∙ promise_served next h place w k serves m q (ap (λ (xs : List Request). slice_get xs m) (sym left) ∙ there);
       memory = λ address. ap (λ (xs : List Request). line_over (cells_after r s.cells address) xs address) left ∙ memory_served next h place w k serves address;
       commands =
-          ap (λ (xs : List Entry). map Some xs) (filter-append (λ m. is_column m.command) s.trace (e ∷ []) ∙ ap (λ b. filter (λ m. is_column m.command) s.trace ++ cond b (e ∷ []) []) (column_is r.echo.kind r.place))
+          ap (λ (xs : List Entry). map Some xs) (filter-append (λ m. is_column m.command) s.trace (e ∷ []) ∙ ap (λ b. filter (λ m. is_column m.command) s.trace ++ cond b (e ∷ []) []) (column_is auto r.echo.kind r.place))
           ∙ map-append Some (filter (λ m. is_column m.command) s.trace) (e ∷ [])
-          ∙ ap₂ (λ (xs : List (Option Entry)) (x : Option Entry). xs ++ x ∷ []) k.commands (sym (ap (option_map (λ q. entry o.cycle (column_of q))) here))
+          ∙ ap₂ (λ (xs : List (Option Entry)) (x : Option Entry). xs ++ x ∷ []) k.commands (sym (ap (option_map (λ q. entry o.cycle (column_of o.auto q))) here))
           ∙ sym (map-append (owned_entry h.accepted) h.owners (o ∷ []));
       answers =
           ap (λ (xs : List Completion). map Some xs) (sym (append_assoc (h.popped ++ s.done) s.flight (completion_of s r ∷ [])))
@@ -459,36 +423,36 @@ keeps_served next h place w serves due k =
 -- a cycle: the choice
 
 -- what a lawful column command serves: it is pending, and no older request is to its line
-serves_of : (g : History) (place : ℕ) (w : Waiting) → IsSound g.state → slice_get g.state.pending place ≡ Some w → hazards.is_blocked g.state.pending place ≡ false → Serves g place w
-serves_of g place w sound here free = record {
+serves_of : (g : History) (place : ℕ) (w : Waiting) → slice_get g.state.pending place ≡ Some w → hazards.is_blocked g.state.pending place ≡ false → Serves g place w
+serves_of g place w here free = record {
   here = here;
   first = λ address same.
       subst (λ (rs : List Request). NoneTo address rs) (sym (take-map (λ v. v.request) place g.state.pending))
-      (none_older g.state.config (take place g.state.pending) w (All-take (λ (v : Waiting). IsServed g.state.config v.request.place) place g.state.pending sound.served)
-      (All-at (λ (v : Waiting). IsServed g.state.config v.request.place) g.state.pending place w sound.served here)
+      (none_older (take place g.state.pending) w
       (sym (ap (λ (o : Option Waiting). option_map_or (λ v. list_any (λ older. hazards.is_same_line older.request.place v.request.place) (take place g.state.pending)) o false) here) ∙ free) address same);
 }
 
 -- the number of a place that isn't there is no owner's: a lawful choice has none such
-keeps_column : (g : History) (place : ℕ) (o : Option Waiting) → slice_get g.state.pending place ≡ o → place < length g.state.pending → hazards.is_blocked g.state.pending place ≡ false → IsSound g.state → Keeps (g.state.now + 1) g →
-    IsSound (ticked (served_at place o (recorded (option_map (λ w. column_of w.request) o) g.state))) →
-    Keeps (g.state.now + 1) (record (with_owner (choice.Column place) g) { state = ticked (served_at place o (recorded (option_map (λ w. column_of w.request) o) g.state)) })
-keeps_column g place None here within free sound k after = absurd (not_past g.state.pending place within here)
+keeps_column : (g : History) (auto : Bool) (place : ℕ) (o : Option Waiting) → slice_get g.state.pending place ≡ o → place < length g.state.pending → hazards.is_blocked g.state.pending place ≡ false → Keeps (g.state.now + 1) g →
+    IsSound (ticked (served_at place o (recorded (option_map (λ w. column_of auto w.request) o) g.state))) →
+    Keeps (g.state.now + 1) (record (owned auto place g) { state = ticked (served_at place o (recorded (option_map (λ w. column_of auto w.request) o) g.state)) })
+keeps_column g auto place None here within free k after = absurd (not_past g.state.pending place within here)
   where
     not_past : {X : Type 0} (xs : List X) (n : ℕ) → n < length xs → slice_get xs n ≡ None → ⊥
     not_past [] n before is = omega arith
     not_past (x ∷ xs) zero before is = cc
     not_past (x ∷ xs) (suc n) before is = not_past xs n (omega arith) is
-keeps_column g place (Some w) here within free sound k after = keeps_served (g.state.now + 1) g place w (serves_of g place w sound here free) after.due k
+keeps_column g auto place (Some w) here within free k after = keeps_served (g.state.now + 1) g auto place w (serves_of g place w here free) after.due k
 
-keeps_issued : (g : History) (c : Choice) → IsLawful (situation_of g.state) c → IsSound g.state → Keeps (g.state.now + 1) g → IsSound (ticked (issued c g.state)) →
+keeps_issued : (g : History) (c : Choice) → IsLawful (situation_of g.state) c → Keeps (g.state.now + 1) g → IsSound (ticked (issued c g.state)) →
     Keeps (g.state.now + 1) (record (with_owner c g) { state = ticked (issued c g.state) })
-keeps_issued g choice.Nothing law sound k after = keeps_recorded (g.state.now + 1) g None refl k
-keeps_issued g choice.Refresh law sound k after = keeps_recorded (g.state.now + 1) g (command_of g.state.pending choice.Refresh) refl k
-keeps_issued g choice.PreAll law sound k after = keeps_recorded (g.state.now + 1) g (command_of g.state.pending choice.PreAll) refl k
-keeps_issued g (choice.Act place) law sound k after = keeps_recorded (g.state.now + 1) g _ (no_data (λ w. activate_at w.request.place) (slice_get g.state.pending place) (λ w. refl)) k
-keeps_issued g (choice.Pre place) law sound k after = keeps_recorded (g.state.now + 1) g _ (no_data (λ w. precharge_at w.request.place) (slice_get g.state.pending place) (λ w. refl)) k
-keeps_issued g (choice.Column place) law sound k after = keeps_column g place (slice_get g.state.pending place) refl law.in_list law.no_older sound k after
+keeps_issued g choice.Nothing law k after = keeps_recorded (g.state.now + 1) g None refl k
+keeps_issued g (choice.Refresh rank) law k after = keeps_recorded (g.state.now + 1) g (command_of g.state.pending (choice.Refresh rank)) refl k
+keeps_issued g (choice.PreAll rank) law k after = keeps_recorded (g.state.now + 1) g (command_of g.state.pending (choice.PreAll rank)) refl k
+keeps_issued g (choice.Act place) law k after = keeps_recorded (g.state.now + 1) g _ (no_data (λ w. activate_at w.request.place) (slice_get g.state.pending place) (λ w. refl)) k
+keeps_issued g (choice.Pre place) law k after = keeps_recorded (g.state.now + 1) g _ (no_data (λ w. precharge_at w.request.place) (slice_get g.state.pending place) (λ w. refl)) k
+keeps_issued g (choice.Column place) law k after = keeps_column g false place (slice_get g.state.pending place) refl law.in_list law.no_older k after
+keeps_issued g (choice.ColumnAuto place) law k after = keeps_column g true place (slice_get g.state.pending place) refl law.in_list law.no_older k after
 
 -- the whole invariant: of the configuration and the start as at open, and of the state and its history
 pub record IsKept (config : Config) (start : ℕ) (h : History) : Type 0 where
@@ -498,26 +462,29 @@ pub record IsKept (config : Config) (start : ℕ) (h : History) : Type 0 where
   pub keeps : Keeps h.state.now h
 
 -- what the data of a column command leave alone
+
+alike_at : {X : Type 0} (f : State → X) → ((s : State) (place : ℕ) (r : Request) → f (served place r s) ≡ f s) → (place : ℕ) (o : Option Waiting) (s : State) → f (served_at place o s) ≡ f s
+alike_at f same place None s = refl
+alike_at f same place (Some w) s = same s place w.request
+
 pub served_alike : {X : Type 0} (f : State → X) → ((s : State) (place : ℕ) (r : Request) → f (served place r s) ≡ f s) → (c : Choice) (s : State) → f (served_by c s) ≡ f s
 served_alike f same choice.Nothing s = refl
-served_alike f same choice.Refresh s = refl
-served_alike f same choice.PreAll s = refl
+served_alike f same (choice.Refresh rank) s = refl
+served_alike f same (choice.PreAll rank) s = refl
 served_alike f same (choice.Act place) s = refl
 served_alike f same (choice.Pre place) s = refl
-served_alike f same (choice.Column place) s = by_request (slice_get s.pending place)
-  where
-    by_request : (o : Option Waiting) → f (served_at place o s) ≡ f s
-    by_request None = refl
-    by_request (Some w) = same s place w.request
+served_alike f same (choice.Column place) s = alike_at f same place (slice_get s.pending place) s
+served_alike f same (choice.ColumnAuto place) s = alike_at f same place (slice_get s.pending place) s
 
 -- the owner of a command doesn't depend on what comes before the choice
 owner_alike : (c : Choice) (h : History) (after : State) → record (with_owner c (record h { state = at_choice h.state })) { state = after } ≡ record (with_owner c h) { state = after }
 owner_alike choice.Nothing h after = refl
-owner_alike choice.Refresh h after = refl
-owner_alike choice.PreAll h after = refl
+owner_alike (choice.Refresh rank) h after = refl
+owner_alike (choice.PreAll rank) h after = refl
 owner_alike (choice.Act place) h after = refl
 owner_alike (choice.Pre place) h after = refl
 owner_alike (choice.Column place) h after = refl
+owner_alike (choice.ColumnAuto place) h after = refl
 
 -- a cycle keeps it
 pub kept_cycle : (config : Config) (start : ℕ) (h : History) → IsKept config start h → IsKept config start (record (with_owner (choice_of (at_choice h.state)) h) { state = after_cycle h.state })
@@ -525,7 +492,7 @@ kept_cycle config start h k =
     let c = choice_of (at_choice h.state) in
     let s = recorded (command_of h.state.pending c) (at_choice h.state) in
     let sound = IsSound-after_cycle h.state k.sound in
-    let keeps = keeps_issued (record h { state = at_choice h.state }) c (choice_lawful (situation_of (at_choice h.state))) (IsSound-at_choice h.state k.sound) (keeps_at_choice h k.keeps) sound in
+    let keeps = keeps_issued (record h { state = at_choice h.state }) c (choice_lawful (situation_of (at_choice h.state))) (keeps_at_choice h k.keeps) sound in
     record {
       config_is = served_alike (λ t. t.config) (λ t place r. refl) c s ∙ k.config_is;
       start_is = served_alike (λ t. t.start) (λ t place r. refl) c s ∙ k.start_is;

@@ -1,47 +1,43 @@
--- How far apart legal column commands are.
-use Rattle.std.proofs.Common.{◌≡◌, ℕ, ◌+◌, ◌<◌, ◌≤◌, Bool, true, false, ◌&&◌, not, eqb, ltb, Some, refl, arith}
+-- A column command of a legal trace completes after each earlier one.
+use Rattle.std.proofs.Common.{◌≡◌, ℕ, ◌+◌, ◌<◌, Bool, true, false, List, [], ◌∷◌, ◌++◌, Some, length, refl, ◌∙◌, arith}
 use Rattle.std.specs.List.{slice_get}
-use Rattle.std.proofs.lemmas.Bool.{ltb-false}
-use Rattle.ddr_trace.specs.declared.rule.Rule.TheVariants as rule
-use Rattle.ddr_trace.specs.Rules.{is_too_close, spacing_of}
+use Rattle.std.proofs.lemmas.Option.{slice_get_within}
+use Rattle.circular_buffer.proofs.Places.{slice_get-append_left, slice_get-last}
+use Rattle.ddr_timing.specs.declared.config.Config.{Config}
+use Rattle.ddr_trace.specs.declared.command.Entry.{Entry}
+use Rattle.ddr_trace.specs.Commands.{entry, is_column}
+use Rattle.ddr_trace.specs.Legality.{IsLegal}
+use Rattle.ddr_trace.specs.Rules.{latency}
+use Rattle.ddr_trace.proofs.BusLemmas.{bus_kept}
 use Rattle.ddr_address_map.specs.declared.place.Place.{Place}
 use Rattle.ddr_address_map.specs.declared.request.Kind.{Kind}
 use Rattle.ddr_address_map.specs.declared.request.Kind.TheVariants.{Read, Write}
-use Rattle.ddr_trace.specs.Commands.{entry}
-use Rattle.ddr_legality.specs.Bus.{Bus, is_legal_now}
 use Rattle.ddr_arbiter.specs.Commands.{column_at}
-use Rattle.ddr_arbiter.proofs.CommandLemmas.{legal_keeps}
 use Rattle.ddr_channel.specs.Cycle.{service_time}
-use Rattle.ddr_channel.proofs.ListLemmas.{list_any-none_at}
 
--- a distance that one of two rules asks for, whichever group the two commands are of
-either_group : (same : Bool) (now cycle near far least : ℕ) → least ≤ near → least ≤ far → (same && ltb now (cycle + near)) ≡ false → (not same && ltb now (cycle + far)) ≡ false → cycle + least ≤ now
-either_group true now cycle near far least small small' kept kept' = let d = ltb-false now (cycle + near) kept in omega arith
-either_group false now cycle near far least small small' kept kept' = let d = ltb-false now (cycle + far) kept' in omega arith
+-- the read or write of a place, with or without auto-precharge
 
--- a legal column command completes after each earlier one
-pub later_due : (b : Bus) (kind earlier : Kind) (p q : Place) (k cycle : ℕ) → is_legal_now b (column_at kind p) ≡ true → slice_get b.trace k ≡ Some (entry cycle (column_at earlier q)) →
-    cycle + service_time b.config earlier < b.now + service_time b.config kind
-later_due b Read Read p q k cycle legal is =
-    let at = legal_keeps b (column_at Read p) legal in
-    let near = list_any-none_at (λ a. is_too_close (spacing_of b.config.timing rule.CcdL) a (entry b.now (column_at Read p))) b.trace k _ (at rule.CcdL refl) is in
-    let far = list_any-none_at (λ a. is_too_close (spacing_of b.config.timing rule.CcdS) a (entry b.now (column_at Read p))) b.trace k _ (at rule.CcdS refl) is in
-    let apart = either_group (eqb q.group p.group) b.now cycle b.config.timing.ccd_l b.config.timing.ccd_s 4 (omega arith) (omega arith) near far in
-    omega arith
-later_due b Write Write p q k cycle legal is =
-    let at = legal_keeps b (column_at Write p) legal in
-    let near = list_any-none_at (λ a. is_too_close (spacing_of b.config.timing rule.CcdL) a (entry b.now (column_at Write p))) b.trace k _ (at rule.CcdL refl) is in
-    let far = list_any-none_at (λ a. is_too_close (spacing_of b.config.timing rule.CcdS) a (entry b.now (column_at Write p))) b.trace k _ (at rule.CcdS refl) is in
-    let apart = either_group (eqb q.group p.group) b.now cycle b.config.timing.ccd_l b.config.timing.ccd_s 4 (omega arith) (omega arith) near far in
-    omega arith
-later_due b Read Write p q k cycle legal is =
-    let at = legal_keeps b (column_at Read p) legal in
-    let near = list_any-none_at (λ a. is_too_close (spacing_of b.config.timing rule.WtrL) a (entry b.now (column_at Read p))) b.trace k _ (at rule.WtrL refl) is in
-    let far = list_any-none_at (λ a. is_too_close (spacing_of b.config.timing rule.WtrS) a (entry b.now (column_at Read p))) b.trace k _ (at rule.WtrS refl) is in
-    let apart = either_group (eqb q.group p.group) b.now cycle (b.config.timing.cwl + 4 + b.config.timing.wtr_l) (b.config.timing.cwl + 4 + b.config.timing.wtr_s) (b.config.timing.cwl + 4) (omega arith) (omega arith) near far in
-    omega arith
-later_due b Write Read p q k cycle legal is =
-    let at = legal_keeps b (column_at Write p) legal in
-    let close = list_any-none_at (λ a. is_too_close (spacing_of b.config.timing rule.Rtw) a (entry b.now (column_at Write p))) b.trace k _ (at rule.Rtw refl) is in
-    let apart = ltb-false b.now (cycle + b.config.timing.rtw) close in
+pub column_is : (auto : Bool) (kind : Kind) (p : Place) → is_column (column_at auto kind p) ≡ true
+column_is false Read p = refl
+column_is false Write p = refl
+column_is true Read p = refl
+column_is true Write p = refl
+
+latency_is : (config : Config) (auto : Bool) (kind : Kind) (p : Place) → latency config.timing (column_at auto kind p) + 4 ≡ service_time config kind
+latency_is config false Read p = refl
+latency_is config false Write p = refl
+latency_is config true Read p = refl
+latency_is config true Write p = refl
+
+-- Its burst begins when that of the earlier one has ended, whichever their ranks are.
+pub later_due : (config : Config) (start end : ℕ) (trace : List Entry) (now cycle : ℕ) (auto auto' : Bool) (kind earlier : Kind) (p q : Place) (k : ℕ) →
+    IsLegal config start end (trace ++ entry now (column_at auto kind p) ∷ []) → slice_get trace k ≡ Some (entry cycle (column_at auto' earlier q)) →
+    cycle + service_time config earlier < now + service_time config kind
+later_due config start end trace now cycle auto auto' kind earlier p q k legal is =
+    let e = entry now (column_at auto kind p) in
+    let a = entry cycle (column_at auto' earlier q) in
+    let within = slice_get_within trace k a is in
+    let apart = bus_kept config start end (trace ++ e ∷ []) legal k (length trace) a e within (slice_get-append_left trace (e ∷ []) k within ∙ is) (slice_get-last trace e (length trace) refl) (column_is auto' earlier q) (column_is auto kind p) in
+    let first = latency_is config auto' earlier q in
+    let second = latency_is config auto kind p in
     omega arith

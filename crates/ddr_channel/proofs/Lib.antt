@@ -7,9 +7,11 @@ pub mod PromiseLemmas
 pub mod QueueLemmas
 pub mod BankLemmas
 pub mod IssueLemmas
-pub mod ServeLemmas
+pub mod TransferLemmas
 pub mod CycleLemmas
 pub mod RoomLemmas
 pub mod ChannelLemmas
 pub mod StandsLemmas
 pub mod HeldLemmas
+pub mod AdmittedLemmas
+pub mod ToldLemmas

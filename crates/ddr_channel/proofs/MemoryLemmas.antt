@@ -1,7 +1,7 @@
 -- Lemmas on what requests leave in a line.
 use Rattle.std.proofs.Common.{◌≡◌, ℕ, zero, suc, ◌+◌, ◌<◌, ◌≤◌, Bool, true, false, ◌&&◌, cond, eqb, List, [], ◌∷◌, ◌++◌, map, get_or, refl, sym, ap, ap₂, ◌∙◌, arith}
 use Rattle.std.specs.List.{fold, list_any, range_with_len}
-use Rattle.std.proofs.lemmas.Bool.{and_parts}
+use Rattle.std.proofs.lemmas.Bool.{eq-eqb, eqb-true, and_parts}
 use Rattle.std.specs.Int.{bit_at}
 use Rattle.std.proofs.lemmas.List.FromFn.{get_or-map-range_with_len}
 use Rattle.std.proofs.lemmas.List.Sums.{fold-append}
@@ -12,6 +12,24 @@ use Rattle.ddr_row_array.specs.Merge.{merged}
 use Rattle.ddr_channel.specs.Cycle.{line_served, cells_after}
 use Rattle.ddr_channel.specs.Memory.{LineAddress, line_of, is_same_line, is_write_kind, writes_byte, byte_over, line_over, line_after}
 use Rattle.ddr_channel.proofs.ListLemmas.{neither, list_any-narrower}
+
+-- one line is one rank, group, bank, row and line of the row
+
+pub same_parts : (a b : LineAddress) → is_same_line a b ≡ true → a ≡ b
+same_parts a b same =
+    let ranks = and_parts (eqb a.rank b.rank) (eqb a.group b.group && (eqb a.bank b.bank && (eqb a.row b.row && eqb a.line b.line))) same in
+    let groups = and_parts (eqb a.group b.group) (eqb a.bank b.bank && (eqb a.row b.row && eqb a.line b.line)) ranks.1 in
+    let banks = and_parts (eqb a.bank b.bank) (eqb a.row b.row && eqb a.line b.line) groups.1 in
+    let rows = and_parts (eqb a.row b.row) (eqb a.line b.line) banks.1 in
+    ap₂ (λ (rank group : ℕ). at rank group a.bank a.row a.line) (eqb-true a.rank b.rank ranks.0) (eqb-true a.group b.group groups.0)
+    ∙ ap₂ (λ (bank row : ℕ). at b.rank b.group bank row a.line) (eqb-true a.bank b.bank banks.0) (eqb-true a.row b.row rows.0)
+    ∙ ap (λ (line : ℕ). at b.rank b.group b.bank b.row line) (eqb-true a.line b.line rows.1)
+  where
+    at : (rank group bank row line : ℕ) → LineAddress
+    at rank group bank row line = record { rank = rank; group = group; bank = bank; row = row; line = line }
+
+pub itself : (a : LineAddress) → is_same_line a a ≡ true
+itself a = rw (eq-eqb a.rank a.rank refl, eq-eqb a.group a.group refl, eq-eqb a.bank a.bank refl, eq-eqb a.row a.row refl, eq-eqb a.line a.line refl) refl
 
 -- two functions that agree on a range list the same there
 pub map-range_same : {X : Type 0} (f g : ℕ → X) (a n : ℕ) → ((i : ℕ) → a ≤ i → i < a + n → f i ≡ g i) → map f (range_with_len a n) ≡ map g (range_with_len a n)

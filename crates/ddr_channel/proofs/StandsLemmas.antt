@@ -113,11 +113,12 @@ cycle_start old new made = ap (λ (s : State). s.start) made ∙ issued_start (c
 
 owner_accepted : (c : Choice) (h : History) → (with_owner c h).accepted ≡ h.accepted
 owner_accepted choice.Nothing h = refl
-owner_accepted choice.Refresh h = refl
-owner_accepted choice.PreAll h = refl
+owner_accepted (choice.Refresh rank) h = refl
+owner_accepted (choice.PreAll rank) h = refl
 owner_accepted (choice.Act place) h = refl
 owner_accepted (choice.Pre place) h = refl
 owner_accepted (choice.Column place) h = refl
+owner_accepted (choice.ColumnAuto place) h = refl
 
 accepted_if : (b : Bool) (x y : History) → y.accepted ≡ x.accepted → (cond b x y).accepted ≡ x.accepted
 accepted_if true x y same = refl

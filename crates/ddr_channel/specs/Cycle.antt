@@ -89,6 +89,7 @@ served_at place (Some w) s = served place w.request s
 -- the request whose column command was chosen, if one was
 abbrev pub served_by : Choice → State → State
 served_by (choice.Column place) s = served_at place (slice_get s.pending place) s
+served_by (choice.ColumnAuto place) s = served_at place (slice_get s.pending place) s
 served_by _ s = s
 
 -- the command of the choice, and the data that it moves

@@ -1,5 +1,5 @@
 -- What a list of calls makes of a channel, with what became of each request.
-use Rattle.std.specs.Prelude.{ℕ, ◌==◌, if◌then◌else◌, List, [], ◌∷◌, ◌++◌, length, take, fold, remove, slice_index}
+use Rattle.std.specs.Prelude.{ℕ, Bool, true, false, ◌==◌, if◌then◌else◌, List, [], ◌∷◌, ◌++◌, length, take, fold, remove, slice_index}
 use Rattle.ddr_timing.specs.declared.config.Config.{Config}
 use Rattle.ddr_timing.specs.declared.units.TheConstants.{CLOCK_STOP}
 use Rattle.ddr_address_map.specs.Requests.{Request, Completion}
@@ -15,10 +15,12 @@ pub data Call : Type 0 where
   Cycle : Call
   Pop : Call
 
--- the owner of a column command: a place in the acceptance list, and the cycle of the command
+-- the owner of a column command: a place in the acceptance list, the cycle of the command, and whether it is one with
+-- auto-precharge
 pub record Owner : Type 0 where
   pub place : ℕ
   pub cycle : ℕ
+  pub auto : Bool
 
 pub record History : Type 0 where
   pub state : State
@@ -35,11 +37,15 @@ abbrev pub begun : Config → ℕ → History
 begun config start = record { state = opened config start; accepted = []; waiting = []; owners = []; popped = [] }
 
 -- a column command gives the request at that place of the pending ones its owner
-abbrev pub with_owner : Choice → History → History
-with_owner (choice.Column place) h = record h {
-  owners = h.owners ++ record { place = slice_index h.waiting place; cycle = h.state.now } ∷ [];
+abbrev pub owned : Bool → ℕ → History → History
+owned auto place h = record h {
+  owners = h.owners ++ record { place = slice_index h.waiting place; cycle = h.state.now; auto = auto } ∷ [];
   waiting = remove h.waiting place;
 }
+
+abbrev pub with_owner : Choice → History → History
+with_owner (choice.Column place) h = owned false place h
+with_owner (choice.ColumnAuto place) h = owned true place h
 with_owner _ h = h
 
 -- a refused call leaves all as it was

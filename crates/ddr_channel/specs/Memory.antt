@@ -1,28 +1,26 @@
 -- What requests leave in the memory, byte by byte.
-use Rattle.std.specs.Prelude.{ℕ, ◌+◌, ◌*◌, Bool, true, false, ◌&&◌, ◌==◌, List, map, fold, if◌then◌else◌, slice_index}
+use Rattle.std.specs.Prelude.{ℕ, Bool, true, false, ◌&&◌, ◌==◌, List, map, fold, if◌then◌else◌, slice_index}
 use Rattle.std.specs.List.{range_with_len}
 use Rattle.std.specs.Int.{bit_at}
-use Rattle.ddr_timing.specs.declared.units.TheConstants.{GROUP_BANKS, LINE_BYTES}
+use Rattle.ddr_timing.specs.declared.units.TheConstants.{LINE_BYTES}
 use Rattle.ddr_address_map.specs.declared.place.Place.{Place}
 use Rattle.ddr_address_map.specs.declared.request.Kind.{Kind}
 use Rattle.ddr_address_map.specs.declared.request.Kind.TheVariants.{Read, Write}
 use Rattle.ddr_address_map.specs.Requests.{Request}
 
--- a line of the channel: the number of its bank in the rank, its row, and its place in the row
+-- a line of the channel: its rank, group, bank and row, and its place in the row
 pub record LineAddress : Type 0 where
+  pub rank : ℕ
+  pub group : ℕ
   pub bank : ℕ
   pub row : ℕ
   pub line : ℕ
 
--- the number of the bank in its rank
-abbrev pub bank_number : Place → ℕ
-bank_number place = place.group * GROUP_BANKS + place.bank
-
 abbrev pub line_of : Place → LineAddress
-line_of place = record { bank = bank_number place; row = place.row; line = place.line }
+line_of place = record { rank = place.rank; group = place.group; bank = place.bank; row = place.row; line = place.line }
 
 abbrev pub is_same_line : LineAddress → LineAddress → Bool
-is_same_line a b = a.bank == b.bank && (a.row == b.row && a.line == b.line)
+is_same_line a b = a.rank == b.rank && (a.group == b.group && (a.bank == b.bank && (a.row == b.row && a.line == b.line)))
 
 abbrev pub is_write_kind : Kind → Bool
 is_write_kind Write = true

@@ -25,7 +25,7 @@ right_answer config accepted o = option_map (answer_to config accepted o) (slice
 
 -- the column command of an owner
 abbrev pub owned_entry : List Request → Owner → Option Entry
-owned_entry accepted o = option_map (λ r. entry o.cycle (column_of r)) (slice_get accepted o.place)
+owned_entry accepted o = option_map (λ r. entry o.cycle (column_of o.auto r)) (slice_get accepted o.place)
 
 abbrev pub requests_of : List Waiting → List Request
 requests_of pending = map (λ w. w.request) pending

@@ -1,5 +1,5 @@
 -- What every state of a channel keeps.
-use Rattle.std.specs.Prelude.{◌≡◌, ℕ, true, ◌+◌, ◌≤◌, All, List, [], ◌∷◌, length, Some, slice_get}
+use Rattle.std.specs.Prelude.{◌≡◌, ℕ, Bool, true, ◌+◌, ◌≤◌, All, List, [], ◌∷◌, length, Some, slice_get}
 use Rattle.std.specs.List.{AllByRecursion}
 use Rattle.ddr_timing.specs.declared.config.Config.{Config}
 use Rattle.ddr_trace.specs.declared.command.Entry.{Entry}
@@ -19,8 +19,9 @@ IsServed config p = in_range config.geometry p ≡ true
 -- the column command of the completion stands in the trace, and the completion is due when its data have passed
 pub record IsTraced (config : Config) (trace : List Entry) (d : Completion) : Type 0 where
   pub place : Place
+  pub auto : Bool
   pub at : ℕ
-  pub there : slice_get trace at ≡ Some (entry d.issued (column_at d.echo.kind place))
+  pub there : slice_get trace at ≡ Some (entry d.issued (column_at auto d.echo.kind place))
   pub due : d.due ≡ d.issued + service_time config d.echo.kind
 
 -- due one after another, the first not before this cycle

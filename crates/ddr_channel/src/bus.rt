@@ -1,31 +1,22 @@
-//! The command of a cycle: room for it, and what issuing it makes of the command bus, the rows and the debt.
-ghost use Rattle.std.specs.Prelude.{◌≡◌, ℕ, ◌+◌, ◌*◌, ◌^◌, ◌≤◌, ◌<◌, true, false, length, None, IfSome, IsOk, IsTrue, OnErr, OnOk};
+//! The command of a cycle: room for it, and what issuing it makes of the command bus and the rows.
+ghost use Rattle.std.specs.Prelude.{◌≡◌, ℕ, ◌+◌, ◌≤◌, ◌<◌, ◌&&◌, false, if◌then◌else◌, nat_le, nat_lt, length, None, IfSome, IsOk, IsTrue, OnErr, OnOk};
 ghost use Rattle.std.specs.Option.{option_map_or};
-ghost use Rattle.ddr_timing.specs.declared.units.TheConstants.{GROUP_BANKS};
-ghost use Rattle.ddr_trace.specs.Commands.{is_refresh, rank_of};
-ghost use Rattle.ddr_refresh.specs.Refreshes.{debt_of};
+ghost use Rattle.ddr_timing.specs.Banks.{bank_number, rank_bank_count};
+ghost use Rattle.ddr_timing.specs.Banks as geometry;
 ghost use Rattle.ddr_legality.specs.Bus.{broken_now, recorded};
 ghost use Rattle.ddr_row_array.specs.Changes.{SameBytes, SameShape};
 ghost use Rattle.ddr_row_array.specs.Rows.{bank_count, open_row, is_stored, cells};
-ghost use Rattle.ddr_channel.specs.Issue.{IsReadyFor, MayFollow, bus_with, row_after, row_with, refreshes_after, refreshes_with};
+ghost use Rattle.ddr_channel.specs.Issue.{IsBank, IsReadyFor, MayFollow, bus_with, row_after};
 ghost use Rattle.ddr_channel.specs.Kept.{AgreesWith};
 ghost use Rattle.ddr_channel.specs.Room.{needs_memory};
 
 use ddr_legality::legality::Legality;
-use ddr_refresh::debt::Debt;
 use ddr_row_array::row_array::RowArray;
+use ddr_timing::bank::BankId;
 use ddr_timing::config::Config;
-use ddr_timing::units::GROUP_BANKS;
+use ddr_timing::geometry::Geometry;
 use ddr_trace::command::Command;
 use std::alloc::AllocError;
-
-/// The number in its rank of a bank of a group.
-pub(crate) fn bank_number(group: u32, bank: u32) -> u32
-    requires { group * GROUP_BANKS + bank < 2 ^ 32 }
-    ensures { result ≡ group * GROUP_BANKS + bank }
-{
-    group * GROUP_BANKS + bank
-}
 
 /// Makes room for the entry of a command that is legal now, and for the bytes of the row that it opens. No byte and
 /// no open row changes. What is there already is not asked for.
@@ -38,8 +29,8 @@ fn reserve_for(
     requires of_config { legality.old.bus.config ≡ config.now }
     requires legal { broken_now legality.old.bus command ≡ None }
     requires agrees { AgreesWith config.now legality.old.bus.trace rows.old }
-    ensures ready { OnOk result (IsReadyFor legality.new.spare rows.new command) }
-    ensures memory { OnErr result (IsTrue (needs_memory legality.old.spare rows.old command)) }
+    ensures ready { OnOk result (IsReadyFor config.now.geometry legality.new.spare rows.new command) }
+    ensures memory { OnErr result (IsTrue (needs_memory config.now.geometry legality.old.spare rows.old command)) }
     ensures spare { legality.old.spare ≤ legality.new.spare }
     ensures stored { (b r : ℕ) → IsTrue (is_stored rows.old b r) → IsTrue (is_stored rows.new b r) }
     ensures bus { legality.new.bus ≡ legality.old.bus }
@@ -48,13 +39,14 @@ fn reserve_for(
     ensures shape { SameShape rows.old rows.new }
 {
     if let Command::Act {
-        rank: _,
+        rank,
         group,
         bank,
         row,
     } = command
     {
-        rows.ensure(bank_number(group, bank), row)?;
+        let id = BankId { rank, group, bank };
+        rows.ensure(id.number(&config.geometry), row)?;
     }
     legality.reserve_entry()
 }
@@ -69,9 +61,9 @@ pub(crate) fn reserve(
     requires of_config { legality.old.bus.config ≡ config.now }
     requires legal { IfSome command (λ c. broken_now legality.old.bus c ≡ None) }
     requires agrees { AgreesWith config.now legality.old.bus.trace rows.old }
-    ensures ready { OnOk result (IfSome command (IsReadyFor legality.new.spare rows.new)) }
+    ensures ready { OnOk result (IfSome command (IsReadyFor config.now.geometry legality.new.spare rows.new)) }
     ensures idle { command ≡ None → IsOk result }
-    ensures memory { OnErr result (IsTrue (option_map_or (needs_memory legality.old.spare rows.old) command false)) }
+    ensures memory { OnErr result (IsTrue (option_map_or (needs_memory config.now.geometry legality.old.spare rows.old) command false)) }
     ensures spare { legality.old.spare ≤ legality.new.spare }
     ensures stored { (b r : ℕ) → IsTrue (is_stored rows.old b r) → IsTrue (is_stored rows.new b r) }
     ensures bus { legality.new.bus ≡ legality.old.bus }
@@ -85,67 +77,68 @@ pub(crate) fn reserve(
     }
 }
 
-/// Closes the rows of all banks.
-fn close_all(rows: &mut RowArray, banks: u32)
-    requires { bank_count rows.old ≡ banks }
-    ensures opened { (b : ℕ) → open_row rows.new b ≡ None }
+/// Closes the rows of the banks from the number `first` up to `end`.
+fn close_banks(rows: &mut RowArray, first: u32, end: u32)
+    requires order { first ≤ end }
+    requires inside { end ≤ bank_count rows.old }
+    ensures opened { (b : ℕ) → open_row rows.new b ≡ (if nat_le first b && nat_lt b end then None else open_row rows.old b) }
     ensures bytes { SameBytes rows.old rows.new }
 {
-    for bank in 0..banks {
+    for bank in first..end {
         rows.precharge(bank);
     }
 }
 
-/// Opens and closes rows as the command says. An RDA or WRA closes its row at once.
-fn follow(rows: &mut RowArray, banks: u32, command: Command)
-    requires all { bank_count rows.old ≡ banks }
-    requires may { MayFollow rows.old command }
-    ensures opened { (group bank : ℕ) → bank < GROUP_BANKS
-        → open_row rows.new (group * GROUP_BANKS + bank) ≡ row_after group bank command (open_row rows.old (group * GROUP_BANKS + bank)) }
+/// Opens and closes rows as the command says. An RDA or WRA closes its row at once, since its data have moved.
+fn follow(rows: &mut RowArray, shape: &Geometry, command: Command)
+    requires all { bank_count rows.old ≡ geometry.bank_count shape.now }
+    requires may { MayFollow shape.now rows.old command }
+    ensures opened { (rank group bank : ℕ) → IsBank shape.now rank group bank
+        → open_row rows.new (bank_number shape.now rank group bank) ≡ row_after rank group bank command (open_row rows.old (bank_number shape.now rank group bank)) }
     ensures bytes { SameBytes rows.old rows.new }
 {
     match command {
         Command::Act {
-            rank: _,
+            rank,
             group,
             bank,
             row,
-        } => rows.activate(bank_number(group, bank), row),
-        Command::Pre { group, bank, .. }
-        | Command::RdAuto { group, bank, .. }
-        | Command::WrAuto { group, bank, .. } => rows.precharge(bank_number(group, bank)),
-        Command::PreAll { rank: _ } => close_all(rows, banks),
+        } => rows.activate(BankId { rank, group, bank }.number(shape), row),
+        Command::Pre { rank, group, bank }
+        | Command::RdAuto {
+            rank,
+            group,
+            bank,
+            ..
+        }
+        | Command::WrAuto {
+            rank,
+            group,
+            bank,
+            ..
+        } => rows.precharge(BankId { rank, group, bank }.number(shape)),
+        Command::PreAll { rank } => {
+            let banks = shape.rank_banks();
+            let first = rank * banks;
+            close_banks(rows, first, first + banks);
+        }
         Command::Rd { .. } | Command::Wr { .. } | Command::Refresh { .. } => {}
     }
 }
 
-/// Issues a command that is legal now: on the command bus, in the rows, and a REF against the debt.
-fn issue_command(
-    config: &Config,
-    legality: &mut Legality,
-    rows: &mut RowArray,
-    debt: &mut Debt,
-    command: Command,
-)
+/// Issues a command that is legal now: on the command bus, and in the rows.
+fn issue_command(config: &Config, legality: &mut Legality, rows: &mut RowArray, command: Command)
     requires of_config { legality.old.bus.config ≡ config.now }
     requires legal { broken_now legality.old.bus command ≡ None }
-    requires ranked { rank_of command ≡ 0 }
     requires agrees { AgreesWith config.now legality.old.bus.trace rows.old }
-    requires ready { IsReadyFor legality.old.spare rows.old command }
-    requires due { is_refresh command ≡ true → 1 ≤ debt_of debt.old }
+    requires ready { IsReadyFor config.now.geometry legality.old.spare rows.old command }
     ensures bus { legality.new.bus ≡ recorded command legality.old.bus }
     ensures spare { legality.new.spare + length legality.new.bus.trace ≡ legality.old.spare + length legality.old.bus.trace }
     ensures agrees { AgreesWith config.now legality.new.bus.trace rows.new }
-    ensures opened { (group bank : ℕ) → bank < GROUP_BANKS
-        → open_row rows.new (group * GROUP_BANKS + bank) ≡ row_after group bank command (open_row rows.old (group * GROUP_BANKS + bank)) }
     ensures bytes { SameBytes rows.old rows.new }
-    ensures debt { debt.new ≡ refreshes_after command debt.old }
 {
     legality.record(command);
-    follow(rows, config.geometry.groups * GROUP_BANKS, command);
-    if let Command::Refresh { rank: _ } = command {
-        debt.issued();
-    }
+    follow(rows, &config.geometry, command);
 }
 
 /// Issues the command of a cycle, if it has one, as `issue_command` does.
@@ -153,24 +146,18 @@ pub(crate) fn issue(
     config: &Config,
     legality: &mut Legality,
     rows: &mut RowArray,
-    debt: &mut Debt,
     command: Option<Command>,
 )
     requires of_config { legality.old.bus.config ≡ config.now }
     requires legal { IfSome command (λ c. broken_now legality.old.bus c ≡ None) }
-    requires ranked { IfSome command (λ c. rank_of c ≡ 0) }
     requires agrees { AgreesWith config.now legality.old.bus.trace rows.old }
-    requires ready { IfSome command (IsReadyFor legality.old.spare rows.old) }
-    requires due { IfSome command (λ c. is_refresh c ≡ true → 1 ≤ debt_of debt.old) }
+    requires ready { IfSome command (IsReadyFor config.now.geometry legality.old.spare rows.old) }
     ensures bus { legality.new.bus ≡ bus_with command legality.old.bus }
     ensures spare { legality.new.spare + length legality.new.bus.trace ≡ legality.old.spare + length legality.old.bus.trace }
     ensures agrees { AgreesWith config.now legality.new.bus.trace rows.new }
-    ensures opened { (group bank : ℕ) → bank < GROUP_BANKS
-        → open_row rows.new (group * GROUP_BANKS + bank) ≡ row_with group bank command (open_row rows.old (group * GROUP_BANKS + bank)) }
     ensures bytes { SameBytes rows.old rows.new }
-    ensures debt { debt.new ≡ refreshes_with command debt.old }
 {
     if let Some(command) = command {
-        issue_command(config, legality, rows, debt, command);
+        issue_command(config, legality, rows, command);
     }
 }

@@ -1,21 +1,27 @@
 //! One channel: its pending requests, its rows, its trace, and the cycles that it makes.
-ghost use Rattle.std.specs.Prelude.{◌≡◌, false, ◌+◌, ◌<◌, ◌≤◌, ◌↔◌, List, [], ◌∷◌, ◌++◌, IfSome, IsTrue, IsErr, IsOk, IfOk, IfErr, OnOk, OnErr, IsErrOf, option_copied, slice_get};
+ghost use Rattle.std.specs.Prelude.{◌≡◌, false, ◌+◌, ◌<◌, ◌≤◌, ◌↔◌, List, [], ◌∷◌, ◌++◌, map, IfSome, IsTrue, IsErr, IsOk, IfOk, IfErr, OnOk, OnErr, IsErrOf, option_copied, slice_get};
 ghost use Rattle.ddr_arbiter.specs.declared.choice.Choice.TheVariants as choice;
 ghost use Rattle.ddr_channel.specs.declared.channel.CycleError.TheVariants.{ClockSpent, OutOfMemory};
 ghost use Rattle.ddr_address_map.specs.declared.request.Kind.TheVariants.{Read, Write};
 ghost use Rattle.ddr_timing.specs.declared.units.TheConstants.{CLOCK_STOP};
+ghost use Rattle.std.specs.Option.{is_some};
+ghost use Rattle.ddr_trace.specs.Commands.{is_column};
 ghost use Rattle.ddr_trace.specs.Legality.{IsLegal};
 ghost use Rattle.ddr_refresh.specs.Refreshes.{after_tick};
+ghost use Rattle.ddr_hazards.specs.declared.pending.TheConstants.{RANKS};
 ghost use Rattle.ddr_channel.specs.Choice.{choice_of, policy_of, refreshes_of};
 ghost use Rattle.ddr_channel.specs.Cycle.{at_choice, drained, after_cycle};
 ghost use Rattle.ddr_channel.specs.History.{Call, Admit, Cycle, Pop, run};
-ghost use Rattle.ddr_channel.specs.Kept.{state_of};
+ghost use Rattle.ddr_channel.specs.Kept.{AgreesWith, state_of};
 ghost use Rattle.ddr_channel.specs.Promise.{StandsFor, IsNextAnswer};
 ghost use Rattle.ddr_channel.specs.Room.{KeepsRoom, wants_memory};
 ghost use Rattle.ddr_channel.specs.Sound.{IsServed};
 ghost use Rattle.ddr_channel.specs.State.{opened, after_admit, after_pop, is_queue_full};
+ghost use Rattle.ddr_channel.specs.Told.{ComesAsTold, IsNewest, WasAdmitted, issued_in, with_issued};
 
 use crate::bus::{issue, reserve};
+use crate::debts::{Debts, count, tick};
+use crate::issued::{Issued, issued_with};
 use crate::queue::complete;
 use crate::transfer::serve;
 use circular_buffer::HeapCircularBuffer;
@@ -23,7 +29,7 @@ use ddr_address_map::request::{Done, Kind, Req};
 use ddr_arbiter::choice::{Choice, choose};
 use ddr_arbiter::commands::command_of;
 use ddr_arbiter::policy::Policy;
-use ddr_hazards::pending::Pending;
+use ddr_hazards::pending::{Pending, RANKS};
 use ddr_legality::legality::Legality;
 use ddr_refresh::debt::Debt;
 use ddr_row_array::row_array::RowArray;
@@ -43,14 +49,15 @@ pub enum CycleError {
     OutOfMemory,
 }
 
-/// One channel of a memory controller, with its rank. Contracts see the state that it is in.
+/// One channel of a memory controller, with its ranks. Contracts see the state that it is in.
 #[derive(Drop)]
 pub struct Channel {
     config: Config,
     pending: Pending,
     // Whether writes were drained in the cycle before.
     drain: bool,
-    debt: Debt,
+    // Of each rank that there may be.
+    debts: Debts,
     flight: HeapCircularBuffer<Done>,
     done: HeapCircularBuffer<Done>,
     legality: Legality,
@@ -83,7 +90,7 @@ impl Channel {
             config: *config,
             pending: Pending::open(limits.reads, limits.writes),
             drain: false,
-            debt: Debt::open(config),
+            debts: [Debt::open(config); RANKS as usize],
             flight: HeapCircularBuffer::with_capacity(alloc, limits.done as usize)?,
             done: HeapCircularBuffer::with_capacity(alloc, limits.done as usize)?,
             legality: Legality::open(alloc, config, first_cycle)?,
@@ -119,9 +126,9 @@ impl Channel {
         policy(&self.config).next_mode(self.drain, self.pending.writes())
     }
 
-    /// What the next cycle does, where the debt was ticked and the drain mode is that cycle's.
-    fn choice(&self, debt: &Debt, drain: bool) -> Choice
-        requires debt { debt.now ≡ after_tick (refreshes_of (state_of self.now)) }
+    /// What the next cycle does, where the debts were ticked and the drain mode is that cycle's.
+    fn choice(&self, debts: &Debts, drain: bool) -> Choice
+        requires debts { debts.now ≡ map after_tick (refreshes_of (state_of self.now) RANKS) }
         requires mode { drain ≡ (drained (state_of self.now)).drain }
         ensures { result ≡ choice_of (at_choice (state_of self.entry.now)) }
     {
@@ -129,16 +136,17 @@ impl Channel {
         choose(
             &self.pending,
             &self.legality,
-            debt,
+            &debts[..self.config.geometry.ranks as usize],
             &policy(&self.config),
             drain,
             room,
         )
     }
 
-    /// Makes the cycle `now`: what is due completes, the refresh debt and the drain mode go on, the command that is
-    /// chosen is issued, and a column command moves its data. A refusal leaves the channel as it was. Memory is asked
-    /// for only where a command is issued for whose entry, or for whose row, there is no room.
+    /// Makes the cycle `now`: what is due completes, the refresh debts and the drain mode go on, and the command that
+    /// is chosen is issued. A column command moves its data before it closes its row, where it is one with
+    /// auto-precharge. A refusal leaves the channel as it was. Memory is asked for only where a command is issued for
+    /// whose entry, or for whose row, there is no room.
     pub fn cycle(&mut self) -> Result<(), CycleError>
         ensures ok { OnOk result (state_of self.new ≡ after_cycle (state_of self.old)) }
         ensures spent { IsErrOf result ClockSpent ↔ (self.old.now ≡ CLOCK_STOP) }
@@ -150,17 +158,43 @@ impl Channel {
         ensures room { KeepsRoom self.old self.new }
         ensures stands { OnOk result ((calls : List Call) → StandsFor self.old calls → StandsFor self.new (calls ++ Cycle ∷ [])) }
     {
+        self.cycle_observed()?;
+        Ok(())
+    }
+
+    /// Makes the cycle `now` as `cycle` does, and tells what it issued: nothing, or the trace's new entry, with the
+    /// request that it serves where it is a column command. The completion of that request comes in its turn behind
+    /// those of all column commands before, with the `issued` and the `due` that are told here.
+    pub fn cycle_observed(&mut self) -> Result<Option<Issued>, CycleError>
+        ensures ok { OnOk result (state_of self.new ≡ after_cycle (state_of self.old)) }
+        ensures spent { IsErrOf result ClockSpent ↔ (self.old.now ≡ CLOCK_STOP) }
+        ensures err { OnErr result (state_of self.new ≡ state_of self.old) }
+        ensures config { self.new.config ≡ self.old.config }
+        ensures clock { OnOk result (self.new.now ≡ self.old.now + 1) }
+        ensures idle { choice_of (at_choice (state_of self.old)) ≡ choice.Nothing → IsErrOf result OutOfMemory → ⊥ }
+        ensures memory { IsErrOf result OutOfMemory → IsTrue (wants_memory self.old) }
+        ensures room { KeepsRoom self.old self.new }
+        ensures stands { OnOk result ((calls : List Call) → StandsFor self.old calls → StandsFor self.new (calls ++ Cycle ∷ [])) }
+        ensures issued { IfOk result (λ o. o ≡ issued_in (state_of self.old)) }
+        ensures trace { IfOk result (λ o. self.new.trace ≡ with_issued o self.old.trace) }
+        ensures columns { IfOk result (λ o. IfSome o (λ i. is_some i.served ≡ is_column i.entry.command)) }
+        ensures flight { IfOk result (λ o. IfSome o (λ i. IfSome i.served (IsNewest self.new.flight i))) }
+        ensures told { IfOk result (λ o. IfSome o (λ i. IfSome i.served (λ v. (calls : List Call) → StandsFor self.old calls
+            → ComesAsTold self.old.config self.old.start calls i v))) }
+        ensures admitted { IfOk result (λ o. IfSome o (λ i. IfSome i.served (λ v. (calls : List Call) → StandsFor self.old calls
+            → WasAdmitted self.old.config self.old.start calls v))) }
+    {
         if self.legality.now() == CLOCK_STOP {
             return Err(CycleError::ClockSpent);
         }
         match self.make_cycle() {
-            Ok(()) => Ok(()),
+            Ok(issued) => Ok(issued),
             Err(_) => Err(CycleError::OutOfMemory),
         }
     }
 
-    /// Makes a cycle, before the clock is spent.
-    fn make_cycle(&mut self) -> Result<(), AllocError>
+    /// Makes a cycle, before the clock is spent, and tells what it issued.
+    fn make_cycle(&mut self) -> Result<Option<Issued>, AllocError>
         requires { self.old.now < CLOCK_STOP }
         ensures ok { OnOk result (state_of self.new ≡ after_cycle (state_of self.old)) }
         ensures err { OnErr result (state_of self.new ≡ state_of self.old) }
@@ -169,23 +203,17 @@ impl Channel {
         ensures idle { choice_of (at_choice (state_of self.old)) ≡ choice.Nothing → IsOk result }
         ensures memory { OnErr result (IsTrue (wants_memory self.old)) }
         ensures room { KeepsRoom self.old self.new }
+        ensures issued { IfOk result (λ o. o ≡ issued_in (state_of self.old)) }
     {
         let now = self.legality.now();
-        let mut debt = self.debt;
-        debt.tick();
+        let mut debts = self.debts;
+        tick(&mut debts);
         let drain = self.next_drain();
-        let choice = self.choice(&debt, drain);
+        let choice = self.choice(&debts, drain);
         let command = command_of(&self.pending, choice);
         reserve(&self.config, &mut self.legality, &mut self.rows, command)?;
         complete(&mut self.flight, &mut self.done, now);
-        issue(
-            &self.config,
-            &mut self.legality,
-            &mut self.rows,
-            &mut debt,
-            command,
-        );
-        serve(
+        let served = serve(
             &self.config,
             now,
             choice,
@@ -193,10 +221,12 @@ impl Channel {
             &mut self.rows,
             &mut self.flight,
         );
+        issue(&self.config, &mut self.legality, &mut self.rows, command);
+        count(&mut debts, command);
         self.drain = drain;
-        self.debt = debt;
+        self.debts = debts;
         self.legality.tick();
-        Ok(())
+        Ok(issued_with(now, command, served))
     }
 
     /// The completion that was done first.
@@ -243,9 +273,10 @@ impl Channel {
         self.legality.now()
     }
 
-    /// The commands so far.
+    /// The commands so far. The open rows of the row array are those that they leave for reads and writes.
     pub fn trace(&self) -> &[Entry]
         ensures value { result.now ≡ self.entry.now.trace }
+        ensures rows { AgreesWith self.entry.now.config result.now self.entry.now.rows }
         ensures legal { IsLegal self.entry.now.config self.entry.now.start self.entry.now.now result.now }
     {
         self.legality.entries()
@@ -260,7 +291,7 @@ impl Channel {
             config: _,
             pending: _,
             drain: _,
-            debt: _,
+            debts: _,
             flight: _,
             done: _,
             legality,
@@ -284,5 +315,6 @@ fn policy(config: &Config) -> Policy
         cap: config.limits.cap,
         low: config.limits.low,
         high: config.limits.high,
+        closed: config.limits.closed,
     }
 }

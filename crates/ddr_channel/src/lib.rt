@@ -2,13 +2,15 @@
 //!
 //! Below stand the scheduler (`ddr_arbiter`) over the pending requests (`ddr_hazards`), the refreshes that are due
 //! (`ddr_refresh`) and what may be issued next (`ddr_legality`), and the rows (`ddr_row_array`). `channel` is the
-//! channel with its calls; of a cycle, `bus` makes room for its command and issues it, and `transfer` moves the data
-//! of a column command; `queue` has the steps on the channel's own queues. `promise` is the law over every list of
-//! calls. Above stand the core (`ddr_world`) and the workers (`ddr_workers`).
+//! channel with its calls; of a cycle, `debts` has the refreshes that are due, `transfer` moves the data of a column
+//! command, and `bus` makes room for its command and issues it; `issued` is what a cycle tells of it; `queue` has the
+//! steps on the channel's own queues. `promise` is the law over every list of calls. Above stand the core (`ddr_world`) and the workers (`ddr_workers`).
 #![tactic(auto)]
 
 mod bus;
 pub mod channel;
+mod debts;
+pub mod issued;
 pub mod promise;
 mod queue;
 mod transfer;

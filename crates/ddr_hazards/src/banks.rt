@@ -10,6 +10,7 @@ use crate::pending::{RANK_GROUPS, RANKS};
 use crate::slots::CAPACITY;
 use arrayvec::ArrayVec;
 use ddr_address_map::place::Place;
+use ddr_timing::bank::BankId;
 use ddr_timing::units::GROUP_BANKS;
 
 /// The banks of all ranks.
@@ -92,5 +93,5 @@ pub(crate) fn bank_number(place: Place) -> usize
 pub(crate) fn number(rank: u32, group: u32, bank: u32) -> usize
     ensures { result ≡ number rank group bank }
 {
-    (rank as usize * RANK_GROUPS as usize + group as usize) * GROUP_BANKS as usize + bank as usize
+    BankId { rank, group, bank }.widest_number()
 }

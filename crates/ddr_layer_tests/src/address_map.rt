@@ -8,6 +8,8 @@ use std::alloc::{AllocError, Global};
 use std::process::Abort;
 use std::test::Fail;
 
+mod ranks;
+
 /// The words of the address digits.
 const WORDS: [&str; 5] = ["channel", "group", "bank", "column", "row"];
 

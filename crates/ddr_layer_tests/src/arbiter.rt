@@ -21,10 +21,13 @@ use std::alloc::Global;
 use std::process::Abort;
 use std::test::Fail;
 
+mod ranks;
+
 const PROFILE_POLICY: Policy = Policy {
     cap: 1000,
     low: 2,
     high: 6,
+    closed: false,
 };
 
 /// A channel's state before a choice.
@@ -41,8 +44,13 @@ struct Scene {
 }
 
 impl Scene {
+    /// Profile S, with nothing pending.
     fn open(alloc: Global) -> Result<Scene, Fail> {
-        let config = Config::read(alloc, PROFILE_S)?;
+        Scene::of(alloc, Config::read(alloc, PROFILE_S)?)
+    }
+
+    /// A configuration, with nothing pending.
+    fn of(alloc: Global, config: Config) -> Result<Scene, Fail> {
         let legality = Legality::open(alloc, &config, 0)?;
         Ok(Scene {
             config,
@@ -55,17 +63,9 @@ impl Scene {
         })
     }
 
-    /// Admits a request to a line of bank `bank` in group `group`, in cycle 0.
-    fn admit(
-        &mut self,
-        alloc: Global,
-        kind: Kind,
-        group: u32,
-        bank: u32,
-        row: u32,
-        line: u32,
-    ) -> Result<(), Fail> {
-        if group >= 4 || bank >= 4 {
+    /// Admits a request to a line, in cycle 0.
+    fn admit(&mut self, alloc: Global, kind: Kind, place: Place) -> Result<(), Fail> {
+        if place.rank >= 2 || place.group >= 4 || place.bank >= 4 {
             return Err("no such bank".into());
         }
         let request = Req {
@@ -76,15 +76,7 @@ impl Scene {
                 addr: 0,
                 len: 1,
             },
-            place: Place {
-                channel: 0,
-                rank: 0,
-                group,
-                bank,
-                row,
-                line,
-                offset: 0,
-            },
+            place,
             mask: 0,
             line: Box::new(alloc, [0; 64])?,
         };
@@ -131,7 +123,7 @@ impl Scene {
         Ok(choose(
             &self.pending,
             &self.legality,
-            &debt,
+            &[debt],
             &self.policy,
             self.drain,
             self.room,
@@ -157,6 +149,19 @@ fn is_admitted(pending: &Pending, place: usize, now: u64) -> bool
     match pending.get(place) {
         Some((_, admitted)) => admitted <= now,
         None => false,
+    }
+}
+
+/// The first byte of a line of a rank.
+fn place_of(rank: u32, group: u32, bank: u32, row: u32, line: u32) -> Place {
+    Place {
+        channel: 0,
+        rank,
+        group,
+        bank,
+        row,
+        line,
+        offset: 0,
     }
 }
 
@@ -234,7 +239,9 @@ impl Scene {
 
     fn take(&mut self, rt: &impl Abort, alloc: Global, step: Step) -> Result<(), Fail> {
         match step {
-            Admit(kind, group, bank, row, line) => self.admit(alloc, kind, group, bank, row, line),
+            Admit(kind, group, bank, row, line) => {
+                self.admit(alloc, kind, place_of(0, group, bank, row, line))
+            }
             Chooses(cycle, choice) => self.chooses(rt, cycle, choice),
             Act(cycle, group, bank, row) => self.issue(cycle, activate(group, bank, row)),
             Pre(cycle, group, bank) => self.issue(cycle, precharge(group, bank)),
@@ -392,7 +399,10 @@ fn read_waits_for_an_older_write_of_its_line(rt: HostRuntime) -> Result<(), Fail
     play(&rt, rt.alloc(), READ_BEHIND_WRITE)
 }
 
-const IDLE: &[Step] = &[Chooses(199, Choice::Nothing), Chooses(200, Choice::Refresh)];
+const IDLE: &[Step] = &[
+    Chooses(199, Choice::Nothing),
+    Chooses(200, Choice::Refresh { rank: 0 }),
+];
 
 #[test]
 fn idle_rank_is_refreshed_when_one_is_due(rt: HostRuntime) -> Result<(), Fail> {
@@ -406,10 +416,10 @@ const PUT_OFF: &[Step] = &[
     Rd(599, 0, 0, 0, 0),
     // RTP holds PREA up to cycle 602, and RP holds REF up to 606
     Chooses(601, Choice::Nothing),
-    Chooses(602, Choice::PreAll),
+    Chooses(602, Choice::PreAll { rank: 0 }),
     PreAll(602),
     Chooses(605, Choice::Nothing),
-    Chooses(606, Choice::Refresh),
+    Chooses(606, Choice::Refresh { rank: 0 }),
     Refresh(606),
     // two are owed, so the read goes on as soon as RFC is over
     Chooses(625, Choice::Nothing),
@@ -420,10 +430,10 @@ const PUT_OFF: &[Step] = &[
     Rd(795, 0, 0, 0, 0),
     // the fourth falls due in cycle 800
     Chooses(799, Choice::Nothing),
-    Chooses(800, Choice::PreAll),
+    Chooses(800, Choice::PreAll { rank: 0 }),
     PreAll(800),
     Chooses(803, Choice::Nothing),
-    Chooses(804, Choice::Refresh),
+    Chooses(804, Choice::Refresh { rank: 0 }),
 ];
 
 #[test]
@@ -524,8 +534,14 @@ const COMMANDS: &[Step] = &[
     Admit(Kind::Read, 1, 2, 7, 5),
     Admit(Kind::Write, 3, 0, 9, 6),
     Stands(Choice::Nothing, None),
-    Stands(Choice::Refresh, Some(Command::Refresh { rank: 0 })),
-    Stands(Choice::PreAll, Some(Command::PreAll { rank: 0 })),
+    Stands(
+        Choice::Refresh { rank: 0 },
+        Some(Command::Refresh { rank: 0 }),
+    ),
+    Stands(
+        Choice::PreAll { rank: 0 },
+        Some(Command::PreAll { rank: 0 }),
+    ),
     Stands(
         Choice::Act { place: 0 },
         Some(Command::Act {

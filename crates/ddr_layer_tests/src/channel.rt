@@ -1,5 +1,6 @@
-//! Runs of a channel. Those of `rows`, `refreshes`, `drain` and `refusals` are worked out by hand, their cycles and
-//! their bytes; those of `chance` are compared with a flat map of bytes and with the checkers of a whole trace.
+//! Runs of a channel. Those of `rows`, `closed`, `ranks`, `refreshes`, `drain`, `refusals` and `told` are worked out by
+//! hand, their cycles and their bytes, and what each cycle tells; those of `chance` are compared with a flat map of
+//! bytes and with the checkers of a whole trace.
 ghost use Rattle.std.specs.Prelude.{◌≡◌, ◌≤◌, IfOk};
 ghost use Rattle.ddr_timing.specs.declared.units.TheConstants.{CLOCK_STOP};
 ghost use Rattle.ddr_channel.specs.Sound.{IsServed};
@@ -18,10 +19,13 @@ use std::process::Abort;
 use std::test::Fail;
 
 mod chance;
+mod closed;
 mod drain;
+mod ranks;
 mod refreshes;
 mod refusals;
 mod rows;
+mod told;
 
 /// The bytes of a line that was never written.
 const ZEROS: Line = [0; 64];
@@ -319,9 +323,21 @@ fn play(
 ) -> Result<(), Fail> {
     let mut commands = Vec::new(alloc);
     push_steps(&mut commands, outcome.commands)?;
+    play_for(rt, alloc, lines, scene, outcome, &commands)
+}
+
+/// Plays a scene, and compares all that comes of it, where the commands of the trace are these.
+fn play_for(
+    rt: &impl Abort,
+    alloc: Global,
+    lines: &[(&str, &str)],
+    scene: &Scene,
+    outcome: &Outcome,
+    commands: &[Entry],
+) -> Result<(), Fail> {
     let mut channel = open(alloc, lines)?;
     serve(rt, alloc, &mut channel, scene, outcome)?;
-    check_trace(rt, channel, &commands, outcome.end);
+    check_trace(rt, channel, commands, outcome.end);
     Ok(())
 }
 

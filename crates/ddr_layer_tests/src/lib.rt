@@ -1,14 +1,16 @@
 //! Tests of the layers below the core by their public calls; nothing else is here, and nothing stands above.
 //!
 //! Each module has the tests of the one crate that it is named after, from `timing` (`ddr_timing`) up to `channel`
-//! (`ddr_channel`); `sample` and `steps` are what several of them share. Those of the core and of whole commands are in
-//! `ddr_tests`, those in threads in `ddr_thread_tests`.
+//! (`ddr_channel`), and `bounds` those of what `ddr_bounds` proves; `sample` and `steps` are what several of them share.
+//! Those of the core and of whole commands are in `ddr_tests`, those in threads in `ddr_thread_tests`.
 #![tactic(auto)]
 
 #[cfg(test)]
 mod address_map;
 #[cfg(test)]
 mod arbiter;
+#[cfg(test)]
+mod bounds;
 #[cfg(test)]
 mod channel;
 #[cfg(test)]

@@ -2,6 +2,8 @@
 ghost use Rattle.std.specs.Prelude.{◌≡◌, IfOk, IsTrue};
 ghost use Rattle.ddr_trace.specs.Rules.{is_in};
 
+mod allowed;
+
 use crate::sample::changed;
 use crate::steps::Step;
 use ddr_rank::rank::Rank;

@@ -1,5 +1,5 @@
 //! Rows of profile S opened, written, closed and read again, by hand calculation.
-use crate::sample::sample;
+use crate::sample::{sample, two_ranks};
 use ddr_row_array::row_array::RowArray;
 use ddr_timing::units::LINE_BYTES;
 use std::alloc::{AllocError, Global};
@@ -154,5 +154,33 @@ fn opened_behind(alloc: Global) -> Result<[u8; 2], AllocError> {
 #[test]
 fn row_ensured_before_another_has_its_own_bytes(rt: HostRuntime) -> Result<(), Fail> {
     assert!(rt; opened_behind(rt.alloc())? == [0x33, 0x44]);
+    Ok(())
+}
+
+/// Row 3 of bank 6, which is bank 2 of group 1 in rank 0, and row 3 of bank 22, which is the same of rank 1.
+#[test]
+fn ranks_have_rows_of_their_own(rt: HostRuntime) -> Result<(), Fail> {
+    let mut rows = RowArray::open(rt.alloc(), &two_ranks())?;
+    rows.ensure(6, 3)?;
+    rows.activate(6, 3);
+    assert!(rt; rows.burst(22, 5).is_none(), "rank 1 is idle");
+    assert!(rt; rows.write(6, 5, u64::MAX, &[0x33; LINE_BYTES]));
+    rows.ensure(22, 3)?;
+    rows.activate(22, 3);
+    assert!(rt;
+        first_four(&rows, 22, 5) == Some([0; 4]),
+        "rank 1 was not written"
+    );
+    assert!(rt; rows.write(22, 5, 1, &[0x44; LINE_BYTES]));
+    assert!(rt; first_four(&rows, 6, 5) == Some([0x33; 4]));
+    assert!(rt; first_four(&rows, 22, 5) == Some([0x44, 0, 0, 0]));
+
+    rows.precharge(6);
+    assert!(rt; rows.burst(6, 5).is_none(), "the bank of rank 0 is idle");
+    assert!(rt;
+        first_four(&rows, 22, 5) == Some([0x44, 0, 0, 0]),
+        "that of rank 1 is not"
+    );
+    assert!(rt; rows.burst(32, 5).is_none(), "there is no bank 32");
     Ok(())
 }

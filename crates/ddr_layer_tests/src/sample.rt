@@ -37,6 +37,7 @@ fn timing() -> Timing
 
 fn geometry() -> Geometry
     ensures version { result.version ≡ 1 }
+    ensures ranks { result.ranks ≡ 1 }
     ensures groups { result.groups ≡ 4 }
     ensures rows { result.rows ≡ 16 }
 {
@@ -78,6 +79,7 @@ fn limits() -> Limits
 
 /// Profile S. Its rank has 16 banks of 16 rows, each of 8 lines.
 pub fn sample() -> Config
+    ensures ranks { result.geometry.ranks ≡ 1 }
     ensures groups { result.geometry.groups ≡ 4 }
     ensures rows { result.geometry.rows ≡ 16 }
 {
@@ -86,6 +88,19 @@ pub fn sample() -> Config
         geometry: geometry(),
         limits: limits(),
     }
+}
+
+/// Profile S2, which is profile S with a second rank.
+pub fn two_ranks() -> Config
+    ensures ranks { result.geometry.ranks ≡ 2 }
+    ensures groups { result.geometry.groups ≡ 4 }
+    ensures rows { result.geometry.rows ≡ 16 }
+{
+    let mut config = sample();
+    config.geometry.version = 2;
+    config.geometry.ranks = 2;
+    config.timing.rtrs = 2;
+    config
 }
 
 /// Profile S with other lines.

@@ -9,6 +9,7 @@ use ddr_timing::profile::PROFILE_S;
 use std::alloc::{AllocError, Global};
 use std::test::Fail;
 
+mod banks;
 mod refusals;
 mod second;
 

@@ -11,17 +11,13 @@ use Rattle.ddr_trace.specs.Commands.{is_refresh}
 use Rattle.ddr_trace.specs.Rules.{breaks, breaks_on_rank, breaks_order, breaks_ref_gap, breaks_ref_late, breaks_rtrs, breaks_spacing, is_in, is_on_commands, last_cycle_below, no_spacing}
 use Rattle.ddr_trace.specs.Legality.{lowest_broken, lowest_rule}
 use Rattle.ddr_trace.proofs.LowestLemmas.{lowest_rule-alike, lowest_rule-none, none_broken}
+use Rattle.ddr_trace.proofs.SpacingLemmas.{no_pairs}
 use Rattle.ddr_trace.proofs.WindowLemmas.{no_ref_gap}
 use Rattle.ddr_rank.specs.Stands.{lowest_on_rank}
 use Rattle.ddr_legality.specs.declared.issued.Issued.{Issued}
 use Rattle.ddr_legality.specs.Issued.{HasIssued, is_in_order}
 use Rattle.ddr_legality.specs.Refreshes.{refresh_broken}
 use Rattle.ddr_legality.proofs.SwitchLemmas.{no_column, no_switch}
-
--- a rule on no pairs is never broken
-no_pairs : (history : List Entry) (e : Entry) → breaks_spacing no_spacing history e ≡ false
-no_pairs [] e = refl
-no_pairs (a ∷ history) e = no_pairs history e
 
 -- what passes one test, and not another's last ones
 found_none : {X : Type 0} (p : X → Bool) (xs : List X) (y : X) → AllByRecursion (λ x. p x ≡ false) xs → find p xs ≡ Some y → ⊥

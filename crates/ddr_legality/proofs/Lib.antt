@@ -1,3 +1,4 @@
+pub mod AllowedLemmas
 pub mod BrokenLemmas
 pub mod ColumnLemmas
 pub mod IssuedLemmas

@@ -1,5 +1,5 @@
 -- A channel's command bus, and the commands that are legal on it now.
-use Rattle.std.specs.Prelude.{ℕ, ◌+◌, Bool, List, [], ◌∷◌, ◌++◌, Option}
+use Rattle.std.specs.Prelude.{ℕ, ◌+◌, Bool, ◌&&◌, List, [], ◌∷◌, ◌++◌, Option}
 use Rattle.std.specs.Option.{is_none}
 use Rattle.ddr_timing.specs.declared.config.Config.{Config}
 use Rattle.ddr_trace.specs.declared.command.Command.{Command}
@@ -8,6 +8,8 @@ use Rattle.ddr_trace.specs.declared.rule.Rule.{Rule}
 use Rattle.ddr_trace.specs.Banks.{bank_behind, open_row}
 use Rattle.ddr_trace.specs.Commands.{entry}
 use Rattle.ddr_trace.specs.Legality.{lowest_broken}
+use Rattle.ddr_trace.specs.Rules.{breaks, is_on_commands}
+use Rattle.ddr_rank.specs.Distances.{no_distance, state_fits}
 
 -- what was issued since the start, and the next cycle
 pub record Bus : Type 0 where
@@ -37,3 +39,11 @@ recorded c b = record b { trace = b.trace ++ entry b.now c ∷ [] }
 
 abbrev pub ticked : Bus → Bus
 ticked b = record b { now = b.now + 1 }
+
+-- the banks are in a state that the command may find now
+abbrev pub fits_now : Bus → Command → Bool
+fits_now b c = state_fits b.config b.trace (entry b.now c)
+
+-- bank states aside, the command breaks no rule on commands now
+abbrev pub keeps_distances_now : Bus → Command → Bool
+keeps_distances_now b c = no_distance (λ r. is_on_commands r && breaks b.config b.start (b.now + 1) r b.trace (entry b.now c))

@@ -1,11 +1,12 @@
 -- The last read and the last write of a rank, and RTRS by them.
-use Rattle.std.specs.Prelude.{◌≡◌, ℕ, ◌+◌, Bool, true, false, ◌&&◌, ◌||◌, nat_lt, if◌then◌else◌, List, Option, Some, None, option_map}
+use Rattle.std.specs.Prelude.{◌≡◌, ℕ, ◌+◌, Bool, true, false, ◌&&◌, ◌||◌, nat_lt, max, if◌then◌else◌, List, Option, Some, None, option_map}
 use Rattle.ddr_timing.specs.declared.timing.Timing.{Timing}
 use Rattle.ddr_trace.specs.declared.command.Command.{Command}
 use Rattle.ddr_trace.specs.declared.command.Entry.{Entry}
 use Rattle.ddr_trace.specs.Commands.{is_column, is_read, is_write}
 use Rattle.ddr_trace.specs.Rules.{rank_switch}
 use Rattle.ddr_rank.specs.Latest.{latest}
+use Rattle.ddr_rank.specs.Ready.{after}
 use Rattle.ddr_rank.specs.Stands.{is_of_rank}
 use Rattle.ddr_legality.specs.declared.columns.Columns.{Columns}
 
@@ -18,6 +19,15 @@ is_switched_soon t (Some a) e = nat_lt e.cycle (a.cycle + rank_switch t a.comman
 abbrev pub switches_soon : Timing → Columns → Entry → Bool
 switches_soon t columns e =
     is_column e.command && (is_switched_soon t columns.read e || is_switched_soon t columns.write e)
+
+-- the first cycle that leaves the least distance of a command of another rank, 0 where nothing asks for one
+abbrev pub behind_switch : Timing → Option Entry → Command → ℕ
+behind_switch t None c = 0
+behind_switch t (Some a) c = after a.cycle (rank_switch t a.command c)
+
+abbrev pub behind_columns : Timing → Columns → Command → ℕ
+behind_columns t columns c =
+    if is_column c then max (behind_switch t columns.read c) (behind_switch t columns.write c) else 0
 
 -- after a command of the rank
 abbrev pub columns_noted : Entry → Columns → Columns

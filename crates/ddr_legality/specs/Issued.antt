@@ -2,6 +2,7 @@
 use Rattle.std.specs.Prelude.{◌≡◌, ℕ, Bool, true, ◌&&◌, ◌==◌, nat_lt, nat_le, if◌then◌else◌, List, Option, Some, None}
 use Rattle.ddr_trace.specs.declared.command.Entry.{Entry}
 use Rattle.ddr_trace.specs.Rules.{last_cycle_below}
+use Rattle.ddr_rank.specs.Ready.{after}
 use Rattle.ddr_rank.specs.Stands.{StandsFor}
 use Rattle.ddr_legality.specs.declared.columns.Columns.{Columns}
 use Rattle.ddr_legality.specs.declared.issued.Issued.{Issued}
@@ -11,6 +12,11 @@ use Rattle.ddr_legality.specs.Columns.{KeepsColumns}
 abbrev pub is_later : Option ℕ → ℕ → Bool
 is_later None cycle = true
 is_later (Some last) cycle = nat_lt last cycle
+
+-- the cycle behind the last one, 0 where there is none
+abbrev pub behind_last : Option ℕ → ℕ
+behind_last None = 0
+behind_last (Some last) = after last 1
 
 -- ORDER, by the last cycle
 abbrev pub is_in_order : Option ℕ → ℕ → ℕ → ℕ → Bool

@@ -10,7 +10,7 @@ ghost use Rattle.ddr_trace.specs.Rules.{breaks, ends_late, is_in};
 ghost use Rattle.ddr_trace.specs.Commands.{rank_of};
 ghost use Rattle.ddr_trace.specs.Legality.{IsFirstFault, IsLegal, IsRefreshed, lowest_rule};
 
-use crate::issued::{Issued, rank_of};
+use crate::issued::Issued;
 use crate::refreshes::Refreshes;
 use ddr_timing::config::Config;
 use ddr_trace::checker::Fault;
@@ -93,7 +93,7 @@ impl SoFar {
     fn refreshes_of(&self, command: &Command) -> &Refreshes
         ensures { result.now ≡ refreshes_of self.now (rank_of command.now) }
     {
-        match rank_of(command) {
+        match command.rank() {
             0 => &self.first,
             _ => &self.second,
         }
@@ -111,7 +111,7 @@ impl SoFar {
             → HasPassed self.new (history ++ entry.now ∷ []) }
     {
         self.issued.issue(entry);
-        match rank_of(&entry.command) {
+        match entry.command.rank() {
             0 => self.first.note(entry),
             _ => self.second.note(entry),
         }

@@ -1,7 +1,7 @@
 //! The last read and the last write of a rank, as much as the rule on two ranks asks of them.
 ghost use Rattle.std.specs.Prelude.{◌≡◌};
 ghost use Rattle.ddr_trace.specs.Commands.{is_column};
-ghost use Rattle.ddr_legality.specs.Columns.{columns_noted, is_switched_soon, switches_soon};
+ghost use Rattle.ddr_legality.specs.Columns.{behind_columns, behind_switch, columns_noted, is_switched_soon, switches_soon};
 
 use ddr_timing::timing::Timing;
 use ddr_trace::command::{Command, Entry, is_before};
@@ -42,6 +42,30 @@ impl Columns {
         is_column(&entry.command)
             && (is_switched_soon(&self.read, entry, timing)
                 || is_switched_soon(&self.write, entry, timing))
+    }
+
+    /// The first cycle in which a command of another rank is not too close behind these two.
+    pub fn allowed_at(&self, command: &Command, timing: &Timing) -> u64
+        ensures { result ≡ behind_columns timing.now self.now command.now }
+    {
+        if !is_column(command) {
+            return 0;
+        }
+        let read = behind_switch(&self.read, command, timing);
+        read.max(behind_switch(&self.write, command, timing))
+    }
+}
+
+/// The first cycle that leaves the least distance of a command of another rank behind this one.
+fn behind_switch(last: &Option<Entry>, command: &Command, timing: &Timing) -> u64
+    ensures { result ≡ behind_switch timing.now last.now command.now }
+{
+    match last {
+        Some(last) => {
+            let clocks = rank_switch(&last.command, command, timing);
+            last.cycle.saturating_add(u64::from(clocks))
+        }
+        None => 0,
     }
 }
 

@@ -1,11 +1,14 @@
 //! What is kept of the commands issued so far: as much as the next one is tested against, and no list of them.
-ghost use Rattle.std.specs.Prelude.{◌≡◌, ℕ, List, [], ◌∷◌, ◌++◌, IsTrue, IfOk};
+ghost use Rattle.std.specs.Prelude.{◌≡◌, ℕ, ◌+◌, ◌<◌, ◌≤◌, ◌&&◌, nat_le, List, [], ◌∷◌, ◌++◌, IsTrue, IfOk};
+ghost use Rattle.std.specs.Option.{is_none};
 ghost use Rattle.ddr_trace.specs.declared.command.Command.TheVariants.{Pre};
 ghost use Rattle.ddr_trace.specs.declared.command.Entry.{Entry};
 ghost use Rattle.ddr_trace.specs.Banks.{bank_behind, open_row};
-ghost use Rattle.ddr_trace.specs.Commands.{rank_of};
-ghost use Rattle.ddr_trace.specs.Rules.{breaks_rtrs, is_in};
+ghost use Rattle.ddr_trace.specs.Commands.{entry, rank_of};
+ghost use Rattle.ddr_trace.specs.Rules.{breaks, breaks_rtrs, is_in, is_on_commands};
 ghost use Rattle.ddr_trace.specs.Legality.{lowest_broken};
+ghost use Rattle.ddr_rank.specs.Distances.{keeps_distances, no_distance};
+ghost use Rattle.ddr_rank.specs.Ready.{LAST_CYCLE};
 ghost use Rattle.ddr_rank.specs.Stands.{IsAfter, lowest_on_rank};
 
 use crate::columns::Columns;
@@ -34,7 +37,7 @@ pub(crate) struct Issued {
 }
 
 impl Issued {
-    ghost use Rattle.ddr_legality.specs.Issued.{HasIssued, is_in_order, is_later, other_columns};
+    ghost use Rattle.ddr_legality.specs.Issued.{HasIssued, behind_last, is_in_order, is_later, other_columns};
 
     /// Nothing was issued.
     pub fn open(alloc: Global, config: &Config, start: u64) -> Result<Issued, AllocError>
@@ -73,6 +76,64 @@ impl Issued {
         None
     }
 
+    /// Whether the entry breaks no rule on commands, in a trace that ends at `end`.
+    pub fn is_legal(&self, entry: &Entry, end: u64) -> bool
+        ensures { (history : List Entry) → HasIssued self.now history
+            → result ≡ is_none (lowest_broken self.now.config self.now.start end history entry.now) }
+    {
+        if !self.is_in_order(entry.cycle, end) {
+            return false;
+        }
+        if !entry.command.is_in(&self.config.geometry) {
+            return false;
+        }
+        if !self.may(entry) {
+            return false;
+        }
+        !self.is_switched_too_soon(entry)
+    }
+
+    /// The first cycle from this one on in which the command keeps every distance, whatever the state of its banks. For a
+    /// command outside the geometry, and where there is none, the last cycle that a `u64` counts.
+    pub fn allowed_at(&self, from: u64, command: &Command) -> u64
+        requires { self.now.start ≤ from }
+        ensures from { from ≤ result }
+        ensures first { (history : List Entry) (cycle : ℕ) → HasIssued self.now history → from ≤ cycle → cycle < LAST_CYCLE
+            → no_distance (λ r. is_on_commands r && breaks self.now.config self.now.start (cycle + 1) r history (entry cycle command.now)) ≡ nat_le result cycle }
+    {
+        if !command.is_in(&self.config.geometry) {
+            return u64::MAX;
+        }
+        let switched = self
+            .other_columns(command)
+            .allowed_at(command, &self.config.timing);
+        let free = from.max(self.behind_last());
+        self.allowed_on_rank(free.max(switched), command)
+    }
+
+    /// The first cycle from this one on in which the command keeps every distance on its rank.
+    fn allowed_on_rank(&self, from: u64, command: &Command) -> u64
+        requires { IsTrue (is_in self.now.config.geometry command.now) }
+        ensures from { from ≤ result }
+        ensures first { (history : List Entry) (cycle : ℕ) → HasIssued self.now history → from ≤ cycle → cycle < LAST_CYCLE
+            → keeps_distances self.now.config history (entry cycle command.now) ≡ nat_le result cycle }
+    {
+        match command.rank() {
+            0 => self.first.allowed_at(from, *command),
+            _ => self.second.allowed_at(from, *command),
+        }
+    }
+
+    /// The cycle behind the last command.
+    fn behind_last(&self) -> u64
+        ensures { result ≡ behind_last self.now.last }
+    {
+        match self.last {
+            Some(last) => last.saturating_add(1),
+            None => 0,
+        }
+    }
+
     /// Whether the cycle is above that of the last command, not below the start, and below the end.
     fn is_in_order(&self, cycle: u64, end: u64) -> bool
         ensures { result ≡ is_in_order self.now.last self.now.start end cycle }
@@ -96,9 +157,21 @@ impl Issued {
         ensures { (history : List Entry) → HasIssued self.now history → IsAfter history entry.now.cycle
             → result ≡ lowest_on_rank self.now.config history entry.now }
     {
-        match rank_of(&entry.command) {
+        match entry.command.rank() {
             0 => self.first.fault(entry.cycle, entry.command),
             _ => self.second.fault(entry.cycle, entry.command),
+        }
+    }
+
+    /// Whether a command would break no rule on its rank behind the last one.
+    fn may(&self, entry: &Entry) -> bool
+        requires { IsTrue (is_in self.now.config.geometry entry.now.command) }
+        ensures { (history : List Entry) → HasIssued self.now history → IsAfter history entry.now.cycle
+            → result ≡ is_none (lowest_on_rank self.now.config history entry.now) }
+    {
+        match entry.command.rank() {
+            0 => self.first.may(entry.cycle, entry.command),
+            _ => self.second.may(entry.cycle, entry.command),
         }
     }
 
@@ -116,7 +189,7 @@ impl Issued {
     fn other_columns(&self, command: &Command) -> &Columns
         ensures { result.now ≡ other_columns self.now (rank_of command.now) }
     {
-        match rank_of(command) {
+        match command.rank() {
             0 => &self.second_columns,
             _ => &self.first_columns,
         }
@@ -131,7 +204,7 @@ impl Issued {
             → HasIssued self.new (history ++ entry.now ∷ []) }
     {
         self.last = Some(entry.cycle);
-        match rank_of(&entry.command) {
+        match entry.command.rank() {
             0 => {
                 self.first.issue(entry.cycle, entry.command);
                 self.first_columns.note(entry);
@@ -153,21 +226,5 @@ impl Issued {
             1 => self.second.open_row(cycle, group, bank),
             _ => None,
         }
-    }
-}
-
-/// The rank that the command is of.
-pub(crate) fn rank_of(command: &Command) -> u32
-    ensures { result ≡ rank_of command.now }
-{
-    match *command {
-        Command::Act { rank, .. }
-        | Command::Rd { rank, .. }
-        | Command::Wr { rank, .. }
-        | Command::RdAuto { rank, .. }
-        | Command::WrAuto { rank, .. }
-        | Command::Pre { rank, .. }
-        | Command::PreAll { rank }
-        | Command::Refresh { rank } => rank,
     }
 }

@@ -1,11 +1,12 @@
 //! What was issued on a channel's command bus, and what may be issued next.
-ghost use Rattle.std.specs.Prelude.{◌≡◌, ◌+◌, ◌-◌, ◌<◌, ◌≤◌, ◌↔◌, [], ◌∷◌, ◌++◌, None, Some, IsOk, IfOk, OnErr, OnOk, MatchResult};
+ghost use Rattle.std.specs.Prelude.{◌≡◌, ℕ, ◌+◌, ◌-◌, ◌<◌, ◌≤◌, ◌↔◌, ◌&&◌, nat_le, [], ◌∷◌, ◌++◌, None, Some, IsOk, IfOk, OnErr, OnOk, MatchResult};
 ghost use Rattle.ddr_timing.specs.declared.units.TheConstants.{CLOCK_STOP};
 ghost use Rattle.ddr_trace.specs.Bus.{KeepsBus};
 ghost use Rattle.ddr_trace.specs.declared.command.Command.TheVariants.{Pre};
 ghost use Rattle.ddr_trace.specs.Commands.{entry};
 ghost use Rattle.ddr_trace.specs.Legality.{IsLegal};
-ghost use Rattle.ddr_legality.specs.Bus.{broken_now, open_row_now, opened, recorded, ticked};
+ghost use Rattle.ddr_rank.specs.Ready.{LAST_CYCLE};
+ghost use Rattle.ddr_legality.specs.Bus.{broken_now, fits_now, is_legal_now, keeps_distances_now, open_row_now, opened, recorded, ticked};
 
 use crate::issued::Issued;
 use ddr_timing::config::Config;
@@ -79,6 +80,31 @@ impl Legality {
             None => Ok(()),
             Some(rule) => Err(rule),
         }
+    }
+
+    /// Whether the command is legal now. It costs less than `may`, which names the rule.
+    pub fn is_legal(&self, command: Command) -> bool
+        ensures { result ≡ is_legal_now self.entry.now.bus command }
+    {
+        let entry = Entry {
+            cycle: self.now,
+            command,
+        };
+        self.issued.is_legal(&entry, self.now + 1)
+    }
+
+    /// The first cycle from now on in which the command keeps every rule on commands but those on the state of banks: the
+    /// bus is free, and every distance is kept. So from it on, as long as nothing is issued, the command is legal exactly in
+    /// the cycles in which its bank is in the state that it wants. For a command outside the geometry it is the last cycle
+    /// that a `u64` counts, which no bus reaches.
+    pub fn allowed_at(&self, command: Command) -> u64
+        ensures from { self.entry.now.bus.now ≤ result }
+        ensures first { let b = self.entry.now.bus in (cycle : ℕ) → b.now ≤ cycle → cycle < LAST_CYCLE
+            → keeps_distances_now (record b { now = cycle }) command ≡ nat_le result cycle }
+        ensures legal { let b = self.entry.now.bus in (cycle : ℕ) → b.now ≤ cycle → cycle < LAST_CYCLE
+            → is_legal_now (record b { now = cycle }) command ≡ (fits_now (record b { now = cycle }) command && nat_le result cycle) }
+    {
+        self.issued.allowed_at(self.now, &command)
     }
 
     /// Makes room for one more entry. Where there is room, nothing is asked for and nothing changes.

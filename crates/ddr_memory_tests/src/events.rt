@@ -158,6 +158,25 @@ fn open(alloc: Global) -> Result<World, &'static str> {
     }
 }
 
+/// A read, and the cycle that activates its row: the cycle alone wants memory. `World::run` goes on after a refusal, and counts it.
+pub fn run(alloc: Global) -> Met {
+    let mut world = open(alloc)?;
+    let report = world.run(&[read(0), Event::Take(0), Event::Cycle(0)]);
+    if (report.made, report.refused) == (3, 0) {
+        return Ok(false);
+    }
+    let again = world.run(&[Event::Cycle(0)]);
+    let is_activated = match world.channel(0) {
+        Some(channel) => channel.trace() == [act(0, 0)].as_slice(),
+        None => false,
+    };
+    if (report.made, report.refused) == (2, 1) && again.made == 1 && is_activated {
+        Ok(true)
+    } else {
+        Err("a cycle made again")
+    }
+}
+
 /// Three reads, with each cycle that is refused made again.
 pub fn row_hit(alloc: Global) -> Met {
     let mut world = open(alloc)?;

@@ -4,7 +4,7 @@ ghost use Rattle.ddr_row_array.specs.Changes.{SameShape};
 ghost use Rattle.ddr_row_array.specs.Rows.{bank_count, is_stored, open_row, row_count};
 
 use super::Met;
-use crate::sample::sample;
+use crate::sample::{sample, two_ranks};
 use ddr_channel::channel::{Channel, CycleError};
 use ddr_legality::legality::Legality;
 use ddr_ports::port::PortCore;
@@ -22,17 +22,25 @@ use ddr_workers::{OpenError, completions, requests};
 use ddr_world::world::World;
 use std::alloc::{AllocError, Global};
 
+/// Makes a call, and once more where memory was refused; gives its answer, and says whether it was.
+pub fn again<T: Drop, E: Drop, F: Fn() -> Result<T, E>>(call: F) -> Result<(T, bool), &'static str>
+    requires { F.IsAlwaysCallable call }
+{
+    match call() {
+        Ok(answer) => Ok((answer, false)),
+        Err(_) => match call() {
+            Ok(answer) => Ok((answer, true)),
+            Err(_) => Err("a call made again"),
+        },
+    }
+}
+
 /// Makes a call, and once more where memory was refused, which it says.
 fn is_refused<T: Drop, E: Drop, F: Fn() -> Result<T, E>>(call: F) -> Met
     requires { F.IsAlwaysCallable call }
 {
-    match call() {
-        Ok(_) => Ok(false),
-        Err(_) => match call() {
-            Ok(_) => Ok(true),
-            Err(_) => Err("a call made again"),
-        },
-    }
+    let (_, refused) = again(call)?;
+    Ok(refused)
 }
 
 /// Reads profile S, and gives its last value; anything but want of memory is answered as no value.
@@ -65,6 +73,31 @@ pub fn open(alloc: Global) -> Met {
     let reorder = is_refused(|| Reorder::open(alloc, 4, 0))?;
     let port = is_refused(|| PortCore::open(alloc, &sample(), 0, 0))?;
     Ok(rank || legality || rows || reorder || port)
+}
+
+/// What is opened of a configuration with two ranks.
+pub fn open_ranks(alloc: Global) -> Met {
+    let legality = is_refused(|| Legality::open(alloc, &two_ranks(), 0))?;
+    let rows = is_refused(|| RowArray::open(alloc, &two_ranks()))?;
+    let channel = is_refused(|| Channel::open(alloc, &two_ranks(), 0))?;
+    let core = is_refused(|| World::open_at(alloc, &two_ranks(), 7, 9))?;
+    let system = is_refused(|| ddr_workers::open_at(alloc, &two_ranks(), 7, 7))?;
+    Ok(legality || rows || channel || core || system)
+}
+
+/// `Legality::reserve_entry` of a trace that has no room yet.
+pub fn entry(alloc: Global) -> Met {
+    let (mut legality, opened) = again(|| Legality::open(alloc, &sample(), 0))?;
+    if legality.reserve_entry().is_ok() {
+        return Ok(opened);
+    }
+    if !legality.entries().is_empty() || legality.now() != 0 {
+        return Err("what a refused entry leaves");
+    }
+    match legality.reserve_entry() {
+        Ok(()) => Ok(true),
+        Err(_) => Err("an entry reserved again"),
+    }
 }
 
 /// The queue to channel 0.
@@ -129,7 +162,10 @@ fn open_rows(alloc: Global) -> Result<RowArray, &'static str>
 {
     match RowArray::open(alloc, &sample()) {
         Ok(rows) => Ok(rows),
-        Err(_) => RowArray::open(alloc, &sample()).or(Err("a row array opened again")),
+        Err(_) => match RowArray::open(alloc, &sample()) {
+            Ok(rows) => Ok(rows),
+            Err(_) => Err("a row array opened again"),
+        },
     }
 }
 
@@ -187,25 +223,33 @@ fn make_cycles(channel: &mut Channel, count: u32) -> Met {
     Ok(refused)
 }
 
-/// The trace of a channel to which no request comes: a refresh falls due at cycle 200.
-const REFRESHED: &[Entry] = &[Entry {
-    cycle: 200,
-    command: Command::Refresh { rank: 0 },
-}];
+/// The trace of a channel to which no request comes: the refreshes of both ranks fall due at cycle 200.
+const REFRESHED: &[Entry] = &[
+    Entry {
+        cycle: 200,
+        command: Command::Refresh { rank: 0 },
+    },
+    Entry {
+        cycle: 201,
+        command: Command::Refresh { rank: 1 },
+    },
+];
 
-/// `Channel::cycle` of an idle channel, until it was refreshed.
-pub fn cycle(alloc: Global) -> Met {
-    let opened = match Channel::open(alloc, &sample(), 0) {
-        Ok(channel) => Ok(channel),
-        Err(_) => Channel::open(alloc, &sample(), 0),
-    };
-    let Ok(mut channel) = opened else {
-        return Err("a channel opened again");
-    };
-    let refused = make_cycles(&mut channel, 202)?;
-    if channel.now() == 202 && channel.trace() == REFRESHED {
+/// Makes the cycles of an idle channel until it was refreshed.
+fn refreshes(mut channel: Channel, trace: &[Entry]) -> Met {
+    let refused = make_cycles(&mut channel, 203)?;
+    if channel.now() == 203 && channel.trace() == trace {
         Ok(refused)
     } else {
         Err("a refresh")
     }
+}
+
+/// `Channel::cycle` of an idle channel with one rank, and of one with two.
+pub fn cycle(alloc: Global) -> Met {
+    let (one, _) = again(|| Channel::open(alloc, &sample(), 0))?;
+    let first = refreshes(one, &REFRESHED[..1])?;
+    let (two, _) = again(|| Channel::open(alloc, &two_ranks(), 0))?;
+    let second = refreshes(two, REFRESHED)?;
+    Ok(first || second)
 }

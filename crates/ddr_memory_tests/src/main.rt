@@ -5,8 +5,8 @@
 //! each whether memory was refused to it, and ends with status 1 at one that doesn't keep what it promises. It skips a call for which
 //! a thread isn't started.
 //!
-//! `layers` has the calls below the core and what is opened, `events` the core, and `system` ports and workers in threads.
-//! `sample` is their configuration, as a value, and `entries` has commands of traces. No crate stands above.
+//! `layers` has the calls below the core and what is opened, `texts` a trace's text, `events` the core, and `system` ports and
+//! workers in threads. `sample` has their configurations, as values, and `entries` commands of traces. No crate stands above.
 #![tactic(auto)]
 
 mod entries;
@@ -14,6 +14,7 @@ mod events;
 mod layers;
 mod sample;
 mod system;
+mod texts;
 
 use std::alloc::Global;
 use std::io::{ErrorKind, Read};
@@ -55,8 +56,12 @@ fn make<R: Threads + Wait + Sync>(rt: &R, alloc: Global, name: &str) -> Met {
         "open" => layers::open(alloc),
         "open_above" => layers::open_above(alloc),
         "ensure" => layers::ensure(alloc),
+        "open_ranks" => layers::open_ranks(alloc),
+        "entry" => layers::entry(alloc),
         "cycle" => layers::cycle(alloc),
+        "trace" => texts::trace(alloc),
         "events" => events::row_hit(alloc),
+        "run" => events::run(alloc),
         "system" => system::two_ports(rt, alloc),
         _ => Err("no such call"),
     }

@@ -1,4 +1,4 @@
-//! Profile S, as a value that takes no memory.
+//! Profile S, and it with a second rank, as values that take no memory.
 ghost use Rattle.std.specs.Prelude.{◌≡◌, false};
 
 use ddr_timing::config::Config;
@@ -36,6 +36,7 @@ fn timing() -> Timing
 fn geometry() -> Geometry
     ensures version { result.version ≡ 1 }
     ensures channels { result.channels ≡ 2 }
+    ensures ranks { result.ranks ≡ 1 }
     ensures groups { result.groups ≡ 4 }
     ensures rows { result.rows ≡ 16 }
 {
@@ -79,6 +80,7 @@ fn limits() -> Limits
 /// Profile S. Its rank has 16 banks of 16 rows, each of 8 lines.
 pub fn sample() -> Config
     ensures channels { result.geometry.channels ≡ 2 }
+    ensures ranks { result.geometry.ranks ≡ 1 }
     ensures groups { result.geometry.groups ≡ 4 }
     ensures rows { result.geometry.rows ≡ 16 }
     ensures ports { result.limits.ports ≡ 2 }
@@ -86,6 +88,38 @@ pub fn sample() -> Config
     Config {
         timing: timing(),
         geometry: geometry(),
+        limits: limits(),
+    }
+}
+
+/// With a second rank, whose digit is the highest.
+fn geometry_of_two_ranks() -> Geometry
+    ensures version { result.version ≡ 2 }
+{
+    Geometry {
+        version: 2,
+        channels: 2,
+        ranks: 2,
+        groups: 4,
+        rows: 16,
+        columns: 64,
+        map: [
+            Digit::Column,
+            Digit::Group,
+            Digit::Bank,
+            Digit::Row,
+            Digit::Channel,
+            Digit::Rank,
+        ],
+        bank_xor: false,
+    }
+}
+
+/// Profile S with a second rank, which is a configuration of version 2.
+pub fn two_ranks() -> Config {
+    Config {
+        timing: timing(),
+        geometry: geometry_of_two_ranks(),
         limits: limits(),
     }
 }

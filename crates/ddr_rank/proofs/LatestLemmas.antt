@@ -73,7 +73,7 @@ latest_among-latest f test history (suc n) kept =
     rw (kept n (omega arith), latest_among-latest f test history n below)
     (sym (latest-or (λ a. any_below (λ i. test i a) n) (test n) history))
 
-or_false : (b : Bool) → (b || false) ≡ b
+pub or_false : (b : Bool) → (b || false) ≡ b
 or_false true = refl
 or_false false = refl
 

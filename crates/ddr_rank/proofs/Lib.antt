@@ -1,7 +1,13 @@
+pub mod AskedLemmas
+pub mod DistanceLemmas
 pub mod FawLemmas
+pub mod FirstLemmas
+pub mod HeldLemmas
 pub mod KeptLemmas
 pub mod LatestLemmas
+pub mod MayLemmas
 pub mod NotedLemmas
 pub mod OpenLemmas
 pub mod PlaceLemmas
+pub mod ReadyLemmas
 pub mod RuleLemmas

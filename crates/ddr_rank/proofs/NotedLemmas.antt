@@ -7,6 +7,7 @@ use Rattle.std.proofs.lemmas.List.{length-replicate, get_or-map, length-map, map
 use Rattle.std.proofs.lemmas.List.Elements.{filter-append}
 use Rattle.std.proofs.Math.ListN.{length-set}
 use Rattle.circular_buffer.specs.Buffer.{keep_last}
+use Rattle.ddr_timing.specs.declared.config.Config.{Config}
 use Rattle.ddr_timing.specs.declared.geometry.Geometry.{Geometry}
 use Rattle.ddr_timing.specs.declared.units.TheConstants.{GROUP_BANKS}
 use Rattle.ddr_trace.specs.declared.command.Command.{Command}
@@ -23,8 +24,12 @@ use Rattle.ddr_rank.proofs.PlaceLemmas.{bank_in, bank_written, group_in, group_w
 use Rattle.ddr_rank.specs.declared.bank.Bank.{Bank}
 use Rattle.ddr_rank.specs.declared.last.Last.{Last}
 use Rattle.ddr_rank.specs.Latest.{latest}
-use Rattle.ddr_rank.specs.Noted.{bank_noted, last_noted, noted, noted_at, noted_by}
-use Rattle.ddr_rank.specs.Readiness.{IsWhole, Readiness, bank_at, group_at, idle, never}
+use Rattle.ddr_rank.proofs.ReadyLemmas.{asked_at, ready_all_away, ready_all_new, ready_all_step, ready_away, ready_new, ready_step}
+use Rattle.ddr_rank.specs.declared.ready.Ready.{Ready}
+use Rattle.ddr_rank.specs.declared.ready.ReadyAll.{ReadyAll}
+use Rattle.ddr_rank.specs.Noted.{IsRaised, bank_noted, last_noted, noted, noted_at, noted_by}
+use Rattle.ddr_rank.specs.Ready.{all_free, free}
+use Rattle.ddr_rank.specs.Readiness.{IsWhole, Readiness, bank_at, group_at, idle, never, ready_at}
 use Rattle.ddr_rank.specs.Stands.{IsAfter, KeepsBank, KeepsLast, StandsFor, activates_of, is_of_bank, is_of_group, is_of_rank}
 
 abbrev AllBelow : ℕ → List Entry → Type 0
@@ -146,17 +151,17 @@ group_after r e (PreAll k) is whole placed g' = either_way _ _ _ (kept_last e (g
 group_after r e (Refresh k) is whole placed g' = either_way _ _ _ (kept_last e (group_at r g') (ap is_activate is) (ap is_read is) (ap is_write is))
 
 one_bank_whole : (r : Readiness) (e : Entry) (g b : ℕ) → IsWhole r → IsWhole (noted_at r e g b)
-one_bank_whole r e g b whole = record { banks = length-set r.banks _ _ ∙ whole.banks; groups = length-set r.groups g _ ∙ whole.groups }
+one_bank_whole r e g b whole = record { banks = length-set r.banks _ _ ∙ whole.banks; groups = length-set r.groups g _ ∙ whole.groups; ready = whole.ready }
 
 whole_after : (r : Readiness) (e : Entry) (c : Command) → IsWhole r → IsWhole (noted_by r e c)
-whole_after r e (Act k g b w) whole = let same = one_bank_whole r e g b whole in record { banks = same.banks; groups = same.groups }
+whole_after r e (Act k g b w) whole = let same = one_bank_whole r e g b whole in record { banks = same.banks; groups = same.groups; ready = same.ready }
 whole_after r e (Rd k g b w l) whole = one_bank_whole r e g b whole
 whole_after r e (Wr k g b w l) whole = one_bank_whole r e g b whole
 whole_after r e (RdAuto k g b w l) whole = one_bank_whole r e g b whole
 whole_after r e (WrAuto k g b w l) whole = one_bank_whole r e g b whole
 whole_after r e (Pre k g b) whole = one_bank_whole r e g b whole
-whole_after r e (PreAll k) whole = record { banks = length-map r.banks (bank_noted e) ∙ whole.banks; groups = whole.groups }
-whole_after r e (Refresh k) whole = record { banks = whole.banks; groups = whole.groups }
+whole_after r e (PreAll k) whole = record { banks = length-map r.banks (bank_noted e) ∙ whole.banks; groups = whole.groups; ready = whole.ready }
+whole_after r e (Refresh k) whole = record { banks = whole.banks; groups = whole.groups; ready = whole.ready }
 
 config_after : (r : Readiness) (e : Entry) (c : Command) → (noted_by r e c).config ≡ r.config
 config_after r e (Act k g b w) = refl
@@ -202,21 +207,56 @@ ordered_more : (history : List Entry) (e : Entry) → AllBelow e.cycle history �
 ordered_more history e below n later =
     below_more history e n below (ltb-true e.cycle n (sym (last_cycle_below-append history e n) ∙ later))
 
+-- what is kept of the first cycles, before they are raised
+ready_after : (r : Readiness) (e : Entry) (c : Command) → (noted_by r e c).ready ≡ r.ready
+ready_after r e (Act k g b w) = refl
+ready_after r e c = refl
+
+all_ready_after : (r : Readiness) (e : Entry) (c : Command) → (noted_by r e c).ready_all ≡ r.ready_all
+all_ready_after r e (Act k g b w) = refl
+all_ready_after r e c = refl
+
+-- a rank in which the first cycles were raised too
+abbrev with_ready : Readiness → List Ready → ReadyAll → Readiness
+with_ready r ready all = record r { ready = ready; ready_all = all }
+
+raised_from : (r new : Readiness) (e : Entry) → IsRaised (noted r e) new e → IsRaised r new e
+raised_from r new e up = record {
+  size = up.size ∙ ap (λ (xs : List Ready). length xs) (ready_after r e e.command);
+  banks = rw (ready_after r e e.command, config_after r e e.command) at up.banks;
+  all = rw (all_ready_after r e e.command, config_after r e e.command) at up.all;
+}
+
+whole_raised : (r new : Readiness) (e : Entry) → new ≡ with_ready (noted r e) new.ready new.ready_all → IsRaised r new e → IsWhole r → IsWhole new
+whole_raised r new e is up whole =
+    let noted = whole_after r e e.command whole in
+    let config = ap (λ (n : Readiness). n.config) is in
+    let there = ap (λ (n : Config). n.geometry.groups * GROUP_BANKS) config in
+    record {
+      banks = ap (λ (n : Readiness). length n.banks) is ∙ noted.banks ∙ sym there;
+      groups = ap (λ (n : Readiness). length n.groups) is ∙ noted.groups ∙ sym (ap (λ (n : Config). n.geometry.groups) config);
+      ready = up.size ∙ whole.ready ∙ sym (there ∙ ap (λ (n : Config). n.geometry.groups * GROUP_BANKS) (config_after r e e.command));
+    }
+
 -- a command of the rank
-pub stands_after : (r : Readiness) (history : List Entry) (e : Entry) → StandsFor r (rank_of e.command) history → IsAfter history e.cycle → is_in r.config.geometry e.command ≡ true → StandsFor (noted r e) (rank_of e.command) (history ++ e ∷ [])
-stands_after r history e s after placed =
+pub stands_after : (r new : Readiness) (history : List Entry) (e : Entry) → new ≡ with_ready (noted r e) new.ready new.ready_all → IsRaised (noted r e) new e → StandsFor r (rank_of e.command) history → IsAfter history e.cycle → is_in r.config.geometry e.command ≡ true → StandsFor new (rank_of e.command) (history ++ e ∷ [])
+stands_after r new history e is raise s after placed =
     let k = rank_of e.command in
     let c = e.command in
     let below = s.ordered e.cycle after in
     let same = config_after r e c in
+    let config : new.config ≡ r.config = ap (λ (n : Readiness). n.config) is ∙ same in
+    let up = raised_from r new e raise in
     record {
-      placed = rw same (placed_more r.config.geometry history e s.placed placed);
+      placed = rw config (placed_more r.config.geometry history e s.placed placed);
       ordered = ordered_more history e below;
-      whole = whole_after r e c s.whole;
-      banks = rw same (λ g b group bank. rw (bank_after r e c refl s.whole placed g b group bank) (bank_step k g b history e (bank_at r g b) (is_of_bank k g b c) below refl (s.banks g b group bank)));
-      groups = rw same (λ g group. rw (group_after r e c refl s.whole placed g) (last_step (is_of_group k g) history e (group_at r g) (is_of_group k g c) below refl (s.groups g group)));
-      refresh = refresh_after r e c ∙ time_step (λ a. is_refresh a && is_of_rank k a) history e r.refresh below s.refresh;
-      activates = activates_after r e c ∙ more_activates r k history e (is_activate c && is_of_rank k c) refl s.activates;
+      whole = whole_raised r new e is up s.whole;
+      banks = rw config (λ g b group bank. rw (ap (λ (n : Readiness). bank_at n g b) is, bank_after r e c refl s.whole placed g b group bank) (bank_step k g b history e (bank_at r g b) (is_of_bank k g b c) below refl (s.banks g b group bank)));
+      groups = rw config (λ g group. rw (ap (λ (n : Readiness). group_at n g) is, group_after r e c refl s.whole placed g) (last_step (is_of_group k g) history e (group_at r g) (is_of_group k g c) below refl (s.groups g group)));
+      refresh = ap (λ (n : Readiness). n.refresh) is ∙ refresh_after r e c ∙ time_step (λ a. is_refresh a && is_of_rank k a) history e r.refresh below s.refresh;
+      activates = ap (λ (n : Readiness). n.activates) is ∙ activates_after r e c ∙ more_activates r k history e (is_activate c && is_of_rank k c) refl s.activates;
+      ready = rw config (λ g b group bank. rw (asked_at r new e s.whole up g b group bank) (ready_step r.config.timing g b history e (ready_at r g b) (s.ready g b group bank)));
+      ready_all = rw (config, up.all) (ready_all_step r.config.timing history e r.ready_all s.ready_all);
     }
 
 -- a command of another rank
@@ -232,6 +272,8 @@ stands_other r rank history s cycle c after placed other =
       groups = λ g group. last_step (is_of_group rank g) history e (group_at r g) false below (rw other refl) (s.groups g group);
       refresh = away_step is_refresh (is_of_rank rank) history e r.refresh below other s.refresh;
       activates = more_activates r rank history e false (rw other (and_false (is_activate c))) s.activates;
+      ready = λ g b group bank. ready_away r.config.timing rank g b history e (ready_at r g b) other (s.ready g b group bank);
+      ready_all = ready_all_away r.config.timing rank history e r.ready_all other s.ready_all;
     }
 
 -- a list of blanks
@@ -244,16 +286,18 @@ all_blank n xs d is i = rw is (blank n i)
     blank (suc n) (suc i) = blank n i
 
 -- before the first command
-pub stands_new : (r : Readiness) (rank : ℕ) → r.banks ≡ replicate (r.config.geometry.groups * GROUP_BANKS) idle → r.groups ≡ replicate r.config.geometry.groups never → r.refresh ≡ None → r.activates ≡ [] → StandsFor r rank []
+pub stands_new : (r : Readiness) (rank : ℕ) → r.banks ≡ replicate (r.config.geometry.groups * GROUP_BANKS) idle → r.groups ≡ replicate r.config.geometry.groups never → r.refresh ≡ None → r.activates ≡ [] → r.ready ≡ replicate (r.config.geometry.groups * GROUP_BANKS) free → r.ready_all ≡ all_free → StandsFor r rank []
 unfolding bank_behind
-stands_new r rank banks groups refresh activates = record {
+stands_new r rank banks groups refresh activates ready ready_all = record {
   placed = tt;
   ordered = λ cycle after. tt;
-  whole = record { banks = ap length banks ∙ length-replicate _ idle; groups = ap length groups ∙ length-replicate _ never };
+  whole = record { banks = ap length banks ∙ length-replicate _ idle; groups = ap length groups ∙ length-replicate _ never; ready = ap length ready ∙ length-replicate _ free };
   banks = λ g b group bank. new_bank g b;
   groups = λ g group. new_last (λ c. is_of_group rank g c) (group_at r g) (all_blank _ r.groups never groups g);
   refresh = refresh;
   activates = ap (λ (xs : List ℕ). xs) activates;
+  ready = λ g b group bank. ready_new r.config.timing rank g b (ready_at r g b) (all_blank _ r.ready free ready (g * GROUP_BANKS + b));
+  ready_all = ready_all_new r.config.timing rank r.ready_all ready_all;
 }
   where
     new_last : (place : Command → Bool) (last : Last) → last ≡ never → KeepsLast place [] last

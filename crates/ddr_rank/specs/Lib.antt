@@ -1,6 +1,10 @@
 pub mod Breaks
+pub mod Distances
+pub mod First
 pub mod Latest
+pub mod May
 pub mod Noted
 pub mod Readiness
+pub mod Ready
 pub mod Stands
 pub mod View

@@ -1,5 +1,5 @@
 -- What a rank keeps after a command.
-use Rattle.std.specs.Prelude.{ℕ, ◌+◌, ◌*◌, if◌then◌else◌, [], ◌∷◌, ◌++◌, map, Some, slice_set}
+use Rattle.std.specs.Prelude.{◌≡◌, ℕ, ◌+◌, ◌*◌, ◌/◌, ◌%◌, ◌<◌, if◌then◌else◌, length, [], ◌∷◌, ◌++◌, map, Some, slice_index_or, slice_set}
 use Rattle.circular_buffer.specs.Buffer.{keep_last}
 use Rattle.ddr_timing.specs.declared.units.TheConstants.{GROUP_BANKS}
 use Rattle.ddr_trace.specs.declared.command.Command.{Command}
@@ -10,6 +10,7 @@ use Rattle.ddr_trace.specs.Commands.{is_activate, is_precharge, is_read, is_writ
 use Rattle.ddr_rank.specs.declared.bank.Bank.{Bank}
 use Rattle.ddr_rank.specs.declared.last.Last.{Last}
 use Rattle.ddr_rank.specs.Readiness.{Readiness, bank_at, group_at}
+use Rattle.ddr_rank.specs.Ready.{all_raised, asked_of, asked_of_all, asks_of, free, raised}
 
 -- a bank or a group after a command of it
 abbrev pub last_noted : Entry → Last → Last
@@ -49,6 +50,12 @@ noted_by r e (WrAuto rank group bank row line) = noted_at r e group bank
 noted_by r e (Pre rank group bank) = noted_at r e group bank
 noted_by r e (PreAll rank) = all_noted r e
 noted_by r e (Refresh rank) = record r { refresh = Some e.cycle }
+
+-- the first cycles after a command
+pub record IsRaised (old new : Readiness) (e : Entry) : Type 0 where
+  pub size : length new.ready ≡ length old.ready
+  pub banks : (number : ℕ) → number < length old.ready → slice_index_or new.ready number free ≡ raised (asked_of (asks_of old.config.timing e) (number / GROUP_BANKS) (number % GROUP_BANKS)) (slice_index_or old.ready number free)
+  pub all : new.ready_all ≡ all_raised (asked_of_all old.config.timing e.cycle e.command) old.ready_all
 
 abbrev pub noted : Readiness → Entry → Readiness
 noted r e = noted_by r e e.command

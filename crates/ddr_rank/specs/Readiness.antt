@@ -6,6 +6,9 @@ use Rattle.ddr_rank.specs.declared.bank.Bank.{Bank}
 use Rattle.ddr_rank.specs.declared.last.Kind.{Kind}
 use Rattle.ddr_rank.specs.declared.last.Kind.TheVariants.{Activate, Read, Write}
 use Rattle.ddr_rank.specs.declared.last.Last.{Last}
+use Rattle.ddr_rank.specs.declared.ready.Ready.{Ready}
+use Rattle.ddr_rank.specs.declared.ready.ReadyAll.{ReadyAll}
+use Rattle.ddr_rank.specs.Ready.{free}
 
 pub record Readiness : Type 0 where
   pub config : Config
@@ -17,6 +20,10 @@ pub record Readiness : Type 0 where
   pub refresh : Option ℕ
   -- the cycles of the last four ACTs, the oldest first
   pub activates : List ℕ
+  -- of each bank, the first cycles of its next commands
+  pub ready : List Ready
+  -- those of the next PREA and REF
+  pub ready_all : ReadyAll
 
 -- before the first command
 abbrev pub never : Last
@@ -36,6 +43,9 @@ bank_at r group bank = slice_index_or r.banks (group * GROUP_BANKS + bank) idle
 abbrev pub group_at : Readiness → ℕ → Last
 group_at r group = slice_index_or r.groups group never
 
+abbrev pub ready_at : Readiness → ℕ → ℕ → Ready
+ready_at r group bank = slice_index_or r.ready (group * GROUP_BANKS + bank) free
+
 -- the cycle of the fourth ACT before the next one
 abbrev pub fourth_activate : Readiness → Option ℕ
 fourth_activate r = if length r.activates == 4 then slice_get r.activates 0 else None
@@ -44,3 +54,4 @@ fourth_activate r = if length r.activates == 4 then slice_get r.activates 0 else
 pub record IsWhole (r : Readiness) : Type 0 where
   pub banks : length r.banks ≡ r.config.geometry.groups * GROUP_BANKS
   pub groups : length r.groups ≡ r.config.geometry.groups
+  pub ready : length r.ready ≡ r.config.geometry.groups * GROUP_BANKS

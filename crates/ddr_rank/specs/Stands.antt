@@ -15,7 +15,8 @@ use Rattle.ddr_trace.specs.Legality.{lowest_rule}
 use Rattle.ddr_rank.specs.declared.bank.Bank.{Bank}
 use Rattle.ddr_rank.specs.declared.last.Last.{Last}
 use Rattle.ddr_rank.specs.Latest.{latest}
-use Rattle.ddr_rank.specs.Readiness.{IsWhole, Readiness, bank_at, group_at}
+use Rattle.ddr_rank.specs.Readiness.{IsWhole, Readiness, bank_at, group_at, ready_at}
+use Rattle.ddr_rank.specs.Ready.{KeepsReady, KeepsReadyAll}
 
 -- the lowest of the rules on a rank that the entry breaks after its history
 abbrev pub lowest_on_rank : Config → List Entry → Entry → Option Rule
@@ -60,3 +61,5 @@ pub record StandsFor (r : Readiness) (rank : ℕ) (history : List Entry) : Type 
   pub groups : (group : ℕ) → group < r.config.geometry.groups → KeepsLast (is_of_group rank group) history (group_at r group)
   pub refresh : r.refresh ≡ latest (λ a. is_refresh a && is_of_rank rank a) history
   pub activates : r.activates ≡ keep_last 4 (activates_of rank history)
+  pub ready : (group bank : ℕ) → group < r.config.geometry.groups → bank < GROUP_BANKS → KeepsReady r.config.timing rank group bank history (ready_at r group bank)
+  pub ready_all : KeepsReadyAll r.config.timing rank history r.ready_all

@@ -10,6 +10,8 @@ readiness_of a = record {
   groups = a.groups.items;
   refresh = a.refresh;
   activates = a.activates.items;
+  ready = a.ready.items;
+  ready_all = a.ready_all;
 }
 
 pub record IsSound (a : Inside) : Type 0 where

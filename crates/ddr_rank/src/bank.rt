@@ -1,10 +1,13 @@
 //! What is kept of one bank.
 ghost use Rattle.std.specs.Prelude.{◌≡◌, Some};
-ghost use Rattle.ddr_trace.specs.Banks.{is_auto_within, open_row, ready_row};
+ghost use Rattle.ddr_trace.specs.Banks.{is_auto_within, open_row, ready_row, recovery};
+ghost use Rattle.ddr_rank.specs.First.{behind_auto, behind_start};
 ghost use Rattle.ddr_rank.specs.Noted.{bank_noted};
 
+use crate::cycles::after;
 use crate::last::Last;
 use ddr_timing::timing::Timing;
+use ddr_timing::units::BURST_CLOCKS;
 use ddr_trace::bank::{OpenBank, changed_by};
 use ddr_trace::command::{Command, Entry};
 
@@ -66,5 +69,36 @@ impl Bank {
             Some(bank) => bank.is_auto_within(cycle, timing),
             None => false,
         }
+    }
+
+    /// The cycle that stands RP behind the start of the bank's auto-precharge, 0 where it has none.
+    pub fn behind_auto(&self, timing: &Timing) -> u64
+        ensures { result ≡ behind_auto timing.now self.now.opened }
+    {
+        match &self.opened {
+            Some(bank) => match &bank.auto {
+                Some(auto) => behind_start(bank, auto, timing),
+                None => 0,
+            },
+            None => 0,
+        }
+    }
+}
+
+/// The cycle that stands RP behind the start of this auto-precharge of the bank.
+fn behind_start(bank: &OpenBank, auto: &Entry, timing: &Timing) -> u64
+    ensures { result ≡ behind_start timing.now bank.now (Some auto.now) }
+{
+    let recovered = after(auto.cycle, recovery(&auto.command, timing) + timing.rp);
+    after(bank.since, timing.ras + timing.rp).max(recovered)
+}
+
+/// The clocks from a read or a write to a precharge of its bank.
+fn recovery(command: &Command, timing: &Timing) -> u32
+    ensures { result ≡ recovery timing.now command.now }
+{
+    match command {
+        Command::Rd { .. } | Command::RdAuto { .. } => timing.rtp,
+        _ => timing.cwl + BURST_CLOCKS + timing.wr,
     }
 }

@@ -1,5 +1,5 @@
 //! One rank: what was issued to it, as far as a later command can break a rule by it.
-ghost use Rattle.std.specs.Prelude.{◌≡◌, ℕ, ◌+◌, ◌*◌, ◌<◌, List, [], ◌∷◌, ◌++◌, IsTrue, IsOk, IfOk};
+ghost use Rattle.std.specs.Prelude.{◌≡◌, ℕ, ◌+◌, ◌*◌, ◌<◌, ◌≤◌, ◌&&◌, nat_le, List, [], ◌∷◌, ◌++◌, IsTrue, IsOk, IfOk};
 ghost use Rattle.std.specs.Option.{is_none};
 ghost use Rattle.ddr_timing.specs.declared.units.TheConstants.{GROUP_BANKS};
 ghost use Rattle.ddr_trace.specs.declared.command.Entry.{Entry};
@@ -9,13 +9,17 @@ ghost use Rattle.ddr_trace.specs.Commands.{entry, rank_of};
 ghost use Rattle.ddr_trace.specs.Rules.{is_in};
 ghost use Rattle.ddr_trace.specs.Legality.{lowest_rule};
 ghost use Rattle.ddr_rank.specs.Breaks.{breaks_now};
-ghost use Rattle.ddr_rank.specs.Noted.{activate_noted, all_noted, noted, noted_at};
-ghost use Rattle.ddr_rank.specs.Readiness.{bank_at, group_at};
+ghost use Rattle.ddr_rank.specs.Distances.{keeps_distances, state_fits};
+ghost use Rattle.ddr_rank.specs.Noted.{IsRaised, activate_noted, all_noted, noted, noted_at};
+ghost use Rattle.ddr_rank.specs.Readiness.{bank_at, group_at, ready_at};
+ghost use Rattle.ddr_rank.specs.Ready.{LAST_CYCLE};
 ghost use Rattle.ddr_rank.specs.Stands.{IsAfter, StandsFor, lowest_on_rank};
 
 use crate::bank::Bank;
 use crate::last::Last;
+use crate::ready::{Asks, Ready, ReadyAll};
 use circular_buffer::HeapCircularBuffer;
+use ddr_timing::bank::number_in_rank;
 use ddr_timing::config::Config;
 use ddr_timing::units::GROUP_BANKS;
 use ddr_trace::command::{Command, Entry};
@@ -41,6 +45,9 @@ pub struct Rank {
     refresh: Option<u64>,
     // The last four ACTs, the oldest first.
     activates: HeapCircularBuffer<u64>,
+    // Of bank b of group g, at g * GROUP_BANKS + b, the first cycles of its next commands.
+    ready: Vec<Ready>,
+    ready_all: ReadyAll,
 }
 
 impl Model for Rank {
@@ -68,6 +75,8 @@ impl Rank {
             groups: vec![in alloc; Last::NEVER; groups]?,
             refresh: None,
             activates: HeapCircularBuffer::with_capacity(alloc, WINDOW)?,
+            ready: vec![in alloc; Ready::FREE; groups * GROUP_BANKS as usize]?,
+            ready_all: ReadyAll::FREE,
         })
     }
 
@@ -77,16 +86,37 @@ impl Rank {
         ensures { (history : List Entry) → StandsFor self.entry.now (rank_of command) history → IsAfter history cycle
             → result ≡ lowest_on_rank self.entry.now.config history (entry cycle command) }
     {
+        if self.may(cycle, command) {
+            return None;
+        }
         self.lowest(cycle, &command)
     }
 
     /// Whether the command breaks none of these rules in this cycle.
+    #[inline]
     pub fn may(&self, cycle: u64, command: Command) -> bool
         requires { IsTrue (is_in self.now.config.geometry command) }
         ensures { (history : List Entry) → StandsFor self.entry.now (rank_of command) history → IsAfter history cycle
             → result ≡ is_none (lowest_on_rank self.entry.now.config history (entry cycle command)) }
     {
-        self.fault(cycle, command).is_none()
+        if cycle == u64::MAX {
+            // A first cycle that is kept as the last one may be a later one.
+            return self.lowest(cycle, &command).is_none();
+        }
+        self.may_now(cycle, &command)
+    }
+
+    /// The first cycle from this one on in which the command keeps every distance, whatever the state of its banks. It
+    /// stands until the next command of the rank is issued. The last cycle that a `u64` counts where there is none below.
+    pub fn allowed_at(&self, from: u64, command: Command) -> u64
+        requires { IsTrue (is_in self.now.config.geometry command) }
+        ensures from { from ≤ result }
+        ensures first { (history : List Entry) (cycle : ℕ) → StandsFor self.entry.now (rank_of command) history → from ≤ cycle → cycle < LAST_CYCLE
+            → keeps_distances self.entry.now.config history (entry cycle command) ≡ nat_le result cycle }
+        ensures legal { (history : List Entry) (cycle : ℕ) → StandsFor self.entry.now (rank_of command) history → from ≤ cycle → cycle < LAST_CYCLE
+            → is_none (lowest_on_rank self.entry.now.config history (entry cycle command)) ≡ (state_fits self.entry.now.config history (entry cycle command) && nat_le result cycle) }
+    {
+        self.first_cycle(&command).max(from)
     }
 
     /// Makes room for one more command, which a rank has at all times: it takes no memory.
@@ -106,7 +136,9 @@ impl Rank {
         ensures stands { (history : List Entry) → StandsFor self.old (rank_of command) history → IsAfter history cycle
             → StandsFor self.new (rank_of command) (history ++ entry cycle command ∷ []) }
     {
-        self.note(&Entry { cycle, command });
+        let entry = Entry { cycle, command };
+        self.note(&entry);
+        self.raise(&entry);
     }
 
     /// The open row of a bank in this cycle, if it is active then. `None` also outside the geometry.
@@ -121,6 +153,8 @@ impl Rank {
     }
 
     /// The lowest rule that the command would break, by what is kept.
+    #[cold]
+    #[inline(never)]
     fn lowest(&self, cycle: u64, command: &Command) -> Option<Rule>
         requires { IsTrue (is_in self.now.config.geometry command.now) }
         ensures { result ≡ lowest_rule (λ r. breaks_now self.now r cycle command.now) }
@@ -165,7 +199,7 @@ impl Rank {
         requires bank_in { bank < GROUP_BANKS }
         ensures { self.new ≡ noted_at self.old entry.now group bank }
     {
-        self.banks[number(group, bank)].note(entry);
+        self.banks[number_in_rank(group, bank)].note(entry);
         self.groups[group as usize].note(entry);
     }
 
@@ -178,13 +212,32 @@ impl Rank {
         }
     }
 
+    /// Raises the first cycles of what comes next to what a command asks.
+    fn raise(&mut self, entry: &Entry)
+        ensures rest { self.new ≡ record self.old { ready = self.new.ready; ready_all = self.new.ready_all } }
+        ensures raised { IsRaised self.old self.new entry.now }
+    {
+        let asks = Asks::of(entry, &self.config.timing);
+        asks.raise(&mut self.ready, self.config.geometry.groups);
+        self.ready_all.raise(&asks.all);
+    }
+
     /// What is kept of a bank.
     fn bank(&self, group: u32, bank: u32) -> &Bank
         requires group_in { group < self.now.config.geometry.groups }
         requires bank_in { bank < GROUP_BANKS }
         ensures { result.now ≡ bank_at self.now group bank }
     {
-        &self.banks[number(group, bank)]
+        &self.banks[number_in_rank(group, bank)]
+    }
+
+    /// The first cycles of a bank's next commands.
+    fn ready(&self, group: u32, bank: u32) -> &Ready
+        requires group_in { group < self.now.config.geometry.groups }
+        requires bank_in { bank < GROUP_BANKS }
+        ensures { result.now ≡ ready_at self.now group bank }
+    {
+        &self.ready[number_in_rank(group, bank)]
     }
 
     /// The cycles of a group's last commands.
@@ -194,12 +247,4 @@ impl Rank {
     {
         &self.groups[group as usize]
     }
-}
-
-/// The number of a bank in its rank.
-fn number(group: u32, bank: u32) -> usize
-    requires { bank < GROUP_BANKS }
-    ensures { result ≡ group * GROUP_BANKS + bank }
-{
-    group as usize * GROUP_BANKS as usize + bank as usize
 }

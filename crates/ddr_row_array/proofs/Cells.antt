@@ -5,11 +5,7 @@ use Rattle.std.specs.Option.{option_map}
 use Rattle.std.proofs.lemmas.Bool.{lt-ltb, le-ltb}
 use Rattle.std.proofs.lemmas.List.FromFn.{get_or-map-range_with_len, length-map-range_with_len}
 use Rattle.ddr_row_array.specs.Merge.{byte_of, merged}
-use Rattle.ddr_row_array.specs.Rows.{Rows, line_count, open_row, cells, open_burst, row_bytes}
-use Rattle.ddr_row_array.proofs.Lines.{length-line_bytes}
-
-pub length-cells : (a : Rows) (bank row line : ℕ) → length (cells a bank row line) ≡ 64
-length-cells a bank row line = length-line_bytes (row_bytes a.stored bank row) line
+use Rattle.ddr_row_array.specs.Rows.{Rows, line_count, open_row, cells, open_burst}
 
 -- a line of an open row
 pub open_burst-open : (a : Rows) (bank row line : ℕ) → open_row a bank ≡ Some row → line < line_count a → open_burst a bank line ≡ Some (cells a bank row line)

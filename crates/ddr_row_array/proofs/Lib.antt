@@ -1,8 +1,8 @@
 mod Addresses
 mod Bursts
 pub mod Cells
+mod Entered
 mod Fresh
-mod Lines
 mod Opened
 mod Places
 mod Slots

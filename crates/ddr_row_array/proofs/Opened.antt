@@ -25,10 +25,11 @@ pub opened-set : (xs : List (Option OpenRow)) (i b : ℕ) (o : Option OpenRow) �
 opened-set xs i b o within =
     rw map-set (get_or-set_if (map row_held xs) i b (row_held o) None (omega (arith, length-map xs row_held)))
 
-pub IsSound-opened : (a : Inside) (i : ℕ) (o : Option OpenRow) → IsSound a → i < vec_len a.opened → ForSome o (λ o. slot_of a.slots.items i o.row ≡ Some o.slot) → IsSound (record a { opened = with_item a.opened i o })
+pub IsSound-opened : (a : Inside) (i : ℕ) (o : Option OpenRow) → IsSound a → i < vec_len a.opened → ForSome o (λ o. slot_of a.store i o.row ≡ Some o.slot) → IsSound (record a { opened = with_item a.opened i o })
 IsSound-opened a i o sound within kept = record {
   banks = sound.banks;
-  whole = sound.whole;
+  width = sound.width;
+  store = sound.store;
   indexed = sound.indexed;
   ensured = sound.ensured;
   kept = λ b.

@@ -1,12 +1,13 @@
 -- What calls change of a row array.
-use Rattle.std.specs.Prelude.{◌≡◌, ℕ, ◌*◌, ◌/◌, Bool, false, ◌&&◌, ◌==◌, if◌then◌else◌, List, replicate, None}
-use Rattle.ddr_timing.specs.declared.units.TheConstants.{GROUP_BANKS, LINE_BYTES, LINE_COLUMNS}
+use Rattle.std.specs.Prelude.{◌≡◌, ℕ, ◌/◌, Bool, false, ◌&&◌, ◌==◌, if◌then◌else◌, List, replicate, None}
+use Rattle.ddr_timing.specs.Banks.{bank_count as banks_of}
+use Rattle.ddr_timing.specs.declared.units.TheConstants.{LINE_BYTES, LINE_COLUMNS}
 use Rattle.ddr_timing.specs.declared.config.Config.{Config}
 use Rattle.ddr_row_array.specs.Rows.{Rows, bank_count, row_count, line_count, open_row, is_stored, cells}
 
 -- every bank is idle, and every byte is 0
 pub record IsFresh (config : Config) (a : Rows) : Type 0 where
-  pub banks : bank_count a ≡ config.geometry.groups * GROUP_BANKS
+  pub banks : bank_count a ≡ banks_of config.geometry
   pub rows : row_count a ≡ config.geometry.rows
   pub lines : line_count a ≡ config.geometry.columns / LINE_COLUMNS
   pub idle : (bank : ℕ) → open_row a bank ≡ None

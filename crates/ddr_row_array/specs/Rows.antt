@@ -1,14 +1,13 @@
 -- What contracts see of a row array: the open row of each bank, and the 64 bytes of each line.
-use Rattle.std.specs.Prelude.{ℕ, ◌+◌, ◌*◌, Bool, ◌&&◌, ◌==◌, nat_lt, if◌then◌else◌, List, [], length, map, find, slice_index, slice_index_or, Option, None, is_some}
+use Rattle.std.specs.Prelude.{ℕ, Bool, ◌&&◌, ◌==◌, nat_lt, if◌then◌else◌, List, [], length, find, replicate, slice_index_or, Option, None, is_some}
 use Rattle.ddr_timing.specs.declared.units.TheConstants.{LINE_BYTES}
 use Rattle.std.specs.Option.{option_map, option_map_or}
-use Rattle.std.specs.List.{range_with_len}
 
--- a row that is stored, with its bytes: 64 for each line
+-- a row that is stored, with the 64 bytes of each of its lines
 pub record StoredRow : Type 0 where
   pub bank : ℕ
   pub row : ℕ
-  pub bytes : List ℕ
+  pub lines : List (List ℕ)
 
 -- the open row of each bank, how many rows a bank has, how many lines a row has, and the rows that are
 -- stored; every other row is all zeros
@@ -37,17 +36,17 @@ is_row bank row stored = stored.bank == bank && stored.row == row
 abbrev pub is_stored : Rows → ℕ → ℕ → Bool
 is_stored a bank row = is_some (find (is_row bank row) a.stored)
 
--- the bytes that are stored for a row: none for a row that is not stored
-abbrev pub row_bytes : List StoredRow → ℕ → ℕ → List ℕ
-row_bytes stored bank row = option_map_or (λ s. s.bytes) (find (is_row bank row) stored) []
+-- a line that was never written
+abbrev pub zero_line : List ℕ
+zero_line = replicate LINE_BYTES 0
 
--- the 64 bytes of a line, where bytes past the end of what is stored are zeros
-unfoldable pub line_bytes : List ℕ → ℕ → List ℕ
-line_bytes bytes line = map (λ i. slice_index bytes (LINE_BYTES * line + i)) (range_with_len 0 LINE_BYTES)
+-- the lines that are stored for a row: none for a row that is not stored
+abbrev pub row_lines : List StoredRow → ℕ → ℕ → List (List ℕ)
+row_lines stored bank row = option_map_or (λ s. s.lines) (find (is_row bank row) stored) []
 
--- the 64 bytes of a line of a row of a bank
+-- the 64 bytes of a line of a row of a bank, zeros where none are stored
 abbrev pub cells : Rows → ℕ → ℕ → ℕ → List ℕ
-cells a bank row line = line_bytes (row_bytes a.stored bank row) line
+cells a bank row line = slice_index_or (row_lines a.stored bank row) line zero_line
 
 -- the 64 bytes of a line of the bank's open row; none where the bank is idle or the row has no such line
 abbrev pub open_burst : Rows → ℕ → ℕ → Option (List ℕ)

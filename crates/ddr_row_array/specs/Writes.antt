@@ -1,14 +1,10 @@
 -- What a write of 64 bytes leaves of a row array.
-use Rattle.std.specs.Prelude.{◌≡◌, ℕ, ◌+◌, ◌*◌, Bool, if◌then◌else◌, List, [], ◌∷◌, ◌++◌, length, take, drop}
+use Rattle.std.specs.Prelude.{◌≡◌, ℕ, Bool, if◌then◌else◌, List, [], ◌∷◌, length, slice_set}
 use Rattle.ddr_timing.specs.declared.units.TheConstants.{LINE_BYTES}
 use Rattle.std.specs.Option.{ForSome, option_map_or}
 use Rattle.ddr_row_array.specs.Merge.{merged}
 use Rattle.ddr_row_array.specs.Rows.{Rows, StoredRow, is_row, open_row, cells}
 use Rattle.ddr_row_array.specs.Changes.{Rewrites}
-
--- the bytes, with `new` over as many of them from place `start` on
-unfoldable pub overwritten : List ℕ → ℕ → List ℕ → List ℕ
-overwritten bytes start new = take (length bytes) (take start bytes ++ new ++ drop (start + length new) bytes)
 
 -- the first element that passes is changed
 abbrev pub changed_first : {X : Type 0} → (X → Bool) → (X → X) → List X → List X
@@ -18,7 +14,7 @@ changed_first p f (x ∷ xs) = if p x then f x ∷ xs else x ∷ changed_first p
 -- the stored rows, with `new` over the line of the row
 unfoldable pub with_line : List StoredRow → ℕ → ℕ → ℕ → List ℕ → List StoredRow
 with_line stored bank row line new =
-    changed_first (is_row bank row) (λ s. record s { bytes = overwritten s.bytes (LINE_BYTES * line) new }) stored
+    changed_first (is_row bank row) (λ s. record s { lines = slice_set s.lines line new }) stored
 
 -- the row array, with `new` over the line of the bank's open row
 abbrev pub with_burst : Rows → ℕ → ℕ → List ℕ → Rows

@@ -1,14 +1,17 @@
-//! The bytes of one rank's rows, and the open row of each bank.
+//! The bytes of one channel's rows, and the open row of each bank.
 //!
 //! A bank's sense amplifiers hold one row at a time (JESD79-4, "ACTIVATE" and "PRECHARGE"): a
 //! read or a write of a line, which is a burst of 64 bytes, goes to that row. Rows are stored
-//! sparsely: a row takes memory once it is first asked for, and until then all its bytes are 0.
+//! sparsely: a row takes memory once it is first asked for, its lines take theirs once they are lent for writing, and until
+//! then all bytes are 0.
 //!
-//! Below stands `ddr_timing`, which gives the number of banks, rows and columns; above,
+//! Below stands `ddr_timing`, which numbers the banks over the ranks, and gives how many rows and columns there are; above,
 //! `ddr_channel`, which opens and closes rows and moves the data of reads and writes. `row_array`
-//! is the public part; `slot` has the bytes of one row, and `merge` the data mask of a write.
+//! is the public part; `store` has the stored rows and the bytes of their lines, `slot` is one row of it, and `merge` the
+//! data mask of a write.
 #![tactic(auto)]
 
 mod merge;
 pub mod row_array;
 mod slot;
+mod store;

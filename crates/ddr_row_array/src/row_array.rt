@@ -1,4 +1,4 @@
-//! The bytes of one rank's rows, and the open row of each bank.
+//! The bytes of one channel's rows, and the open row of each bank.
 ghost use Rattle.std.specs.Prelude.{◌≡◌, ℕ, ◌<◌, ◌==◌, ◌&&◌, false, true, if◌then◌else◌, length, Some, None, IsTrue, IsSome, IfSome, OnSome, OnOk, OnErr, IfOk, IsOk, is_some, unwrap_or};
 ghost use Rattle.std.specs.Bool.{OnTrue, OnFalse};
 ghost use Rattle.std.specs.Option.{option_copied, option_copied_mut};
@@ -11,9 +11,10 @@ ghost use Rattle.ddr_row_array.specs.Writes.{ChangesLineAlone, MergesLine};
 
 use crate::merge::merge;
 use crate::slot::{RowAddress, Slot};
+use crate::store::Store;
 use ddr_timing::config::Config;
 use ddr_timing::geometry::Geometry;
-use ddr_timing::units::{GROUP_BANKS, LINE_BYTES, LINE_COLUMNS};
+use ddr_timing::units::{LINE_BYTES, LINE_COLUMNS};
 use std::alloc::{AllocError, Global};
 use std::collections::BTreeMap;
 use std::marker::Model;
@@ -32,19 +33,18 @@ struct EnsuredRow {
     slot: usize,
 }
 
-/// The bytes of one rank's rows, and the open row of each bank.
+/// The bytes of one channel's rows, and the open row of each bank.
 ///
-/// A bank is named by its number in the rank, group * 4 + bank. A row takes memory once `ensure`
-/// is first called for it; a byte that was never written is 0.
+/// A bank is named by its number over the ranks, as `BankId` has it. A row takes memory once
+/// `ensure` is first called for it; a byte that was never written is 0.
 #[derive(Drop)]
 pub struct RowArray {
     alloc: Global,
     geometry: Geometry,
     // By the bank's number.
     opened: Vec<Option<OpenRow>>,
-    // In the order in which the rows were stored.
-    slots: Vec<Slot>,
-    // Where each stored row stands among the slots.
+    store: Store,
+    // Where each stored row stands among the slots of the store.
     index: BTreeMap<RowAddress, usize>,
     // The row that `ensure` was last called for, which is mostly the one that `activate` is called for next.
     ensured: Option<EnsuredRow>,
@@ -67,19 +67,21 @@ impl RowArray {
     pub fn open(alloc: Global, config: &Config) -> Result<RowArray, AllocError>
         ensures { IfOk result (IsFresh config.now) }
     {
-        let banks = (config.geometry.groups * GROUP_BANKS) as usize;
+        let banks = config.geometry.banks() as usize;
+        let lines = (config.geometry.columns / LINE_COLUMNS) as usize;
         Ok(RowArray {
             alloc,
             geometry: config.geometry,
             opened: vec![in alloc; None; banks]?,
-            slots: Vec::new(alloc),
+            store: Store::new(alloc, lines)?,
             index: BTreeMap::new(alloc),
             ensured: None,
         })
     }
 
-    /// Makes the row's storage, with zeros, if it is not there. No byte changes, and nothing at
-    /// all where memory runs out. A row that is stored takes no memory, and is never refused.
+    /// Makes the row's storage, with zeros, if it is not there: a word for each of its lines, and untouched
+    /// room for their bytes. No byte changes, and nothing at all where memory runs out. A row that is stored
+    /// takes no memory, and is never refused.
     pub fn ensure(&mut self, bank: u32, row: u32) -> Result<(), AllocError>
         requires bank_in { bank < bank_count self.old }
         requires row_in { row < row_count self.old }
@@ -99,11 +101,10 @@ impl RowArray {
             self.ensured = Some(EnsuredRow { address, slot });
             return Ok(());
         }
-        let bytes = vec![in self.alloc; 0; self.geometry.columns as usize * 8]?;
-        self.slots.reserve(1)?;
-        let slot = self.slots.len();
+        let places = self.store.reserve(self.alloc)?;
+        let slot = self.store.slots.len();
         self.index.insert(address, slot)?;
-        self.slots.push(Slot { address, bytes })?;
+        self.store.push(Slot { address, places });
         self.ensured = Some(EnsuredRow { address, slot });
         Ok(())
     }
@@ -155,21 +156,23 @@ impl RowArray {
     /// The 64 bytes of a line of the bank's open row, which is there.
     fn open_line(&self, bank: u32, line: u32) -> &[u8]
         requires { IsSome (open_burst self.now bank line) }
-        ensures { open_burst self.now bank line ≡ Some result.now }
+        ensures value { open_burst self.now bank line ≡ Some result.now }
+        ensures length { length result.now ≡ LINE_BYTES }
     {
         let open = self.opened[bank as usize].unwrap();
-        self.slots[open.slot].line(line)
+        self.store.line(open.slot, line as usize)
     }
 
     /// The 64 bytes of a line of the bank's open row, which is there, for writing.
     fn open_line_mut(&mut self, bank: u32, line: u32) -> &mut [u8]
         requires { IsSome (open_burst self.old bank line) }
         ensures* writes_back { sem 𝓛 (LendsOpenLine self.entry bank line result) }
-        ensures value { open_burst self.old bank line ≡ Some result.now }
+        ensures value { (open_burst self.old bank line ≡ Some result.now) × (length result.now ≡ LINE_BYTES) }
         ensures only_the_line { ChangesLineAlone self.old bank line }
     {
         let open = self.opened[bank as usize].unwrap();
-        self.slots[open.slot].line_mut(line)
+        let place = self.store.enter(open.slot, line as usize);
+        self.store.line_mut(place)
     }
 
     /// The 64 bytes of a line of the bank's open row. `None` exactly where the bank is idle or

@@ -39,7 +39,6 @@ parts_fault text profile sample faults.ConfigUnknownKey is_text refused = (is_te
 parts_fault text profile sample (faults.ConfigRange key) is_text refused = (is_text, refused)
 parts_fault text profile sample (faults.ConfigNotPowerOfTwo key) is_text refused = (is_text, refused)
 parts_fault text profile sample (faults.ConfigRelation n) is_text refused = (is_text, refused)
-parts_fault text profile sample faults.ConfigUnserved is_text refused = (is_text, refused)
 parts_fault text profile sample faults.InputHasNoMark is_text refused = (is_text, refused)
 parts_fault text profile sample faults.InputTooLong is_text refused = not_of_parts (parts_of sample profile text) faults.InputTooLong refused refl
 parts_fault text profile sample faults.InputNotUtf8 is_text refused = not_of_parts (parts_of sample profile text) faults.InputNotUtf8 refused refl

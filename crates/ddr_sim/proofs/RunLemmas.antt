@@ -53,7 +53,6 @@ text_fault profile text sample trace old faults.ConfigUnknownKey is_text refused
 text_fault profile text sample trace old (faults.ConfigRange key) is_text refused = (is_text, refused)
 text_fault profile text sample trace old (faults.ConfigNotPowerOfTwo key) is_text refused = (is_text, refused)
 text_fault profile text sample trace old (faults.ConfigRelation n) is_text refused = (is_text, refused)
-text_fault profile text sample trace old faults.ConfigUnserved is_text refused = (is_text, refused)
 text_fault profile text sample trace old faults.InputHasNoMark is_text refused = (is_text, refused)
 text_fault profile text sample trace old faults.InputTooLong is_text refused = not_of_parts (parts_of sample profile text) faults.InputTooLong refused refl
 text_fault profile text sample trace old faults.InputNotUtf8 is_text refused = not_of_parts (parts_of sample profile text) faults.InputNotUtf8 refused refl

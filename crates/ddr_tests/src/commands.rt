@@ -10,6 +10,7 @@ mod ports;
 mod rows;
 mod stopping;
 mod threaded;
+mod version_2;
 
 use ddr_sim::sim::sim;
 use ddr_text::check::check;

@@ -1,5 +1,5 @@
 -- Going over the lines of an input up to the mark.
-use Rattle.std.proofs.Common.{◌≡◌, ℕ, ◌+◌, ◌<◌, Bool, true, false, cond, ◌==◌, ◌≢◌, codes, List, [], ◌∷◌, ◌++◌, length, get_or, Option, None, Some, ◌⊎◌, inl, inr, refl, sym, subst, ap, ap₂, ◌∙◌, ◌-◌, ◌||◌, slice_index, take, append_assoc, append-nil, arith}
+use Rattle.std.proofs.Common.{◌≡◌, ℕ, ◌+◌, ◌<◌, Bool, true, false, cond, ◌==◌, ◌≢◌, codes, List, [], ◌∷◌, ◌++◌, length, get_or, Option, None, Some, refl, sym, subst, ap, ap₂, ◌∙◌, ◌-◌, ◌||◌, slice_index, take, append_assoc, append-nil, arith}
 use Rattle.std.specs.List.{All, after_first, before_first, join_with_byte, list_any, position_or_len, slice_range, slice_split}
 use Rattle.std.specs.Str.{bytes_eq}
 use Rattle.std.specs.Str.Lines.{lines, lines_of_parts, strip_carriage_return}
@@ -21,7 +21,7 @@ use Rattle.ddr_timing.specs.Refusals.{refusal_of}
 use Rattle.ddr_text.specs.declared.fault.Fault.{Fault}
 use Rattle.ddr_text.specs.declared.fault.Fault.TheVariants as faults
 use Rattle.ddr_text.specs.Fault.{fault_of}
-use Rattle.ddr_text.specs.Body.{HasConfigFault, HasPartsFault, IsRefused, has_mark, is_mark, split_from}
+use Rattle.ddr_text.specs.Body.{HasConfigFault, IsRefused, has_mark, is_mark, split_from}
 
 abbrev is_feed : ℕ → Bool
 is_feed byte = byte == 10
@@ -175,7 +175,6 @@ is_of_parts faults.ConfigUnknownKey = true
 is_of_parts (faults.ConfigRange key) = true
 is_of_parts (faults.ConfigNotPowerOfTwo key) = true
 is_of_parts (faults.ConfigRelation n) = true
-is_of_parts faults.ConfigUnserved = true
 is_of_parts faults.InputHasNoMark = true
 is_of_parts faults.OutOfMemory = true
 is_of_parts _ = false
@@ -207,7 +206,6 @@ kind_of_config text faults.ConfigUnknownKey said = refl
 kind_of_config text (faults.ConfigRange key) said = refl
 kind_of_config text (faults.ConfigNotPowerOfTwo key) said = refl
 kind_of_config text (faults.ConfigRelation n) said = refl
-kind_of_config text faults.ConfigUnserved said = refl
 kind_of_config text faults.InputHasNoMark said = refl
 kind_of_config text faults.OutOfMemory said = refl
 kind_of_config text faults.InputTooLong said = kind_of_said (refusal_of (parse_document text)) faults.InputTooLong (said (no_memory faults.InputTooLong refl))
@@ -229,14 +227,10 @@ kind_of_config text faults.PortBroken said = kind_of_said (refusal_of (parse_doc
 kind_of_config text faults.NotDrained said = kind_of_said (refusal_of (parse_document text)) faults.NotDrained (said (no_memory faults.NotDrained refl))
 kind_of_config text faults.ThreadsRefused said = kind_of_said (refusal_of (parse_document text)) faults.ThreadsRefused (said (no_memory faults.ThreadsRefused refl))
 
-kind_of_parts : (parts : Option (List ℕ × List ℕ)) (fault : Fault) → HasPartsFault parts fault → is_of_parts fault ≡ true
+kind_of_parts : (parts : Option (List ℕ × List ℕ)) (fault : Fault) → IsRefused parts fault → is_of_parts fault ≡ true
 kind_of_parts None fault said = ap is_of_parts said
 kind_of_parts (Some p) fault said = kind_of_config p.0 fault said
 
-kind_of_opening : (parts : Option (List ℕ × List ℕ)) (fault : Fault) → IsRefused parts fault → is_of_parts fault ≡ true
-kind_of_opening parts fault (inl said) = kind_of_parts parts fault said
-kind_of_opening parts fault (inr unserved) = ap is_of_parts unserved.0
-
 -- a fault of another kind is none of the parts
 pub not_of_parts : {X : Type 0} (parts : Option (List ℕ × List ℕ)) (fault : Fault) → IsRefused parts fault → is_of_parts fault ≡ false → X
-not_of_parts parts fault said other = absurd (false≢true (sym other ∙ kind_of_opening parts fault said))
+not_of_parts parts fault said other = absurd (false≢true (sym other ∙ kind_of_parts parts fault said))

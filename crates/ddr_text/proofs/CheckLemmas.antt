@@ -1,5 +1,5 @@
 -- What was read says which trace stands in it.
-use Rattle.std.proofs.Common.{◌≡◌, ◌≢◌, Bool, true, false, List, ℕ, Option, Some, None, Result, Ok, Err, IfSome, inl, refl, sym, subst, ◌∙◌}
+use Rattle.std.proofs.Common.{◌≡◌, ◌≢◌, Bool, true, false, List, ℕ, Option, Some, None, Result, Ok, Err, IfSome, refl, sym, subst, ◌∙◌}
 use Rattle.std.specs.Prelude.{is_some, not}
 use Rattle.std.specs.Io.KnownBytes.{Appends}
 use Rattle.ddr_text.specs.Input.{IsText}
@@ -12,43 +12,43 @@ use Rattle.ddr_trace.proofs.RefusalLemmas.{NotWrite}
 use Rattle.ddr_trace.specs.Traces.{Recorded}
 use Rattle.ddr_text.specs.declared.fault.Fault.{Fault}
 use Rattle.ddr_text.specs.declared.fault.Fault.TheVariants as faults
-use Rattle.ddr_text.specs.Body.{AreParts, HasPartsFault, parts_of}
+use Rattle.ddr_text.specs.Body.{IsOpened, IsRefused, parts_of}
 use Rattle.ddr_text.specs.Check.{HasCheckFault, IsChecked, IsVerdict, SaysTrace, verdict_text}
 use Rattle.ddr_text.specs.Fault.{trace_fault_of}
 use Rattle.ddr_text.specs.Sink.{write_fault}
 use Rattle.ddr_text.proofs.BodyLemmas.{not_of_parts}
 
 -- what was read says what the body's records say
-pub trace_said : (remaining : Option (List ℕ)) (items text profile : List ℕ) (sample : Bool) (config : Config) (body : List ℕ) (said : Result Recorded TraceError) → IfSome remaining (λ bytes. items ≡ bytes) → text ≡ items → IsText items → AreParts (parts_of sample profile text) config body → trace_of (records_in body) ≡ said
+pub trace_said : (remaining : Option (List ℕ)) (items text profile : List ℕ) (sample : Bool) (config : Config) (body : List ℕ) (said : Result Recorded TraceError) → IfSome remaining (λ bytes. items ≡ bytes) → text ≡ items → IsText items → IsOpened (parts_of sample profile text) config body → trace_of (records_in body) ≡ said
     → IfSome remaining (λ input. SaysTrace sample profile input config said)
-trace_said None items text profile sample config body said known same is_text parts read = tt
-trace_said (Some input) items text profile sample config body said known same is_text parts read =
+trace_said None items text profile sample config body said known same is_text opened read = tt
+trace_said (Some input) items text profile sample config body said known same is_text opened read =
     subst (λ i. SaysTrace sample profile i config said) known (record {
       text = is_text;
       body = body;
-      parts = subst (λ t. AreParts (parts_of sample profile t) config body) same parts;
+      opened = subst (λ t. IsOpened (parts_of sample profile t) config body) same opened;
       read = read;
     })
 
 -- the fault of a text whose parts are refused
-text_fault : (profile text : List ℕ) (sample : Bool) (fault : Fault) → IsText text → HasPartsFault (parts_of sample profile text) fault → HasCheckFault sample profile text fault
+text_fault : (profile text : List ℕ) (sample : Bool) (fault : Fault) → IsText text → IsRefused (parts_of sample profile text) fault → HasCheckFault sample profile text fault
 text_fault profile text sample faults.OutOfMemory is_text refused = tt
 text_fault profile text sample faults.Read is_text refused = tt
-text_fault profile text sample faults.Write is_text refused = not_of_parts (parts_of sample profile text) faults.Write (inl refused) refl
-text_fault profile text sample faults.TraceHeader is_text refused = not_of_parts (parts_of sample profile text) faults.TraceHeader (inl refused) refl
-text_fault profile text sample (faults.TraceRow line) is_text refused = not_of_parts (parts_of sample profile text) (faults.TraceRow line) (inl refused) refl
-text_fault profile text sample (faults.TraceOrder line) is_text refused = not_of_parts (parts_of sample profile text) (faults.TraceOrder line) (inl refused) refl
-text_fault profile text sample faults.TraceTruncated is_text refused = not_of_parts (parts_of sample profile text) faults.TraceTruncated (inl refused) refl
-text_fault profile text sample faults.TraceTooLong is_text refused = not_of_parts (parts_of sample profile text) faults.TraceTooLong (inl refused) refl
-text_fault profile text sample faults.InputTooLong is_text refused = not_of_parts (parts_of sample profile text) faults.InputTooLong (inl refused) refl
-text_fault profile text sample faults.InputNotUtf8 is_text refused = not_of_parts (parts_of sample profile text) faults.InputNotUtf8 (inl refused) refl
+text_fault profile text sample faults.Write is_text refused = not_of_parts (parts_of sample profile text) faults.Write refused refl
+text_fault profile text sample faults.TraceHeader is_text refused = not_of_parts (parts_of sample profile text) faults.TraceHeader refused refl
+text_fault profile text sample (faults.TraceRow line) is_text refused = not_of_parts (parts_of sample profile text) (faults.TraceRow line) refused refl
+text_fault profile text sample (faults.TraceOrder line) is_text refused = not_of_parts (parts_of sample profile text) (faults.TraceOrder line) refused refl
+text_fault profile text sample faults.TraceTruncated is_text refused = not_of_parts (parts_of sample profile text) faults.TraceTruncated refused refl
+text_fault profile text sample faults.TraceTooLong is_text refused = not_of_parts (parts_of sample profile text) faults.TraceTooLong refused refl
+text_fault profile text sample faults.InputTooLong is_text refused = not_of_parts (parts_of sample profile text) faults.InputTooLong refused refl
+text_fault profile text sample faults.InputNotUtf8 is_text refused = not_of_parts (parts_of sample profile text) faults.InputNotUtf8 refused refl
 text_fault profile text sample _ is_text refused = (is_text, refused)
 
-pub parts_fault : (remaining : Option (List ℕ)) (items text profile : List ℕ) (sample : Bool) (fault : Fault) → IfSome remaining (λ bytes. items ≡ bytes) → text ≡ items → IsText items → HasPartsFault (parts_of sample profile text) fault → IfSome remaining (λ input. HasCheckFault sample profile input fault)
+pub parts_fault : (remaining : Option (List ℕ)) (items text profile : List ℕ) (sample : Bool) (fault : Fault) → IfSome remaining (λ bytes. items ≡ bytes) → text ≡ items → IsText items → IsRefused (parts_of sample profile text) fault → IfSome remaining (λ input. HasCheckFault sample profile input fault)
 parts_fault None items text profile sample fault known same is_text refused = tt
 parts_fault (Some input) items text profile sample fault known same is_text refused =
     subst (λ i. HasCheckFault sample profile i fault) known
-    (text_fault profile items sample fault is_text (subst (λ t. HasPartsFault (parts_of sample profile t) fault) same refused))
+    (text_fault profile items sample fault is_text (subst (λ t. IsRefused (parts_of sample profile t) fault) same refused))
 
 -- a body that is read is not refused as unreadable
 pub not_read : (answer : Result Bool Fault) (refusal : TraceError) (A : Type 0) → answer ≡ Err (trace_fault_of refusal) → refusal ≢ error.Read → answer ≡ Err faults.Read → A

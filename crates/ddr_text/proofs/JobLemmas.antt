@@ -115,7 +115,7 @@ names : list_all (λ s. is_subcommand s.name) (built ddr_app).subs ≡ true
 unfolding ddr_app
 names = refl
 
--- the subcommand that was met is one of four
+-- the subcommand that was met is one of five
 pub met_named : (words : List Text) (name : Text) (options : List Row) → subcommand_of ddr_app words ≡ Some (name, options) → IsTrue (is_subcommand name)
 met_named words name options met = entered_named (built ddr_app) _ name options names met
 
@@ -145,7 +145,7 @@ samples_alike = (
   (like_same _ _ refl refl refl, (like_other _ _ refl refl, (like_other _ _ refl refl, tt))),
   (
     (like_same _ _ refl refl refl, (like_other _ _ refl refl, tt)),
-    ((like_same _ _ refl refl refl, (like_other _ _ refl refl, tt)), ((like_same _ _ refl refl refl, (like_other _ _ refl refl, tt)), tt)),
+    ((like_same _ _ refl refl refl, (like_other _ _ refl refl, tt)), ((like_same _ _ refl refl refl, (like_other _ _ refl refl, tt)), ((like_same _ _ refl refl refl, (like_other _ _ refl refl, tt)), tt))),
   ),
 )
 
@@ -155,7 +155,7 @@ traces_alike = (
   (like_other _ _ refl refl, (like_same _ _ refl refl refl, (like_other _ _ refl refl, tt))),
   (
     (like_other _ _ refl refl, (like_other _ _ refl refl, tt)),
-    ((like_other _ _ refl refl, (like_other _ _ refl refl, tt)), ((like_other _ _ refl refl, (like_other _ _ refl refl, tt)), tt)),
+    ((like_other _ _ refl refl, (like_other _ _ refl refl, tt)), ((like_other _ _ refl refl, (like_other _ _ refl refl, tt)), ((like_other _ _ refl refl, (like_other _ _ refl refl, tt)), tt))),
   ),
 )
 

@@ -1,9 +1,10 @@
 -- The text of a map.
-use Rattle.std.proofs.Common.{◌≡◌, ℕ, ◌+◌, ◌*◌, ◌<◌, ◌≤◌, Bool, true, false, List, [], ◌∷◌, ◌++◌, length, get_or, drop, Option, Some, None, Result, Ok, Err, refl, sym, subst, ap, ◌∙◌, IfErr, IfSome, OnOk, append_assoc, arith}
+use Rattle.std.proofs.Common.{◌≡◌, ◌≢◌, ℕ, ◌+◌, ◌*◌, ◌<◌, ◌≤◌, Bool, true, false, List, [], ◌∷◌, ◌++◌, length, get_or, drop, Option, Some, None, Result, Ok, Err, refl, sym, subst, ap, ◌∙◌, IfErr, IfSome, OnOk, append_assoc, arith}
 use Rattle.std.specs.Fmt.{decimal}
 use Rattle.std.specs.Io.KnownBytes.{Appends}
 use Rattle.std.specs.Option.{option_map_or}
 use Rattle.ddr_text.specs.Input.{IsText}
+use Rattle.std.proofs.lemmas.Bool.{ne_eqb}
 use Rattle.std.proofs.lemmas.List.{at_drop_more, at_drop_all}
 use Rattle.ddr_timing.specs.declared.geometry.Geometry.{Geometry}
 use Rattle.ddr_timing.specs.declared.units.TheConstants.{LINE_COLUMNS}
@@ -22,11 +23,17 @@ pub address_text-out : (shape : Geometry) (addr : ℕ) → place_of shape addr �
 unfolding address_text
 address_text-out shape addr out = rw out (sym (append_assoc (decimal addr) (32 ∷ 111 ∷ 117 ∷ 116 ∷ []) (10 ∷ [])))
 
--- in the memory
-pub address_text-in : (shape : Geometry) (addr : ℕ) (p : Place) → place_of shape addr ≡ Some p
+-- in the memory, under version 2
+pub address_text-ranked : (shape : Geometry) (addr : ℕ) (p : Place) → place_of shape addr ≡ Some p → shape.version ≡ 2
+    → decimal addr ++ (32 ∷ (decimal p.channel ++ (32 ∷ (decimal p.rank ++ (32 ∷ (decimal p.group ++ (32 ∷ (decimal p.bank ++ (32 ∷ (decimal p.row ++ (32 ∷ (decimal (LINE_COLUMNS * p.line) ++ (32 ∷ (decimal p.offset ++ (10 ∷ []))))))))))))))) ≡ address_text shape addr
+unfolding address_text
+address_text-ranked shape addr p at second = rw (at, second) (sym (simp append_assoc))
+
+-- and under version 1
+pub address_text-in : (shape : Geometry) (addr : ℕ) (p : Place) → place_of shape addr ≡ Some p → shape.version ≢ 2
     → decimal addr ++ (32 ∷ (decimal p.channel ++ (32 ∷ (decimal p.group ++ (32 ∷ (decimal p.bank ++ (32 ∷ (decimal p.row ++ (32 ∷ (decimal (LINE_COLUMNS * p.line) ++ (32 ∷ (decimal p.offset ++ (10 ∷ []))))))))))))) ≡ address_text shape addr
 unfolding address_text
-address_text-in shape addr p at = rw at (sym (simp append_assoc))
+address_text-in shape addr p at first = rw (at, ne_eqb shape.version 2 first) (sym (simp append_assoc))
 
 -- the next line
 at_line : (shape : Geometry) (texts : List (List ℕ)) (count n : ℕ) (old line : List ℕ) (next : Option (List ℕ)) → count ≡ n → (n < length texts) × (line ≡ get_or texts n line) → line_text shape line ≡ next

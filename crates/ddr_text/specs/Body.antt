@@ -1,14 +1,13 @@
 -- The two parts of an input: a configuration, and a body behind the first line `---`.
-use Rattle.std.specs.Prelude.{◌≡◌, ◌≢◌, ℕ, Bool, ◌||◌, ◌==◌, ◌⊎◌, if◌then◌else◌, List, [], ◌∷◌, ◌++◌, codes, Option, Some, None, IsSomeAnd, option_map}
+use Rattle.std.specs.Prelude.{◌≡◌, ◌≢◌, ℕ, Bool, ◌||◌, ◌==◌, if◌then◌else◌, List, [], ◌∷◌, ◌++◌, codes, Option, Some, None, IsSomeAnd, option_map}
 use Rattle.std.specs.List.{join_with_byte, list_any, slice_split}
 use Rattle.std.specs.Str.{bytes_eq}
 use Rattle.std.specs.Str.Lines.{lines}
 use Rattle.toml.specs.Parse.{parse_document}
 use Rattle.ddr_timing.specs.Refusals.{refusal_of}
 use Rattle.ddr_timing.specs.declared.config.Config.{Config}
-use Rattle.ddr_text.specs.declared.body.TheConstants.{SERVED}
 use Rattle.ddr_text.specs.declared.fault.Fault.{Fault}
-use Rattle.ddr_text.specs.declared.fault.Fault.TheVariants.{ConfigUnserved, InputHasNoMark, InputNotUtf8, InputTooLong, OutOfMemory}
+use Rattle.ddr_text.specs.declared.fault.Fault.TheVariants.{InputHasNoMark, InputNotUtf8, InputTooLong, OutOfMemory}
 use Rattle.ddr_text.specs.Fault.{fault_of}
 use Rattle.ddr_text.specs.Input.{IsNoText, IsText, IsTooLong}
 use Rattle.ddr_timing.specs.Values.{IsReadAs}
@@ -39,41 +38,23 @@ abbrev pub IsConfig : List ℕ → Config → Type 0
 IsConfig text config = IsReadAs (parse_document text) config
 
 -- the configuration is what the first part says, and the body is the second
-abbrev pub AreParts : Option (List ℕ × List ℕ) → Config → List ℕ → Type 0
-AreParts parts config body = IsSomeAnd parts (λ p. IsConfig p.0 config × (body ≡ p.1))
-
--- the parts are read, and the configuration is of the version that every command serves
 abbrev pub IsOpened : Option (List ℕ × List ℕ) → Config → List ℕ → Type 0
-IsOpened parts config body = AreParts parts config body × (config.geometry.version ≡ SERVED)
-
--- the parts are read, and the configuration is of another version
-abbrev pub IsUnserved : Option (List ℕ × List ℕ) → Type 0
-IsUnserved parts = (config : Config) × (body : List ℕ) × AreParts parts config body × (config.geometry.version ≢ SERVED)
+IsOpened parts config body = IsSomeAnd parts (λ p. IsConfig p.0 config × (body ≡ p.1))
 
 -- the first refusal of the configuration is this fault, or memory ran out
 abbrev pub HasConfigFault : List ℕ → Fault → Type 0
 HasConfigFault text fault = fault ≢ OutOfMemory → option_map fault_of (refusal_of (parse_document text)) ≡ Some fault
 
 -- there are no parts, or the configuration has this fault
-abbrev pub HasPartsFault : Option (List ℕ × List ℕ) → Fault → Type 0
-HasPartsFault None fault = fault ≡ InputHasNoMark
-HasPartsFault (Some p) fault = HasConfigFault p.0 fault
-
--- the parts have this fault, or they are read, and the fault is their version
 abbrev pub IsRefused : Option (List ℕ × List ℕ) → Fault → Type 0
-IsRefused parts fault = HasPartsFault parts fault ⊎ ((fault ≡ ConfigUnserved) × IsUnserved parts)
+IsRefused None fault = fault ≡ InputHasNoMark
+IsRefused (Some p) fault = HasConfigFault p.0 fault
 
 -- some line of the text is `---`
 abbrev pub has_mark : List ℕ → Bool
 has_mark text = list_any (λ line. bytes_eq line (codes "---")) (lines text)
 
 -- the input has this fault whatever its body is for: its length is looked at first, then its bytes, then its two parts
-abbrev pub HasReadFault : Bool → List ℕ → List ℕ → Fault → Type 0
-HasReadFault sample profile input InputTooLong = IsTooLong input
-HasReadFault sample profile input InputNotUtf8 = IsNoText input
-HasReadFault sample profile input fault = IsText input × HasPartsFault (parts_of sample profile input) fault
-
--- so for a command that does not serve version 2, which is looked at last
 abbrev pub HasInputFault : Bool → List ℕ → List ℕ → Fault → Type 0
 HasInputFault sample profile input InputTooLong = IsTooLong input
 HasInputFault sample profile input InputNotUtf8 = IsNoText input

@@ -27,7 +27,6 @@ is_before_output faults.ConfigUnknownKey = true
 is_before_output (faults.ConfigRange key) = true
 is_before_output (faults.ConfigNotPowerOfTwo key) = true
 is_before_output (faults.ConfigRelation n) = true
-is_before_output faults.ConfigUnserved = true
 is_before_output faults.InputTooLong = true
 is_before_output faults.InputNotUtf8 = true
 is_before_output faults.InputHasNoMark = true

@@ -13,7 +13,7 @@ use Rattle.clap.specs.declared.builder.value_parser.ValueParser.TheVariants as p
 use Rattle.clap.specs.declared.error.Error.{Error}
 use Rattle.clap.specs.declared.error.kind.ErrorKind.TheVariants.{OutOfMemory}
 use Rattle.ddr_text.specs.declared.command.Job.{Job}
-use Rattle.ddr_text.specs.declared.command.Job.TheVariants.{Sim, Run, Check, Map}
+use Rattle.ddr_text.specs.declared.command.Job.TheVariants.{Sim, Run, Check, Map, Lint}
 
 -- the flag `--sample`
 abbrev pub sample_rule : Rule
@@ -36,13 +36,14 @@ abbrev pub name_alone : App
 name_alone = let app = new_app (codes "ddr") in
     record app { top = record app.top { subcommand_required = true; disable_help_subcommand = true } }
 
--- the command line: one of four subcommands
+-- the command line: one of five subcommands
 unfoldable pub ddr_app : App
 ddr_app =
     let sim = with_subcommand name_alone (with_rule (with_sample (codes "sim")) trace_rule).top in
     let run = with_subcommand sim (with_sample (codes "run")).top in
     let check = with_subcommand run (with_sample (codes "check")).top in
-    with_subcommand check (with_sample (codes "map")).top
+    let map = with_subcommand check (with_sample (codes "map")).top in
+    with_subcommand map (with_sample (codes "lint")).top
 
 -- whether the flag was used
 abbrev pub is_sample : List Row → Bool
@@ -63,7 +64,7 @@ pub record AreTaken (options : List Row) : Type 0 where
   pub trace : IfSome (one_of (codes "trace") options) (IsTaken (filled trace_rule))
 
 abbrev pub is_subcommand : Text → Bool
-is_subcommand name = bytes_eq name (codes "sim") || bytes_eq name (codes "run") || bytes_eq name (codes "check") || bytes_eq name (codes "map")
+is_subcommand name = bytes_eq name (codes "sim") || bytes_eq name (codes "run") || bytes_eq name (codes "check") || bytes_eq name (codes "map") || bytes_eq name (codes "lint")
 
 -- the job of a subcommand with these options
 abbrev pub job_with : Text → List Row → Job
@@ -71,7 +72,8 @@ job_with name options =
     if bytes_eq name (codes "sim") then Sim (is_sample options) (channel_of options)
     else if bytes_eq name (codes "run") then Run (is_sample options)
     else if bytes_eq name (codes "check") then Check (is_sample options)
-    else Map (is_sample options)
+    else if bytes_eq name (codes "map") then Map (is_sample options)
+    else Lint (is_sample options)
 
 -- the kinds of error that the command line gives at the words, and where it gives none the job; a subcommand is required
 abbrev pub job_or : Kinds → Option (Text × List Row) → Result Job Kinds

@@ -17,14 +17,19 @@ use Rattle.ddr_text.specs.Body.{HasInputFault, IsOpened, parts_of}
 use Rattle.ddr_text.specs.Input.{IsText}
 use Rattle.ddr_text.specs.Script.{LARGEST}
 
+-- the rank of a place, of which version 1 says nothing
+abbrev pub rank_of : Geometry → Place → List ℕ
+rank_of shape p = if shape.version == 2 then p.rank ∷ [] else []
+
 -- an address and its place
-abbrev pub words_of : ℕ → Option Place → List (List ℕ)
-words_of addr None = decimal addr ∷ codes "out" ∷ []
-words_of addr (Some p) = map decimal (addr ∷ p.channel ∷ p.group ∷ p.bank ∷ p.row ∷ LINE_COLUMNS * p.line ∷ p.offset ∷ [])
+abbrev pub words_of : Geometry → ℕ → Option Place → List (List ℕ)
+words_of shape addr None = decimal addr ∷ codes "out" ∷ []
+words_of shape addr (Some p) =
+    map decimal (addr ∷ p.channel ∷ (rank_of shape p ++ p.group ∷ p.bank ∷ p.row ∷ LINE_COLUMNS * p.line ∷ p.offset ∷ []))
 
 -- the line that is written for an address
 unfoldable pub address_text : Geometry → ℕ → List ℕ
-address_text shape addr = join_with_byte 32 (words_of addr (place_of shape addr)) ++ 10 ∷ []
+address_text shape addr = join_with_byte 32 (words_of shape addr (place_of shape addr)) ++ 10 ∷ []
 
 -- what is written for a line of the body, if it is empty or an address
 abbrev pub line_text : Geometry → List ℕ → Option (List ℕ)

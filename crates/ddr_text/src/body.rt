@@ -3,42 +3,24 @@
 //! `fault` and `ddr_timing` stand below; every command takes its input apart by this.
 ghost use Rattle.std.specs.Prelude.{◌≡◌, ◌≤◌, ◌++◌, ◌∷◌, IfErr, IfOk, None, Some, false, length};
 ghost use Rattle.std.specs.Str.Lines.{lines};
-ghost use Rattle.ddr_text.specs.Body.{AreParts, HasConfigFault, HasPartsFault, IsConfig, IsOpened, IsRefused, has_mark, is_mark, parts_of, split_of};
+ghost use Rattle.ddr_text.specs.Body.{HasConfigFault, IsConfig, IsOpened, IsRefused, has_mark, is_mark, parts_of, split_of};
 
 use crate::fault::Fault;
 use ddr_timing::config::Config;
 use ddr_timing::profile::PROFILE_S;
 use std::alloc::Global;
 
-/// The version of a configuration that every command serves; `check` alone serves the other.
-pub const SERVED: u32 = 1;
-
 /// The line that ends a configuration.
 const MARK: &str = "---";
-
-/// The configuration of an input, of a version that every command serves, and the input's body.
-///
-/// Fails as `read_parts` does, and then as `ConfigUnserved` where the configuration is of version 2.
-pub fn open(alloc: Global, sample: bool, text: &str) -> Result<(Config, &str), Fault>
-    ensures opened { IfOk result (λ opened. IsOpened (parts_of sample PROFILE_S.now text.now) opened.0 opened.1.now) }
-    ensures short { IfOk result (λ opened. length opened.1.now ≤ length text.now) }
-    ensures refused { IfErr result (IsRefused (parts_of sample PROFILE_S.now text.now)) }
-{
-    let (config, body) = read_parts(alloc, sample, text)?;
-    if config.geometry.version != SERVED {
-        return Err(Fault::ConfigUnserved);
-    }
-    Ok((config, body))
-}
 
 /// The configuration of an input, of either version, and the input's body.
 ///
 /// With `sample` the configuration is the sample and the whole text is the body; else the text has both parts.
 /// Fails as `InputHasNoMark` where it has not, then by the first refusal of the configuration, and as `OutOfMemory`.
-pub fn read_parts(alloc: Global, sample: bool, text: &str) -> Result<(Config, &str), Fault>
-    ensures parts { IfOk result (λ read. AreParts (parts_of sample PROFILE_S.now text.now) read.0 read.1.now) }
-    ensures short { IfOk result (λ read. length read.1.now ≤ length text.now) }
-    ensures refused { IfErr result (HasPartsFault (parts_of sample PROFILE_S.now text.now)) }
+pub fn open(alloc: Global, sample: bool, text: &str) -> Result<(Config, &str), Fault>
+    ensures opened { IfOk result (λ opened. IsOpened (parts_of sample PROFILE_S.now text.now) opened.0 opened.1.now) }
+    ensures short { IfOk result (λ opened. length opened.1.now ≤ length text.now) }
+    ensures refused { IfErr result (IsRefused (parts_of sample PROFILE_S.now text.now)) }
 {
     let (config, body) = if sample {
         (PROFILE_S, text)

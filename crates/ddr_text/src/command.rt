@@ -13,4 +13,6 @@ pub enum Job {
     Check { sample: bool },
     /// Says where addresses lie.
     Map { sample: bool },
+    /// Tells what is at fault in a configuration, and what is strange.
+    Lint { sample: bool },
 }

@@ -26,9 +26,6 @@ pub enum Fault {
     ConfigNotPowerOfTwo { key: Key },
     #[error("config Relation {n}")]
     ConfigRelation { n: u32 },
-    /// The configuration is one of version 2, which only `check` serves.
-    #[error("config Unserved")]
-    ConfigUnserved,
     /// The input has more than 16,777,216 bytes.
     #[error("input too long")]
     InputTooLong,
@@ -115,7 +112,6 @@ impl Fault {
             | Fault::ConfigRange { .. }
             | Fault::ConfigNotPowerOfTwo { .. }
             | Fault::ConfigRelation { .. }
-            | Fault::ConfigUnserved
             | Fault::InputTooLong
             | Fault::InputNotUtf8
             | Fault::InputHasNoMark

@@ -63,3 +63,16 @@ Status: 0; 2 for a bad input or command line; 3 where the device or the memory f
 
 To paste:
   echo 100000 | ./ddr map --sample";
+
+/// Behind the help of `lint`.
+pub const LINT: &str = "\
+Input: a configuration; what stands behind a line `---` is not looked at. With --sample
+  the sample configuration is looked through, and nothing is read.
+Output: a line for each finding, the faults first: each key that is missing, each value
+  out of its range, each unknown key with the nearest known one, and each broken relation
+  with both of its sides; then warnings of values that are accepted, and yet strange.
+Status: 0 where nothing is found; 1 where there are warnings alone; 2 for a fault, or a bad
+  input or command line; 3 where the device or the memory fails.
+
+To paste:
+  ./ddr lint < examples/spread.config";

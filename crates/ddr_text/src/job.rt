@@ -13,7 +13,7 @@ use std::alloc::{AllocError, Global};
 
 /// The job that the words of a command line state, of which the first is the program's name.
 ///
-/// The subcommands are `sim`, `run`, `check` and `map`. Each has the flag `--sample`, and `sim` the option `--trace C` with
+/// The subcommands are `sim`, `run`, `check`, `map` and `lint`. Each has the flag `--sample`, and `sim` the option `--trace C` with
 /// the number of a channel, a `u32`. No words, or the name alone, are read as `sim --sample`.
 ///
 /// Fails with an error of `clap`, whose `Display` is the text for the user, where the words are of another form,
@@ -50,6 +50,7 @@ fn job_with(name: &str, options: &ArgMatches<'_>) -> Job
         "run" => Job::Run { sample },
         "check" => Job::Check { sample },
         "map" => Job::Map { sample },
+        "lint" => Job::Lint { sample },
         _ => unreachable!(),
     }
 }
@@ -90,7 +91,14 @@ fn command<'a>(alloc: Global) -> Result<Command<'a>, AllocError>
         "Checks a trace of commands",
         help::CHECK,
     )?;
-    with_one(alloc, check, "map", "Says where addresses lie", help::MAP)
+    let map = with_one(alloc, check, "map", "Says where addresses lie", help::MAP)?;
+    with_one(
+        alloc,
+        map,
+        "lint",
+        "Looks through a configuration",
+        help::LINT,
+    )
 }
 
 /// The program before its subcommands, one of which has to follow. It has no subcommand `help`: help is asked for by

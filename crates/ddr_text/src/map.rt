@@ -22,8 +22,8 @@ use std::alloc::{AllocError, Global};
 ///
 /// With `sample` the whole input is the body of addresses, on the sample configuration; else the input is a
 /// configuration, a line `---` and the body. An address is a decimal number of 1 to 20 digits below 2^64, in bytes.
-/// For each one line is written: `ADDR CHANNEL GROUP BANK ROW COL OFFSET`, where `COL` counts device columns and
-/// `OFFSET` bytes, or `ADDR out` from the capacity on. Empty lines are skipped.
+/// For each one line is written: `ADDR CHANNEL GROUP BANK ROW COL OFFSET`, under version 2 with `RANK` behind `CHANNEL`,
+/// where `COL` counts device columns and `OFFSET` bytes, or `ADDR out` from the capacity on. Empty lines are skipped.
 ///
 /// Fails as `open` does, as `MapLine` at the first line that is no address, and as `Write` where the writer fails, and so
 /// never over bytes in memory. Nothing is written before the whole text is there, so only `Write` may leave a part of it.
@@ -81,7 +81,7 @@ fn line_text(alloc: Global, map: &Map, line: &str) -> Result<String, LineError>
     Ok(address_text(alloc, map, addr)?)
 }
 
-/// The line of an address, with its line feed.
+/// The line of an address, with its line feed. Only version 2 has a word for the rank.
 #[tactic(auto, unfolding(crate::specs::MapText::address_text))]
 fn address_text(alloc: Global, map: &Map, addr: u64) -> Result<String, AllocError>
     ensures { IfOk result (λ text. string_bytes text ≡ address_text map.now.geometry addr) }
@@ -95,5 +95,11 @@ fn address_text(alloc: Global, map: &Map, addr: u64) -> Result<String, AllocErro
     let row = place.row;
     let column = u64::from(LINE_COLUMNS) * u64::from(place.line);
     let offset = place.offset;
+    if map.geometry.version == 2 {
+        let rank = place.rank;
+        return format!(in alloc;
+            "{addr} {channel} {rank} {group} {bank} {row} {column} {offset}\n"
+        );
+    }
     format!(in alloc; "{addr} {channel} {group} {bank} {row} {column} {offset}\n")
 }

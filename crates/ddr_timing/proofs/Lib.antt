@@ -1,2 +1,3 @@
+pub mod BankNumbers
 pub mod Orders
 pub mod Ranges

@@ -1,5 +1,5 @@
 -- What a key holds in a table whose values are all in their domains.
-use Rattle.std.proofs.Common.{◌≡◌, ℕ, ◌<◌, ◌≤◌, pos, Bool, true, false, ◌&&◌, ◌||◌, not, nat_le, nat_lt, nat_eq, cond, ◌⊎◌, List, [], ◌∷◌, length, get_or, zero, suc, Option, Some, None, lit<, refl, sym, ap, inl, inr, arith}
+use Rattle.std.proofs.Common.{◌≡◌, ℕ, ◌<◌, ◌≤◌, pos, Bool, true, false, ◌&&◌, ◌||◌, not, nat_le, nat_lt, cond, ◌⊎◌, List, [], ◌∷◌, length, get_or, zero, suc, Option, Some, None, lit<, refl, sym, ap, inl, inr, arith}
 use Rattle.std.specs.Prelude.{IsSome, ◌==◌, find, option_and_then}
 use Rattle.std.specs.Option.{option_map_or}
 use Rattle.std.proofs.lemmas.Bool.Decides.{nat_tests}
@@ -12,7 +12,7 @@ use Rattle.ddr_timing.specs.declared.key.Domain.{Domain}
 use Rattle.ddr_timing.specs.declared.key.Domain.TheVariants.{Within, PowerOfTwo, TwoOrFour, Order, Flag}
 use Rattle.std.specs.Int.{is_power_of_two}
 use Rattle.ddr_timing.specs.declared.geometry.Digit.{Digit}
-use Rattle.ddr_timing.specs.Order.{each_once, text_of, whole_text}
+use Rattle.ddr_timing.specs.Order.{each_once, whole_text}
 use Rattle.ddr_timing.proofs.Orders.{order_of-once, text_of-order_of}
 use Rattle.ddr_timing.specs.Keys.{domain_of, first_keys, has_key, keys}
 use Rattle.ddr_timing.specs.Refusals.{is_no_power, is_out_of_range, not_power_of_two, out_of_range}

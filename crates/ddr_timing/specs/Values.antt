@@ -1,5 +1,5 @@
 -- A configuration has the values of its table, each under its key.
-use Rattle.std.specs.Prelude.{◌≡◌, ℕ, List, Bool, ◌&&◌, ◌==◌, Option, Some, None, IfSome, if◌then◌else◌}
+use Rattle.std.specs.Prelude.{◌≡◌, ℕ, List, ◌&&◌, ◌==◌, Option, Some, None, IfSome, if◌then◌else◌}
 use Rattle.toml.specs.Data.{Data, Members, string}
 use Rattle.ddr_timing.specs.declared.config.Config.{Config}
 use Rattle.ddr_timing.specs.declared.geometry.Digit.{Digit}

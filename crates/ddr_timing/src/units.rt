@@ -9,6 +9,9 @@ pub const LINE_COLUMNS: u32 = 8;
 /// The banks of a bank group (JESD79-4, addressing of x8 and x16 devices).
 pub const GROUP_BANKS: u32 = 4;
 
+/// The most bank groups of a rank (JESD79-4, addressing of x8 devices).
+pub const MOST_GROUPS: u32 = 4;
+
 /// The clocks that a burst is on the data bus: 8 beats, two a clock.
 pub const BURST_CLOCKS: u32 = 4;
 

@@ -9,5 +9,6 @@ pub mod LowestLemmas
 pub mod NumberLemmas
 pub mod ReadLemmas
 pub mod RefusalLemmas
+pub mod SpacingLemmas
 pub mod TextLemmas
 pub mod WindowLemmas

@@ -1,7 +1,8 @@
-//! The checker: which rule an entry breaks after its history, and the first fault of a trace.
+//! The reference checker: which rule an entry breaks after its history, and the first fault of a trace.
 //!
-//! It is a plain scan of the whole history, and keeps no state from one entry to the next. Below stand
-//! `banks`, `spacing`, `window` and `ranks`, one function for each kind of rule.
+//! It is a plain scan of the whole history, and keeps no state from one entry to the next. The checker of `ddr_legality`
+//! has the same contract and goes through a trace once. Below stand `banks`, `spacing`, `window` and `ranks`, one
+//! function for each kind of rule.
 ghost use Rattle.std.specs.Prelude.{◌≡◌, ◌↔◌, IfNone, IfSome, IsNone};
 ghost use Rattle.ddr_trace.specs.Bus.{KeepsBus};
 ghost use Rattle.ddr_trace.specs.Rules.{breaks};
@@ -20,9 +21,10 @@ pub struct Fault {
     pub rule: Rule,
 }
 
-/// The lowest place of the trace that breaks a rule, with the lowest rule broken there. The trace goes from
-/// `start` to `end`, which is the first cycle behind it. Each entry is compared with every entry before it.
-/// In a trace with no fault no two bursts overlap on the data bus.
+/// The reference checker: the lowest place of the trace that breaks a rule, with the lowest rule broken there. The trace
+/// goes from `start` to `end`, which is the first cycle behind it. Each entry is compared with every entry before it;
+/// `first_fault` of `ddr_legality` has the same contract, in one pass. In a trace with no fault no two bursts overlap on
+/// the data bus.
 pub fn first_fault(entries: &[Entry], config: &Config, start: u64, end: u64) -> Option<Fault>
     ensures none { IsNone result
         ↔ (IsLegal config.now start end entries.now × IsRefreshed config.now start end entries.now) }

@@ -161,7 +161,8 @@ impl Command {
         matches!(self, Command::Refresh { .. })
     }
 
-    pub(crate) fn rank(&self) -> u32
+    /// The rank that the command is of.
+    pub fn rank(&self) -> u32
         ensures { result ≡ rank_of self.now }
     {
         match *self {

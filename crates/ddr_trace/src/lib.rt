@@ -2,9 +2,10 @@
 //! fault, and the text in which traces are kept.
 //!
 //! Below stands `ddr_timing`. `command` is one command with its cycle, and `bank` what commands make of one bank;
-//! `rule` names the rules, which `specs/Rules.antt` defines; `checker` finds the first fault, over `banks`, `spacing`,
-//! `window` and `ranks`, one for each kind of rule; `refresh` says when a REF comes too late; `trace` is a whole trace;
-//! `text` writes one, and `reader` reads one, record by record with `parse`; `number` reads decimal digits.
+//! `rule` names the rules, which `specs/Rules.antt` defines; `spacing` has the table of those on two commands; `checker`, the
+//! reference, finds the first fault, over `banks`, `spacing`, `window` and `ranks`, one for each kind of rule; `refresh`
+//! says when a REF comes too late; `trace` is a whole trace; `text` writes one, and `reader` reads one, record by record
+//! with `parse`; `number` reads decimal digits.
 #![tactic(auto)]
 
 pub mod bank;
@@ -17,7 +18,7 @@ pub mod ranks;
 pub mod reader;
 pub mod refresh;
 pub mod rule;
-mod spacing;
+pub mod spacing;
 pub mod text;
 pub mod trace;
 mod window;

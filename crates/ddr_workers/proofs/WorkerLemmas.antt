@@ -331,19 +331,21 @@ tried_empty w t before none =
 
 owner_accepted : (c : Choice) (h : History) → (with_owner c h).accepted ≡ h.accepted
 owner_accepted choice.Nothing h = refl
-owner_accepted choice.Refresh h = refl
-owner_accepted choice.PreAll h = refl
+owner_accepted (choice.Refresh rank) h = refl
+owner_accepted (choice.PreAll rank) h = refl
 owner_accepted (choice.Act place) h = refl
 owner_accepted (choice.Pre place) h = refl
 owner_accepted (choice.Column place) h = refl
+owner_accepted (choice.ColumnAuto place) h = refl
 
 owner_popped : (c : Choice) (h : History) → (with_owner c h).popped ≡ h.popped
 owner_popped choice.Nothing h = refl
-owner_popped choice.Refresh h = refl
-owner_popped choice.PreAll h = refl
+owner_popped (choice.Refresh rank) h = refl
+owner_popped (choice.PreAll rank) h = refl
 owner_popped (choice.Act place) h = refl
 owner_popped (choice.Pre place) h = refl
 owner_popped (choice.Column place) h = refl
+owner_popped (choice.ColumnAuto place) h = refl
 
 if_alike : {X : Type 0} (b : Bool) (x y : History) (f : History → X) → f y ≡ f x → f (cond b x y) ≡ f x
 if_alike true x y f same = refl

@@ -1,5 +1,5 @@
 -- What `all` answers of a test that decides a fact.
-use Rattle.std.proofs.Common.{◌≡◌, ℕ, ◌<◌, ◌↔◌, Bool, true, false, List, length, All, IsTrue, refl}
+use Rattle.std.proofs.Common.{ℕ, ◌<◌, ◌↔◌, Bool, true, false, List, length, All, IsTrue, refl}
 use Rattle.std.specs.Bool.{MatchBool}
 use Rattle.std.specs.List.{AllWithin, HoldsAt}
 use Rattle.std.proofs.lemmas.Bool.{false≢true}

@@ -209,11 +209,12 @@ over_end_by o h p c (Some port) k drained there = over_end o h p c port (slice_g
 only_refresh : (c : Choice) (s : channel_state.State) → s.pending ≡ [] → IfSome (place_of c) (λ place. place < length s.pending)
     → ((issued c s).pending ≡ []) × ((issued c s).flight ≡ s.flight) × ((issued c s).done ≡ s.done) × AddsRefresh s.trace (issued c s).trace
 only_refresh choice.Nothing s empty within = (empty, refl, refl, inl refl)
-only_refresh choice.Refresh s empty within = (empty, refl, refl, inr (entry s.now refresh, refl, refl))
-only_refresh choice.PreAll s empty within = (empty, refl, refl, inr (entry s.now precharge_all, refl, refl))
+only_refresh (choice.Refresh rank) s empty within = (empty, refl, refl, inr (entry s.now (refresh rank), refl, refl))
+only_refresh (choice.PreAll rank) s empty within = (empty, refl, refl, inr (entry s.now (precharge_all rank), refl, refl))
 only_refresh (choice.Act place) s empty within = absurd (omega (arith, within, ap length empty))
 only_refresh (choice.Pre place) s empty within = absurd (omega (arith, within, ap length empty))
 only_refresh (choice.Column place) s empty within = absurd (omega (arith, within, ap length empty))
+only_refresh (choice.ColumnAuto place) s empty within = absurd (omega (arith, within, ap length empty))
 
 cycle_drained : (side : ChannelSide) → IsChannelDrained side
     → IsChannelDrained (record side { channel = after_cycle side.channel }) × AddsRefresh side.channel.trace (after_cycle side.channel).trace

@@ -2,7 +2,7 @@
 use Rattle.std.proofs.Common.{◌≡◌, ℕ, zero, suc, ◌+◌, ◌-◌, ◌*◌, ◌/◌, ◌%◌, ◌<◌, ◌≤◌, Bool, true, false, ◌&&◌, cond, eqb, List, [], ◌∷◌, Some, map, take, drop, refl, sym, ap, ap₂, ◌∙◌, arith, bit_xor}
 use Rattle.std.specs.List.{fold, range_with_len, AllByRecursion, slice_index, slice_range}
 use Rattle.std.specs.Int.{bit_at}
-use Rattle.std.proofs.lemmas.Bool.{eqb-true, eq-eqb, and_parts}
+use Rattle.std.proofs.lemmas.Bool.{eqb-true, eq-eqb}
 use Rattle.ddr_timing.specs.declared.geometry.Digit.{Digit}
 use Rattle.ddr_timing.specs.declared.geometry.Digit.TheVariants.{Channel, Group, Bank, Column, Row, Rank}
 use Rattle.ddr_timing.specs.declared.geometry.Geometry.{Geometry}
@@ -12,6 +12,7 @@ use Rattle.ddr_address_map.specs.Requests.{Request}
 use Rattle.ddr_address_map.proofs.MapLemmas.{IsInRange-test, digits_at, address_of-inside, place-in_range, address_of-place}
 use Rattle.ddr_address_map.proofs.Radix.{number_of-same}
 use Rattle.ddr_channel.specs.Memory.{LineAddress, line_of, is_same_line, is_write_kind, writes_byte, byte_over, line_after}
+use Rattle.ddr_channel.proofs.MemoryLemmas.{same_parts, itself}
 use Rattle.ddr_reorder.specs.State.{IsWithinLine}
 use Rattle.ddr_world.proofs.PlaceLemmas.{Stands, stands}
 use Rattle.ddr_world.specs.Promise.{writes, byte_after, bytes_after}
@@ -60,29 +61,9 @@ line_number shape addr q at =
     let plain : 64 * number shape q + q.offset ≡ addr = cc in
     omega (arith, range.offset)
 
-bank_below : (shape : Geometry) (addr : ℕ) (q : Place) → Stands shape addr q → q.bank < 4
-bank_below shape addr q at =
-    let inside : in_range shape q ≡ true = ap (in_range shape) at.is ∙ place-in_range shape addr in
-    (IsInRange-test shape q inside).digits Bank
-
--- the channel serves one rank
-rank_below : (shape : Geometry) (addr : ℕ) (q : Place) → Stands shape addr q → q.rank < 1
-rank_below shape addr q at =
-    let inside : in_range shape q ≡ true = ap (in_range shape) at.is ∙ place-in_range shape addr in
-    (IsInRange-test shape q inside).digits Rank
-
 -- places of one line and one channel differ in the offset alone
-same_place : (a b : Place) → a.channel ≡ b.channel → a.rank ≡ b.rank → a.group ≡ b.group → a.bank ≡ b.bank → a.row ≡ b.row → a.line ≡ b.line → record a { offset = b.offset } ≡ b
-same_place a b channel rank group bank row line = λ i. record { channel = channel i; rank = rank i; group = group i; bank = bank i; row = row i; line = line i; offset = b.offset }
-
-same_line : (a b : LineAddress) → is_same_line a b ≡ true → (a.bank ≡ b.bank) × (a.row ≡ b.row) × (a.line ≡ b.line)
-same_line a b test =
-    let parts = and_parts (eqb a.bank b.bank) (eqb a.row b.row && eqb a.line b.line) test in
-    let rest = and_parts (eqb a.row b.row) (eqb a.line b.line) parts.1 in
-    (eqb-true a.bank b.bank parts.0, eqb-true a.row b.row rest.0, eqb-true a.line b.line rest.1)
-
-is_same_line-refl : (a : LineAddress) → is_same_line a a ≡ true
-is_same_line-refl a = rw (eq-eqb a.bank a.bank refl, eq-eqb a.row a.row refl, eq-eqb a.line a.line refl) refl
+same_place : (a b : Place) → a.channel ≡ b.channel → line_of a ≡ line_of b → record a { offset = b.offset } ≡ b
+same_place a b channel line = λ i. record { channel = channel i; rank = (line i).rank; group = (line i).group; bank = (line i).bank; row = (line i).row; line = (line i).line; offset = b.offset }
 
 -- addresses of one line, by their numbers
 line_by_number : (shape : Geometry) (f : Digit → ℕ) (m n : ℕ) → line_of (with_bank_xor shape (place_with f m)) ≡ line_of (with_bank_xor shape (place_with f n))
@@ -113,20 +94,12 @@ line_tests shape a b p q p_is q_is channel =
     let q_at = stands shape b q q_is in
     same_bool (is_same_line (line_of p) (line_of q)) (eqb (a / 64) (b / 64))
     (λ test.
-    let parts = same_line (line_of p) (line_of q) test in
-    let p_low = bank_below shape a p p_at in
-    let q_low = bank_below shape b q q_at in
-    let group : p.group ≡ q.group = omega (arith, parts.0) in
-    let bank : p.bank ≡ q.bank = omega (arith, parts.0) in
-    let p_rank = rank_below shape a p p_at in
-    let q_rank = rank_below shape b q q_at in
-    let rank : p.rank ≡ q.rank = omega (arith, p_rank, q_rank) in
-    let one = same_place p q channel rank group bank parts.1 parts.2 in
+    let one = same_place p q channel (same_parts (line_of p) (line_of q) test) in
     let same : a / 64 ≡ b / 64 = line_number shape a p p_at ∙ sym (moved_number shape p q.offset) ∙ ap (number shape) one ∙ sym (line_number shape b q q_at) in
     ap (λ n. eqb n (b / 64)) same ∙ eq-eqb (b / 64) (b / 64) refl)
     (λ test.
     let same : line_of p ≡ line_of q = ap line_of p_at.is ∙ line_of_number shape a b (eqb-true (a / 64) (b / 64) test) ∙ ap line_of (sym q_at.is) in
-    ap (λ (l : LineAddress). is_same_line l (line_of q)) same ∙ is_same_line-refl (line_of q))
+    ap (λ (l : LineAddress). is_same_line l (line_of q)) same ∙ itself (line_of q))
 
 -- a request writes a byte of the line exactly where it writes the byte of its address
 writes_alike : (shape : Geometry) (c : ℕ) (r w : Request) (k : ℕ) → IsPlaced shape c r → IsPlaced shape c w → r.echo.addr % 64 + k < 64

@@ -28,7 +28,7 @@ record_more h (first ∷ later) a is may = (is.0, record_more (after h first) la
 issued : (x : Option KeptSide) → IfSome x (λ side. IsTrue (wants_memory side.channel)) → IfSome (option_map side_of x) (λ side. Issues side.channel)
 issued None wants = tt
 issued (Some side) wants = λ nothing.
-    false≢true (subst (λ (c : Choice). IsTrue (option_map_or (needs_memory side.channel.spare side.channel.rows) (command_of side.channel.pending c) false)) nothing wants)
+    false≢true (subst (λ (c : Choice). IsTrue (option_map_or (needs_memory side.channel.config.geometry side.channel.spare side.channel.rows) (command_of side.channel.pending c) false)) nothing wants)
 
 may_want : (k : Kept) (event : Event) → WantsMemory k event → MayWantMemory (state_of k) event
 may_want k (Submit p asked) wants = tt

@@ -7,5 +7,6 @@ pub mod Answer
 pub mod History
 pub mod Promise
 pub mod Record
+pub mod Told
 pub mod Close
 pub mod View

@@ -9,6 +9,7 @@ ghost use Rattle.ddr_world.specs.Close.{trace_of};
 ghost use Rattle.ddr_world.specs.Kept.{side_of};
 ghost use Rattle.ddr_world.specs.State.{IsChannelDrained, is_busy, opened_channel};
 ghost use Rattle.ddr_world.specs.Step.{IsRefusedFor, cycled, queued, sent, taken};
+ghost use Rattle.ddr_world.specs.Told.{Tells};
 ghost use Rattle.ddr_world.specs.View.{IsServedItem};
 
 use crate::event::Refusal;
@@ -16,6 +17,7 @@ use crate::item::Item;
 use circular_buffer::HeapCircularBuffer;
 use ddr_address_map::request::Done;
 use ddr_channel::channel::Channel;
+use ddr_channel::issued::Issued;
 use ddr_timing::config::Config;
 use ddr_timing::units::CLOCK_STOP;
 use ddr_trace::trace::Trace;
@@ -98,17 +100,18 @@ impl ChannelSide {
         Ok(())
     }
 
-    /// Makes a cycle. A refusal leaves the side in the state that it was in. Memory is asked for only where a command is
-    /// issued for which there is no room.
-    pub(crate) fn cycle(&mut self) -> Result<(), Refusal>
+    /// Makes a cycle, and tells what it issued. A refusal leaves the side in the state that it was in. Memory is asked for
+    /// only where a command is issued for which there is no room.
+    pub(crate) fn cycle(&mut self) -> Result<Option<Issued>, Refusal>
         ensures ok { OnOk result (cycled (side_of self.old) ≡ Ok (side_of self.new)) }
         ensures refused { IfErr result (λ cause. IsRefusedFor cause (cycled (side_of self.old))) }
         ensures memory { IfErr result (λ cause. cause ≡ OutOfMemory → IsTrue (wants_memory self.old.channel)) }
         ensures err { OnErr result (side_of self.new ≡ side_of self.old) }
         ensures config { self.new.channel.config ≡ self.old.channel.config }
+        ensures told { IfOk result (Tells self.old.channel self.new.channel) }
     {
-        self.channel.cycle()?;
-        Ok(())
+        let issued = self.channel.cycle_observed()?;
+        Ok(issued)
     }
 
     /// The port that the oldest completion is for, if one is done.

@@ -13,6 +13,7 @@ ghost use Rattle.ddr_world.specs.History.{Answered, Opening, front_of};
 ghost use Rattle.ddr_world.specs.Kept.{side_of, state_of};
 ghost use Rattle.ddr_world.specs.Record.{IsNext, RunsTo, StandsFor};
 ghost use Rattle.ddr_world.specs.State.{IsChannelDrained, IsDrained, IsPortDrained, opened, opened_channel, opened_port};
+ghost use Rattle.ddr_world.specs.Told.{TellsOf, cycle_answer};
 
 use crate::channel_side::ChannelSide;
 use crate::event::{Event, Outcome, Refusal};
@@ -20,6 +21,7 @@ use crate::item::Item;
 use crate::port_side::PortSide;
 use arrayvec::ArrayVec;
 use ddr_channel::channel::Channel;
+use ddr_channel::issued::Issued;
 use ddr_ports::request::Request;
 use ddr_reorder::reply::Reply;
 use ddr_timing::config::Config;
@@ -123,7 +125,10 @@ impl World {
         match event {
             Event::Submit(port, request) => self.submit(port, request),
             Event::Take(channel) => self.take(channel),
-            Event::Cycle(channel) => self.cycle(channel),
+            Event::Cycle(channel) => {
+                self.cycle(channel)?;
+                Ok(Outcome::Cycled)
+            }
             Event::Deliver(channel) => self.deliver(channel),
             Event::Collect(port) => self.collect(port),
             Event::Release(port) => self.release(port),
@@ -147,6 +152,21 @@ impl World {
             }
         }
         report
+    }
+
+    /// Makes a cycle of the channel, or says why not, as `step` does by `Event::Cycle`, and tells what the channel issued:
+    /// nothing, or its trace's new entry, with the request that it serves where it is a column command.
+    pub fn cycle(&mut self, channel: u32) -> Result<Option<Issued>, Refusal>
+        ensures answer { IsAnswered self.old self.new (events.Cycle channel) (cycle_answer result) }
+        ensures told { IfOk result (TellsOf channel self.old self.new) }
+        ensures stands { (opening : Opening) (earlier : List Answered) → StandsFor self.old opening earlier
+            → StandsFor self.new opening (earlier ++ record { event = events.Cycle channel; answer = cycle_answer result } ∷ []) }
+    {
+        if !self.has_channel(channel) {
+            return Err(Refusal::NoSuch);
+        }
+        let issued = self.channels[channel as usize].cycle()?;
+        Ok(issued)
     }
 
     fn has_port(&self, port: u32) -> bool
@@ -189,17 +209,6 @@ impl World {
         }
         self.channels[channel as usize].take()?;
         Ok(Outcome::Taken)
-    }
-
-    /// The channel makes a cycle.
-    fn cycle(&mut self, channel: u32) -> Result<Outcome, Refusal>
-        ensures { IsAnswered self.old self.new (events.Cycle channel) result }
-    {
-        if !self.has_channel(channel) {
-            return Err(Refusal::NoSuch);
-        }
-        self.channels[channel as usize].cycle()?;
-        Ok(Outcome::Cycled)
     }
 
     /// The channel pushes its oldest completion on the queue of the port that it is for.

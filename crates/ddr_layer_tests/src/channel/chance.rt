@@ -256,7 +256,11 @@ impl Run {
     fn columns(&self) -> usize {
         let mut columns = 0usize;
         for entry in self.channel.trace() {
-            if let Command::Rd { .. } | Command::Wr { .. } = entry.command {
+            if let Command::Rd { .. }
+            | Command::Wr { .. }
+            | Command::RdAuto { .. }
+            | Command::WrAuto { .. } = entry.command
+            {
                 columns = columns.wrapping_add(1);
             }
         }
@@ -372,4 +376,38 @@ const TWO_GROUPS: &[(&str, &str)] = &[("groups", "groups = 2"), ("bank_xor", "ba
 #[test]
 fn calls_by_chance_in_two_groups(rt: HostRuntime) -> Result<(), Fail> {
     runs_well(&rt, rt.alloc(), TWO_GROUPS)
+}
+
+/// Two ranks: the 16 lines are two in each of two rows of two banks of two ranks.
+const TWO_RANKS: &[(&str, &str)] = &[
+    (
+        "version",
+        "version = 2\nranks = 2\nrtrs = 2\nclosed = false",
+    ),
+    ("map", "map = \"column rank bank row group channel\""),
+];
+
+#[test]
+fn calls_by_chance_on_two_ranks(rt: HostRuntime) -> Result<(), Fail> {
+    runs_well(&rt, rt.alloc(), TWO_RANKS)
+}
+
+const CLOSED_ROWS: &[(&str, &str)] = &[
+    ("version", "version = 2\nranks = 1\nrtrs = 1\nclosed = true"),
+    ("map", "map = \"column group bank row channel rank\""),
+];
+
+#[test]
+fn calls_by_chance_with_closed_rows(rt: HostRuntime) -> Result<(), Fail> {
+    runs_well(&rt, rt.alloc(), CLOSED_ROWS)
+}
+
+const CLOSED_ROWS_OF_TWO_RANKS: &[(&str, &str)] = &[
+    ("version", "version = 2\nranks = 2\nrtrs = 2\nclosed = true"),
+    ("map", "map = \"column rank bank row group channel\""),
+];
+
+#[test]
+fn calls_by_chance_with_closed_rows_of_two_ranks(rt: HostRuntime) -> Result<(), Fail> {
+    runs_well(&rt, rt.alloc(), CLOSED_ROWS_OF_TWO_RANKS)
 }

@@ -63,7 +63,7 @@ fn said_of(bus: &Legality, command: Command) -> Option<Fault> {
 }
 
 /// Whether the bus and the plain checker say the same of each command in this cycle.
-fn compare(
+pub fn compare(
     rt: &impl Abort,
     alloc: Global,
     bus: &Legality,
@@ -75,6 +75,7 @@ fn compare(
         let entries = longer(alloc, bus, *command)?;
         let fault = first_fault(&entries, config, 0, cycle + 1);
         assert_eq!(rt; said_of(bus, *command), fault, "{command:?} in {cycle}");
+        assert_eq!(rt; bus.is_legal(*command), fault.is_none(), "in {cycle}");
     }
     Ok(())
 }

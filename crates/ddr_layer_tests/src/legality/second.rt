@@ -1,6 +1,8 @@
 //! Two ranks, with the timing of profile S2: what may be issued cycle by cycle, open rows, and the first fault of whole
 //! traces.
+mod allowed;
 mod chance;
+mod every;
 
 use super::check::fault_at;
 use super::issue::wait_until;

@@ -3,10 +3,12 @@ ghost use Rattle.std.specs.Prelude.{◌≡◌, ◌<◌, IsTrue};
 ghost use Rattle.ddr_timing.specs.declared.units.TheConstants.{GROUP_BANKS};
 ghost use Rattle.ddr_trace.specs.Rules.{is_in};
 ghost use Rattle.ddr_rank.specs.Breaks.{activate_breaks, all_groups, any_active, any_auto_within, any_precharge, breaks_now, other_banks, other_groups, precharge_all_breaks, precharge_breaks, read_breaks, refresh_breaks, write_breaks};
+ghost use Rattle.ddr_rank.specs.First.{behind_autos, first_activate, first_cycle};
+ghost use Rattle.ddr_rank.specs.May.{may_activate, may_now, may_refresh};
 ghost use Rattle.ddr_rank.specs.Readiness.{fourth_activate};
 
 use super::Rank;
-use crate::cycles::{is_within, later};
+use crate::cycles::{behind, is_within, later};
 use crate::last::Kind;
 use ddr_timing::units::{BURST_CLOCKS, GROUP_BANKS};
 use ddr_trace::command::Command;
@@ -48,6 +50,114 @@ impl Rank {
             Command::PreAll { .. } => self.precharge_all_breaks(rule, cycle),
             Command::Refresh { .. } => self.refresh_breaks(rule, cycle),
         }
+    }
+
+    /// Whether the command breaks no rule, by the first cycles and the state of banks.
+    #[inline]
+    pub(super) fn may_now(&self, cycle: u64, command: &Command) -> bool
+        requires { IsTrue (is_in self.now.config.geometry command.now) }
+        ensures { result ≡ may_now self.now cycle command.now }
+    {
+        match *command {
+            Command::Act { group, bank, .. } => self.may_activate(cycle, group, bank),
+            Command::Rd {
+                group,
+                bank,
+                row,
+                ..
+            }
+            | Command::RdAuto {
+                group,
+                bank,
+                row,
+                ..
+            } => {
+                self.ready(group, bank).read <= cycle
+                    && self.bank(group, bank).ready_row() == Some(row)
+            }
+            Command::Wr {
+                group,
+                bank,
+                row,
+                ..
+            }
+            | Command::WrAuto {
+                group,
+                bank,
+                row,
+                ..
+            } => {
+                self.ready(group, bank).write <= cycle
+                    && self.bank(group, bank).ready_row() == Some(row)
+            }
+            Command::Pre { group, bank, .. } => self.ready(group, bank).precharge <= cycle,
+            Command::PreAll { .. } => self.ready_all.precharge <= cycle,
+            Command::Refresh { .. } => self.may_refresh(cycle),
+        }
+    }
+
+    #[inline(never)]
+    fn may_refresh(&self, cycle: u64) -> bool
+        ensures { result ≡ may_refresh self.now cycle }
+    {
+        self.ready_all.refresh <= cycle
+            && !self.is_active(cycle)
+            && !self.is_some_auto_within(cycle)
+    }
+
+    fn may_activate(&self, cycle: u64, group: u32, bank: u32) -> bool
+        requires group_in { group < self.now.config.geometry.groups }
+        requires bank_in { bank < GROUP_BANKS }
+        ensures { result ≡ may_activate self.now cycle group bank }
+    {
+        let t = &self.config.timing;
+        let kept = self.bank(group, bank);
+        self.ready(group, bank).activate <= cycle
+            && kept.open_row(cycle, t).is_none()
+            && !kept.is_auto_within(cycle, t)
+            && !is_within(t.faw, cycle, self.fourth_activate())
+    }
+
+    /// The first cycle in which the command keeps every distance.
+    pub(super) fn first_cycle(&self, command: &Command) -> u64
+        requires { IsTrue (is_in self.now.config.geometry command.now) }
+        ensures { result ≡ first_cycle self.now command.now }
+    {
+        match *command {
+            Command::Act { group, bank, .. } => self.first_activate(group, bank),
+            Command::Rd { group, bank, .. } | Command::RdAuto { group, bank, .. } => {
+                self.ready(group, bank).read
+            }
+            Command::Wr { group, bank, .. } | Command::WrAuto { group, bank, .. } => {
+                self.ready(group, bank).write
+            }
+            Command::Pre { group, bank, .. } => self.ready(group, bank).precharge,
+            Command::PreAll { .. } => self.ready_all.precharge,
+            Command::Refresh { .. } => self.ready_all.refresh.max(self.behind_autos()),
+        }
+    }
+
+    fn first_activate(&self, group: u32, bank: u32) -> u64
+        requires group_in { group < self.now.config.geometry.groups }
+        requires bank_in { bank < GROUP_BANKS }
+        ensures { result ≡ first_activate self.now group bank }
+    {
+        let t = &self.config.timing;
+        let window = behind(t.faw, self.fourth_activate());
+        let idle = self.bank(group, bank).behind_auto(t);
+        self.ready(group, bank).activate.max(idle.max(window))
+    }
+
+    /// RP behind the start of each bank's auto-precharge.
+    fn behind_autos(&self) -> u64
+        ensures { result ≡ behind_autos self.now.config.timing self.now.banks }
+    {
+        let t = &self.config.timing;
+        let mut end = 0;
+        for bank in &self.banks {
+            end = end.max(bank.behind_auto(t));
+        }
+        end
     }
 
     fn activate_breaks(&self, rule: Rule, cycle: u64, group: u32, bank: u32) -> bool

@@ -141,26 +141,37 @@ impl Read for Comments {
     }
 }
 
-/// How many bytes of comments are given, and how a run of them ends.
-const COMMENTS: &[(u64, Result<bool, Fault>)] = &[
-    (16_777_216, Ok(true)),
-    (16_777_217, Err(Fault::InputTooLong)),
-    (u64::MAX, Err(Fault::InputTooLong)),
+/// Commands, how many bytes of comments each is given, and how it ends.
+const COMMENTS: &[(Command, u64, Result<bool, Fault>)] = &[
+    (Command::Sim, 16_777_216, Ok(true)),
+    (Command::Sim, 16_777_217, Err(Fault::InputTooLong)),
+    (Command::Sim, u64::MAX, Err(Fault::InputTooLong)),
+    (Command::Trace(0), u64::MAX, Err(Fault::InputTooLong)),
+    (Command::Check, 16_777_217, Err(Fault::InputTooLong)),
+    (Command::Check, u64::MAX, Err(Fault::InputTooLong)),
+    (Command::Map, 16_777_217, Err(Fault::InputTooLong)),
+    (Command::Map, u64::MAX, Err(Fault::InputTooLong)),
 ];
 
-/// That a run of so many bytes of comments ends so, writes nothing and asks for no more than the longest input.
-fn ends_so_in_comments(rt: &impl Abort, alloc: Global, left: u64, wanted: Result<bool, Fault>) {
+/// That a command on so many bytes of comments ends so, writes nothing and asks for no more than the longest input.
+fn ends_so_in_comments(
+    rt: &impl Abort,
+    alloc: Global,
+    command: Command,
+    left: u64,
+    wanted: Result<bool, Fault>,
+) {
     let mut reader = Device(Comments { left, asked: 0 });
     let mut bytes = Vec::new(alloc);
-    let end = end_of(alloc, Command::Sim, true, &mut reader, &mut bytes);
+    let end = end_of(alloc, command, true, &mut reader, &mut bytes);
     assert_eq!(rt; (end, bytes.len()), (wanted, 0), "{left} bytes");
     assert!(rt; reader.0.asked <= 16_777_218, "{left} bytes");
 }
 
 #[test]
 fn inputs_that_are_too_long(rt: HostRuntime) {
-    for (left, wanted) in COMMENTS {
-        ends_so_in_comments(&rt, rt.alloc(), *left, *wanted);
+    for (command, left, wanted) in COMMENTS {
+        ends_so_in_comments(&rt, rt.alloc(), *command, *left, *wanted);
     }
 }
 

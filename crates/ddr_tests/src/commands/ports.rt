@@ -72,6 +72,14 @@ read 0 0 65535\nwrite 1 18446744073709551615 00\n",
         "refused 0 CrossesLine\nrefused 1 OutOfRange\nrefused 1 OutOfRange\n\
 refused 0 CrossesLine\nrefused 1 OutOfRange\n",
     ),
+    // The last address that a script can name, and the most bytes of a write, which no line holds.
+    (
+        Command::Sim,
+        "read 0 18446744073709551615 1\nwrite 0 0 \
+00000000000000000000000000000000000000000000000000000000000000000000000000000000000000000000000000000000000000000000000000000000\
+00000000000000000000000000000000000000000000000000000000000000000000000000000000000000000000000000000000000000000000000000000000\n",
+        "refused 0 OutOfRange\nrefused 0 CrossesLine\n",
+    ),
 ];
 
 #[test]

@@ -1,5 +1,5 @@
 //! Inputs taken apart at their mark.
-use ddr_text::body::{open, read_parts, split};
+use ddr_text::body::{open, split};
 use ddr_text::fault::Fault;
 use ddr_timing::key::Key;
 use ddr_timing::profile::{PROFILE_S, PROFILE_S2};
@@ -115,12 +115,11 @@ fn second_of(alloc: Global, line: &str) -> Result<String, AllocError> {
     Ok(text)
 }
 
-/// `open` refuses version 2, behind what else is at fault, and `read_parts` reads it.
+/// Version 2 is read, and refused where it is at fault.
 #[test]
 fn version_2(rt: HostRuntime) -> Result<(), Fail> {
     let text = second_of(rt.alloc(), "")?;
-    is_refused(&rt, rt.alloc(), text.as_str(), Fault::ConfigUnserved);
-    let (config, body) = read_parts(rt.alloc(), false, text.as_str())?;
+    let (config, body) = open(rt.alloc(), false, text.as_str())?;
     assert_eq!(rt; config.geometry.ranks, 2);
     assert_eq!(rt; body, "");
     let text = second_of(rt.alloc(), "unknown = 1\n")?;

@@ -36,7 +36,6 @@ const TOLD: &[(Fault, &str, u8)] = &[
         2,
     ),
     (Fault::ConfigRelation { n: 7 }, "config Relation 7", 2),
-    (Fault::ConfigUnserved, "config Unserved", 2),
     // Of the input.
     (Fault::InputTooLong, "input too long", 2),
     (Fault::InputNotUtf8, "input not UTF-8", 2),

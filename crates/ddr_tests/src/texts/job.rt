@@ -38,6 +38,8 @@ const JOBS: &[(&str, Job)] = &[
     ("ddr check --sample", Job::Check { sample: true }),
     ("ddr map", Job::Map { sample: false }),
     ("ddr map --sample", Job::Map { sample: true }),
+    ("ddr lint", Job::Lint { sample: false }),
+    ("ddr lint --sample", Job::Lint { sample: true }),
     // The program may have another name.
     ("/bin/model map", Job::Map { sample: false }),
 ];
@@ -95,6 +97,7 @@ const ERRORS: &[(&str, ErrorKind)] = &[
     ("ddr check --trace 0", ErrorKind::UnknownArgument),
     ("ddr map --trace=0", ErrorKind::UnknownArgument),
     ("ddr run --trace 1", ErrorKind::UnknownArgument),
+    ("ddr lint --trace 1", ErrorKind::UnknownArgument),
     ("ddr trace", ErrorKind::InvalidSubcommand),
     ("ddr SIM", ErrorKind::InvalidSubcommand),
     ("ddr ", ErrorKind::InvalidSubcommand),

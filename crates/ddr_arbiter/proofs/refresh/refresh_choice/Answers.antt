@@ -1,13 +1,26 @@
--- What is answered of REF tells whether a bank is active.
-use Rattle.std.proofs.Common.{◌∙◌}
-use Rattle.ddr_arbiter.proofs.RefreshLemmas.{refresh_legal, refresh_active, refresh_waits}
+-- The choice for the one kind of ranks, else for the other.
+use Rattle.std.proofs.Common.{◌≡◌, ◌∙◌, ◌++◌, ℕ, Bool, true, false, cond, List, sym, ap}
+use Rattle.std.specs.List.{filter}
+use Rattle.ddr_arbiter.specs.Choice.{first_choice, is_idly_forced, is_overdue, is_something, ranks_of, refresh_choice_at}
+use Rattle.ddr_arbiter.specs.declared.choice.Choice.{Choice}
+use Rattle.ddr_arbiter.proofs.PlaceLemmas.{choice_append}
 use Rattle.ddr_arbiter.proofs.refresh.refresh_choice.Goals as goal
 
-pub returns-in-Ok : goal.returns-in-Ok
-returns-in-Ok c = refresh_legal c.args.legality.now.bus c.in-Ok.ensures.lowest
+either : (f : ℕ → Choice) (xs ys : List ℕ) (w : Bool) → is_something (first_choice f xs) ≡ w → first_choice f (xs ++ ys) ≡ cond w (first_choice f xs) (first_choice f ys)
+either f xs ys w is = choice_append f xs ys ∙ ap (λ t. cond t (first_choice f xs) (first_choice f ys)) is
 
-pub returns-in-State : goal.returns-in-State
-returns-in-State c = c.precharge_all.ensures ∙ refresh_active c.args.legality.now.bus (rw c.in-State.is at c.in-Err.ensures.lowest)
+pub returns-then-is_something : goal.returns-then-is_something
+returns-then-is_something c =
+    let f = refresh_choice_at c.args.legality.now.bus in
+    let ranks = ranks_of c.args.debts.now in
+    c.overdue_choice-overdue.ensures
+    ∙ sym (either f (filter (is_overdue c.args.debts.now) ranks) (filter (is_idly_forced c.args.pending.now.waiting c.args.debts.now) ranks) true
+    (ap is_something (sym c.overdue_choice-overdue.ensures) ∙ sym c.is_something.ensures ∙ c.if-is_something.true))
 
-pub returns-in_default : goal.returns-in_default
-returns-in_default c = refresh_waits c.args.legality.now.bus c.in-Err.rule c.in_default.not-State c.in-Err.ensures.lowest
+pub returns-else-is_something : goal.returns-else-is_something
+returns-else-is_something c =
+    let f = refresh_choice_at c.args.legality.now.bus in
+    let ranks = ranks_of c.args.debts.now in
+    c.idle_choice.ensures
+    ∙ sym (either f (filter (is_overdue c.args.debts.now) ranks) (filter (is_idly_forced c.args.pending.now.waiting c.args.debts.now) ranks) false
+    (ap is_something (sym c.overdue_choice-overdue.ensures) ∙ sym c.is_something.ensures ∙ c.if-is_something.false))

@@ -14,7 +14,7 @@ use std::test::Fail;
 const TRACES: u32 = 2000;
 
 /// A command on one of four banks of a rank, or of the rank.
-fn command(chance: &mut Chance) -> Command {
+pub fn command(chance: &mut Chance) -> Command {
     let rank = chance.below(2);
     let group = chance.below(2);
     let bank = chance.below(2);

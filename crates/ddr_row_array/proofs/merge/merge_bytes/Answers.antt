@@ -2,7 +2,6 @@ use Rattle.std.proofs.Common.{◌+◌, arith, below_more}
 use Rattle.std.proofs.lemmas.Grind.{common_steps}
 use Rattle.std.proofs.lemmas.Nat.Bits.{shr_and_one}
 use Rattle.std.proofs.lemmas.Bool.Decides.{nat_tests}
-use Rattle.ddr_row_array.specs.Merge.{byte_of}
 use Rattle.ddr_row_array.proofs.merge.merge_bytes.Goals as goal
 use Rattle.ddr_row_array.proofs.merge.merge_bytes.Goals.{then-mask-start-eq1, else-mask-start-eq1}
 

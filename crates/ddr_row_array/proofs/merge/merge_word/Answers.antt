@@ -1,6 +1,5 @@
-use Rattle.std.proofs.Common.{◌≡◌, ◌/◌, ◌^◌, bit_and, refl, sym, ap, ◌∙◌, arith}
+use Rattle.std.proofs.Common.{◌≡◌, ◌/◌, ◌^◌, bit_and, refl, sym, ◌∙◌, arith}
 use Rattle.std.proofs.lemmas.List.{places}
-use Rattle.ddr_row_array.specs.Merge.{byte_of}
 use Rattle.ddr_row_array.proofs.Words.{whole_word, no_word, byte_of-set, byte_of-clear}
 use Rattle.ddr_row_array.proofs.merge.merge_word.Goals as goal
 

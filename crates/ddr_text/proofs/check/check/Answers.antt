@@ -22,7 +22,7 @@ returns-in_err-trace-clause-fault g c =
     let is_text = subst IsText c.as_slice.ensures.value text.1 in
     let p = err_from_is_err_and c.from_residual-in_err-trace.result c.from_residual-in_err-trace.ensures.1 in
     rw (p.1, p.2) (trace_fault (g.R.Read.remaining c.args.reader.now) PROFILE_S.now c.args.sample c.in_ok-config.config c.in_err-trace.field-0.0 (trace_of (records_in c.in_ok-config.body.now)) (trace_not (records_in c.in_ok-config.body.now)) c.in_err-trace.ensures.read
-    (λ other e. trace_said (g.R.Read.remaining c.args.reader.now) c.in_ok-input.input.items c.in_ok-text.text.now PROFILE_S.now c.args.sample c.in_ok-config.config c.in_ok-config.body.now other c.in_ok-input.ensures.all same is_text c.in_ok-config.ensures.parts e))
+    (λ other e. trace_said (g.R.Read.remaining c.args.reader.now) c.in_ok-input.input.items c.in_ok-text.text.now PROFILE_S.now c.args.sample c.in_ok-config.config c.in_ok-config.body.now other c.in_ok-input.ensures.all same is_text c.in_ok-config.ensures.opened e))
 
 pub returns-in_err-trace-clause-sure : goal.returns-in_err-trace-clause-sure
 returns-in_err-trace-clause-sure g c =
@@ -40,7 +40,7 @@ returns-clause-written g c =
     let same = text.0 ∙ c.as_slice.ensures.value in
     let is_text = subst IsText c.as_slice.ensures.value text.1 in
     trace_checked (g.R.Read.remaining c.args.reader.now) PROFILE_S.now c.args.sample c.in_ok-config.config _ c.in_ok-fault.fault c.is_none.result c.as_str.result.now (g.W.Write.contents c.args.writer.now) (g.W.Write.contents c.write_whole.new.writer)
-    (trace_said (g.R.Read.remaining c.args.reader.now) c.in_ok-input.input.items c.in_ok-text.text.now PROFILE_S.now c.args.sample c.in_ok-config.config c.in_ok-config.body.now (Ok _) c.in_ok-input.ensures.all same is_text c.in_ok-config.ensures.parts (sym c.in_ok-trace.ensures.read))
+    (trace_said (g.R.Read.remaining c.args.reader.now) c.in_ok-input.input.items c.in_ok-text.text.now PROFILE_S.now c.args.sample c.in_ok-config.config c.in_ok-config.body.now (Ok _) c.in_ok-input.ensures.all same is_text c.in_ok-config.ensures.opened (sym c.in_ok-trace.ensures.read))
     c.in_ok-fault.ensures (c.as_str.ensures.value ∙ c.in_ok-line.ensures) c.in_ok-write_whole.ensures.written c.is_none.ensures
 
 pub returns-in_err-write_whole-clause-fault : goal.returns-in_err-write_whole-clause-fault
@@ -50,4 +50,4 @@ returns-in_err-write_whole-clause-fault g c =
     let is_text = subst IsText c.as_slice.ensures.value text.1 in
     let p = err_from_is_err_and c.from_residual-in_err-write_whole.result c.from_residual-in_err-write_whole.ensures.1 in
     rw p.1 (verdict_unwritten (g.R.Read.remaining c.args.reader.now) PROFILE_S.now c.args.sample c.in_ok-config.config _ g.W.Sink.may_fail p.0 (p.2 ∙ c.in_err-write_whole.ensures.refused)
-    (trace_said (g.R.Read.remaining c.args.reader.now) c.in_ok-input.input.items c.in_ok-text.text.now PROFILE_S.now c.args.sample c.in_ok-config.config c.in_ok-config.body.now (Ok _) c.in_ok-input.ensures.all same is_text c.in_ok-config.ensures.parts (sym c.in_ok-trace.ensures.read)))
+    (trace_said (g.R.Read.remaining c.args.reader.now) c.in_ok-input.input.items c.in_ok-text.text.now PROFILE_S.now c.args.sample c.in_ok-config.config c.in_ok-config.body.now (Ok _) c.in_ok-input.ensures.all same is_text c.in_ok-config.ensures.opened (sym c.in_ok-trace.ensures.read)))

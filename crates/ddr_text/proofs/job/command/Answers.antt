@@ -11,5 +11,8 @@ returns-clause-app c =
     let with_run : App → App = λ a. with_subcommand a (with_sample (codes "run")).top in
     let with_check : App → App = λ a. with_subcommand a (with_sample (codes "check")).top in
     let with_map : App → App = λ a. with_subcommand a (with_sample (codes "map")).top in
-    IfOk-weaker c.with_one-3.result _ _ (λ command h.
-    h ∙ ap with_map (c.in_ok-check.ensures.app ∙ ap with_check (c.in_ok-run.ensures.app ∙ ap with_run (c.in_ok-sim.ensures.app ∙ ap with_sim c.in_ok-program.ensures.app)))) c.with_one-3.ensures.app
+    let with_lint : App → App = λ a. with_subcommand a (with_sample (codes "lint")).top in
+    IfOk-weaker c.with_one-4.result _ _ (λ command h.
+    h
+    ∙ ap with_lint (c.in_ok-map.ensures.app
+    ∙ ap with_map (c.in_ok-check.ensures.app ∙ ap with_check (c.in_ok-run.ensures.app ∙ ap with_run (c.in_ok-sim.ensures.app ∙ ap with_sim c.in_ok-program.ensures.app))))) c.with_one-4.ensures.app

@@ -1,6 +1,5 @@
 -- The order is there and has each digit once; rows and columns passed the test for powers of two.
-use Rattle.std.proofs.Common.{◌≡◌, ◌∙◌, sym, subst, arith}
-use Rattle.std.proofs.lemmas.Bool.{eq-eqb}
+use Rattle.std.proofs.Common.{◌∙◌, sym, subst}
 use Rattle.toml.specs.View.{table_view}
 use Rattle.ddr_timing.specs.Tables.{value_of}
 use Rattle.ddr_timing.specs.Values.{Lists}

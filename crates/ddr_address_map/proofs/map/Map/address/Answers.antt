@@ -42,13 +42,13 @@ pub loop-digit-preserved : goal.loop-digit-preserved
 loop-digit-preserved c = record { weight = (stepped_at c).weight; number = (stepped_at c).number }
 
 -- what the pass has added so far is small
-counted : (shape : Geometry) (place digits : Place) (i n w v : ℕ) → IsInRange shape place → digits ≡ with_bank_xor shape place → i < 6 → w * numbers (size_of shape) (drop i shape.map) ≡ numbers (size_of shape) shape.map → n + w * number_of (size_of shape) (drop i shape.map) (digit_in digits) ≡ number_of (size_of shape) shape.map (digit_in digits) → v ≡ digit_in digits (get_or shape.map i Channel) → n + w * v < 2 ^ 30
+counted : (shape : Geometry) (place digits : Place) (i n w v : ℕ) → IsInRange shape place → digits ≡ with_bank_xor shape place → i < 6 → w * numbers (size_of shape) (drop i shape.map) ≡ numbers (size_of shape) shape.map → n + w * number_of (size_of shape) (drop i shape.map) (digit_in digits) ≡ number_of (size_of shape) shape.map (digit_in digits) → v ≡ digit_in digits (get_or shape.map i Channel) → n + w * v < 2 ^ 31
 counted shape place digits i n w v inside digits_is low weight number value_is =
     let step = stepped shape digits i n w (size_of shape (get_or shape.map i Channel)) v low weight number refl value_is in
     let same : number_of (size_of shape) shape.map (digit_in digits) ≡ number_of (size_of shape) shape.map (digit_in (with_bank_xor shape place)) = ap (λ p. number_of (size_of shape) shape.map (digit_in p)) digits_is in
     omega (arith, step.number, same, number-below shape place inside, numbers-bound shape)
 
-counted_at : (c : goal.After-from) → c.loop-digit.number + c.loop-digit.weight * c.from.result < 2 ^ 30
+counted_at : (c : goal.After-from) → c.loop-digit.number + c.loop-digit.weight * c.from.result < 2 ^ 31
 counted_at c =
     let inside = IsInRange-test c.args.self.now.geometry c.args.place (sym c.is_in_range.ensures ∙ c.if-not-is_in_range.false) in
     counted _ _ _ _ c.loop-digit.number c.loop-digit.weight c.from.result inside c.with_bank_xor-digits.ensures c.loop-digit-test.true c.loop-digit.invariant.weight c.loop-digit.invariant.number (c.from.ensures ∙ c.digit_of.ensures)
@@ -61,7 +61,7 @@ overflow_add-number c = omega (arith, counted_at c)
 
 -- the answer, with the offset as `byte`
 record Found (shape : Geometry) (place : Place) (n byte : ℕ) : Type 0 where
-  low : n < 2 ^ 30
+  low : n < 2 ^ 31
   short : byte < 64
   exact : Some (64 * n + byte) ≡ address_of shape place
   below : 64 * n + byte < capacity_of shape

@@ -1,19 +1,21 @@
 -- The scheduler finds the situation that the state is in.
-use Rattle.std.proofs.Common.{◌+◌, sym, ap, ap₂, ltb, ◌∙◌}
+use Rattle.std.proofs.Common.{◌+◌, List, map, take, sym, ap, ap₂, ltb, ◌∙◌}
 use Rattle.ddr_arbiter.specs.Choice as arbiter
-use Rattle.ddr_refresh.specs.Refreshes.{after_tick}
+use Rattle.ddr_refresh.specs.Refreshes.{Refreshes, after_tick}
 use Rattle.ddr_channel.specs.Choice.{choice_of, refreshes_of}
 use Rattle.ddr_channel.specs.Cycle.{at_choice}
 use Rattle.ddr_channel.specs.Kept.{Kept, state_of}
-use Rattle.ddr_channel.proofs.ChannelLemmas.{situation_is}
+use Rattle.ddr_channel.specs.View.{kept_of}
+use Rattle.ddr_channel.proofs.ChannelLemmas.{situation_is, taken_ranks}
 use Rattle.ddr_channel.proofs.channel.Channel.choice.Goals as goal
 
 pub returns : goal.returns
 returns c =
     let a = c.self.inside in
     c.choose.ensures.exact
-    ∙ ap arbiter.choice_of (situation_is a c.args.debt.now c.policy.result c.args.drain (ltb (c.len.result + c.len-2.result) a.config.limits.done) c.self.invariant
-    (c.requires.debt ∙ ap (λ (k : Kept). after_tick (refreshes_of (state_of k))) (sym c.self.view_is))
+    ∙ ap arbiter.choice_of (situation_is a _ c.policy.result c.args.drain (ltb (c.len.result + c.len-2.result) a.config.limits.done) c.self.invariant
+    (ap (λ (rs : List Refreshes). take a.config.geometry.ranks rs) (c.requires.debts ∙ ap (λ (k : Kept). map after_tick (refreshes_of (state_of k) 2)) (sym c.self.view_is))
+    ∙ taken_ranks (state_of (kept_of a)) a.config.geometry.ranks a.config.geometry.ranks_range.1)
     c.policy.ensures
     (c.requires.mode ∙ ap (λ (k : Kept). (at_choice (state_of k)).drain) (sym c.self.view_is))
     (ap₂ (λ m n. ltb (m + n) a.config.limits.done) c.len.ensures.len c.len-2.ensures.len))

@@ -1,5 +1,6 @@
 -- A channel before its first cycle.
-use Rattle.std.proofs.Common.{sym, ap, subst, ◌∙◌}
+use Rattle.std.proofs.Common.{◌∷◌, [], sym, ap, subst, ◌∙◌}
+use Rattle.ddr_refresh.specs.Refreshes.{Refreshes}
 use Rattle.ddr_channel.specs.declared.channel.Channel.TheInside.{Inside}
 use Rattle.ddr_channel.specs.Kept.{state_of}
 use Rattle.ddr_channel.specs.View.{kept_of, IsWhole}
@@ -9,19 +10,19 @@ use Rattle.ddr_channel.proofs.channel.Channel.open.Goals as goal
 
 pub invariant_of-result : goal.invariant_of-result
 invariant_of-result c =
-    subst IsWhole (sym (fields_are_open c.args.config.now c.args.first_cycle c.open.result c.open-2.result c.in_ok-with_capacity.field-0 c.in_ok-with_capacity-2.field-0 c.in_ok-open.field-0 c.in_ok-open-2.field-0
-    c.open.ensures c.open-2.ensures c.in_ok-with_capacity.ensures c.in_ok-with_capacity-2.ensures c.in_ok-open.ensures))
+    subst IsWhole (sym (fields_are_open c.args.config.now c.args.first_cycle c.open.result (c.open-2.result ∷ c.open-2.result ∷ []) c.in_ok-with_capacity.field-0 c.in_ok-with_capacity-2.field-0 c.in_ok-open.field-0 c.in_ok-open-2.field-0
+    c.open.ensures (ap (λ (r : Refreshes). r ∷ r ∷ []) c.open-2.ensures) c.in_ok-with_capacity.ensures c.in_ok-with_capacity-2.ensures c.in_ok-open.ensures))
     (whole_open c.args.config.now c.args.first_cycle c.in_ok-open.field-0.spare c.in_ok-open-2.field-0 c.requires c.in_ok-open-2.ensures)
 
 pub returns-clause-state : goal.returns-clause-state
 returns-clause-state c =
-    ap (λ (a : Inside). state_of (kept_of a)) (fields_are_open c.args.config.now c.args.first_cycle c.open.result c.open-2.result c.in_ok-with_capacity.field-0 c.in_ok-with_capacity-2.field-0 c.in_ok-open.field-0 c.in_ok-open-2.field-0
-    c.open.ensures c.open-2.ensures c.in_ok-with_capacity.ensures c.in_ok-with_capacity-2.ensures c.in_ok-open.ensures)
+    ap (λ (a : Inside). state_of (kept_of a)) (fields_are_open c.args.config.now c.args.first_cycle c.open.result (c.open-2.result ∷ c.open-2.result ∷ []) c.in_ok-with_capacity.field-0 c.in_ok-with_capacity-2.field-0 c.in_ok-open.field-0 c.in_ok-open-2.field-0
+    c.open.ensures (ap (λ (r : Refreshes). r ∷ r ∷ []) c.open-2.ensures) c.in_ok-with_capacity.ensures c.in_ok-with_capacity-2.ensures c.in_ok-open.ensures)
     ∙ state_open c.args.config.now c.args.first_cycle c.in_ok-open.field-0.spare c.in_ok-open-2.field-0 c.in_ok-open-2.ensures
 
 pub returns-clause-stands : goal.returns-clause-stands
 returns-clause-stands c =
     stands_opened _ c.args.config.now c.args.first_cycle
-    (ap (λ (a : Inside). state_of (kept_of a)) (fields_are_open c.args.config.now c.args.first_cycle c.open.result c.open-2.result c.in_ok-with_capacity.field-0 c.in_ok-with_capacity-2.field-0 c.in_ok-open.field-0 c.in_ok-open-2.field-0
-    c.open.ensures c.open-2.ensures c.in_ok-with_capacity.ensures c.in_ok-with_capacity-2.ensures c.in_ok-open.ensures)
+    (ap (λ (a : Inside). state_of (kept_of a)) (fields_are_open c.args.config.now c.args.first_cycle c.open.result (c.open-2.result ∷ c.open-2.result ∷ []) c.in_ok-with_capacity.field-0 c.in_ok-with_capacity-2.field-0 c.in_ok-open.field-0 c.in_ok-open-2.field-0
+    c.open.ensures (ap (λ (r : Refreshes). r ∷ r ∷ []) c.open-2.ensures) c.in_ok-with_capacity.ensures c.in_ok-with_capacity-2.ensures c.in_ok-open.ensures)
     ∙ state_open c.args.config.now c.args.first_cycle c.in_ok-open.field-0.spare c.in_ok-open-2.field-0 c.in_ok-open-2.ensures)

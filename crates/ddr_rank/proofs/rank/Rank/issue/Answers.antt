@@ -4,5 +4,4 @@ use Rattle.ddr_rank.proofs.rank.Rank.issue.Goals as goal
 
 pub returns-clause-stands : goal.returns-clause-stands
 returns-clause-stands c = λ history stands after.
-    rw c.note.ensures
-    (stands_after c.args.self.now history (entry c.args.cycle c.args.command) stands after c.requires)
+    stands_after c.args.self.now _ history (entry c.args.cycle c.args.command) (rw (← c.note.ensures) c.raise.ensures.rest) (rw (← c.note.ensures) c.raise.ensures.raised) stands after c.requires

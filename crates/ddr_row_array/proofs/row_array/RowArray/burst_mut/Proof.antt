@@ -45,7 +45,6 @@ use Rattle.ddr_row_array.specs.contracts.row_array.RowArray.{the_row as R}
 use Rattle.ddr_row_array.specs.contracts.row_array.RowArray.burst_mut as f
 use Rattle.ddr_row_array.specs.contracts.row_array.RowArray.has_burst as g
 use Rattle.ddr_row_array.specs.contracts.row_array.RowArray.open_line_mut as h
-use Rattle.ddr_row_array.proofs.Bursts.{length-open_burst}
 use Rattle.ddr_row_array.proofs.Slots.{none_from_missing}
 use Rattle.ddr_row_array.proofs.row_array.RowArray.TheLaws.{the_field_shared}
 use Rattle.ddr_row_array.proofs.row_array.RowArray.has_burst.Met as g_thm
@@ -113,7 +112,7 @@ burst_mut_spec {M = M} 𝓤 𝓛 𝓜 𝓡 wired =
     let G' = triple_of 𝓛 h.signature (h.spec 𝓛 𝓜.mem 𝓡.returns) in
     let z' : G'.Ghost = ((κs, qs, bounds, a, y.0.4), tt) in
     let Lent = MutSlice (named 0) κ u8 in
-    let Value = λ (s : MutBor (List ℕ)). open_burst now bank line ≡ Some s.now in
+    let Value = λ (s : MutBor (List ℕ)). (open_burst now bank line ≡ Some s.now) × (length s.now ≡ 64) in
     let F = with_burst now bank line in
     sets ! (addr ! (through ! refl (stop !))) refl (tt, tt) $
     feq_i ! (List Val) (vptr b o ∷ []) (vptr b o ∷ []) refl $ fjoin3 ! $
@@ -137,7 +136,7 @@ burst_mut_spec {M = M} 𝓤 𝓛 𝓜 𝓡 wired =
     returns ! (look_at ! 0 refl) $ free_all ! refl $
     use1 𝓛 (‵ ((option.the_row Lent).own_val (Some s) (live 1 (of_list (lent ∷ [])) ∷ []))) (Some-of 𝓛 Lent s lent) $
     suffices ! _ (ends_at 𝓛 f.ended stayed c y (live 1 (of_list (lent ∷ []))) (Some s) (tt, (tt, (tt, tt))) (tt, (tt, (tt, tt)))) $
-    nothing ! $ nothing ! $ fjoin ! $ nothing ! $ fjoin ! $ nothing ! $ fjoin ! $ join ! $ nothing ! $ move ! (2 ∷ 0 ∷ []) $ join ! $ join ! $ frame ! $ says_three ! (sym value, length-open_burst now bank line s.now value, alone) $ done !))))))
+    nothing ! $ nothing ! $ fjoin ! $ nothing ! $ fjoin ! $ nothing ! $ fjoin ! $ join ! $ nothing ! $ move ! (2 ∷ 0 ∷ []) $ join ! $ join ! $ frame ! $ says_three ! (sym value.0, value.1, alone) $ done !))))))
     (λ t. let Lent = MutSlice (named 0) κ u8 in
     let missing : open_burst now bank line ≡ None = none_from_missing (open_burst now bank line) (sym said ∙ falsehood r t) in
     sets_last ! (agg ! (and_then ! (lit ! tt) (no_more !))) refl (tt, (record { fits = lit< tt }, tt)) $

@@ -1,21 +1,16 @@
-use Rattle.std.proofs.Common.{Some, ap, sym, ◌∙◌, arith}
-use Rattle.ddr_row_array.proofs.Bursts.{IsOpenAt-read, line_fits, line_fits_items, open_burst-at}
-use Rattle.ddr_row_array.proofs.Lines.{line_bytes-range}
+use Rattle.std.proofs.Common.{Some, refl, ap, sym, ◌∙◌}
+use Rattle.ddr_row_array.proofs.Bursts.{IsOpenAt-read, HasLine-at, open_burst-at}
 use Rattle.ddr_row_array.proofs.row_array.RowArray.open_line.Goals as goal
 
-pub index-requires-2 : goal.index-requires-2
-index-requires-2 c =
-    let at = IsOpenAt-read c.self.inside c.args.bank c.args.line c.index.result.now c.unwrap-open.result c.self.invariant (rw (← c.self.view_is) at c.requires) c.index.ensures c.unwrap-open.ensures in
-    omega (arith, at.within, c.self.inside.slots.ok.0)
+pub line-requires-clause-kept : goal.line-requires-clause-kept
+line-requires-clause-kept c = c.self.invariant.store
 
-pub line-requires : goal.line-requires
-line-requires c =
+pub line-requires-clause-there : goal.line-requires-clause-there
+line-requires-clause-there c =
     let at = IsOpenAt-read c.self.inside c.args.bank c.args.line c.index.result.now c.unwrap-open.result c.self.invariant (rw (← c.self.view_is) at c.requires) c.index.ensures c.unwrap-open.ensures in
-    line_fits c.self.inside c.args.bank c.args.line c.unwrap-open.result c.index-2.result.now c.self.invariant at c.index-2.ensures
+    HasLine-at c.self.inside c.args.bank c.args.line c.unwrap-open.result c.self.invariant at
 
-pub returns : goal.returns
-returns c =
+pub returns-clause-value : goal.returns-clause-value
+returns-clause-value c =
     let at = IsOpenAt-read c.self.inside c.args.bank c.args.line c.index.result.now c.unwrap-open.result c.self.invariant (rw (← c.self.view_is) at c.requires) c.index.ensures c.unwrap-open.ensures in
-    let s = c.index-2.result.now in
-    rw (← c.self.view_is) (open_burst-at c.self.inside c.args.bank c.args.line c.unwrap-open.result s c.self.invariant at c.index-2.ensures
-    ∙ ap Some (sym (c.line.ensures ∙ line_bytes-range s.bytes.items c.args.line (line_fits_items c.self.inside c.args.bank c.args.line c.unwrap-open.result s c.self.invariant at c.index-2.ensures))))
+    rw (← c.self.view_is) (open_burst-at c.self.inside c.args.bank c.args.line c.unwrap-open.result c.self.invariant at _ refl ∙ ap Some (sym c.line.ensures.value))

@@ -16,11 +16,6 @@ returns-in-Take-clause-stands c = λ opening earlier stands.
     stands_more c.args.self.now c.take.new.self opening earlier (event_of c.args.event) c.take.result stands
     (subst (λ (e : Event). IsAnswered c.args.self.now c.take.new.self (event_of e) c.take.result) (sym c.in-Take.is) c.take.ensures)
 
-pub returns-in-Cycle-clause-stands : goal.returns-in-Cycle-clause-stands
-returns-in-Cycle-clause-stands c = λ opening earlier stands.
-    stands_more c.args.self.now c.cycle.new.self opening earlier (event_of c.args.event) c.cycle.result stands
-    (subst (λ (e : Event). IsAnswered c.args.self.now c.cycle.new.self (event_of e) c.cycle.result) (sym c.in-Cycle.is) c.cycle.ensures)
-
 pub returns-in-Deliver-clause-stands : goal.returns-in-Deliver-clause-stands
 returns-in-Deliver-clause-stands c = λ opening earlier stands.
     stands_more c.args.self.now c.deliver.new.self opening earlier (event_of c.args.event) c.deliver.result stands

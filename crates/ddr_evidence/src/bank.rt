@@ -1,0 +1,89 @@
+//! Rules on the state of banks: the command that last changed the bank.
+//!
+//! `kind` and `ddr_trace` stand below, and `state` above.
+ghost use Rattle.std.specs.Prelude.{◌≡◌, ◌-◌, ◌&&◌, if◌then◌else◌, IfNone, None, Some};
+ghost use Rattle.ddr_trace.specs.Banks.{auto_start, bank_after, bank_behind, recovery};
+ghost use Rattle.ddr_trace.specs.Commands.{is_same_bank};
+ghost use Rattle.ddr_evidence.specs.Places.{IsLastChange, changes};
+
+use crate::kind::{is_activate, is_auto, is_precharge, is_same_bank};
+use ddr_timing::timing::Timing;
+use ddr_timing::units::BURST_CLOCKS;
+use ddr_trace::bank::{OpenBank, changed_by};
+use ddr_trace::command::{Command, Entry};
+
+/// What a history makes of a bank.
+#[derive(Clone, Copy)]
+pub(crate) struct BankHistory {
+    pub(crate) bank: Option<OpenBank>,
+    /// The place of the entry that last changed the bank.
+    pub(crate) changed: Option<usize>,
+}
+
+impl BankHistory {
+    /// What the history and one more entry, at this place, make of the bank that the command is for.
+    fn after(self, place: usize, entry: &Entry, command: &Command) -> BankHistory
+        ensures bank { result.bank ≡ bank_after command.now self.bank entry.now }
+        ensures changed { result.changed
+            ≡ (if is_same_bank entry.now.command command.now && changes entry.now self.bank then Some place else self.changed) }
+    {
+        if !is_same_bank(&entry.command, command) {
+            return self;
+        }
+        let changed = if changes(entry, &self.bank) {
+            Some(place)
+        } else {
+            self.changed
+        };
+        BankHistory {
+            bank: changed_by(entry, self.bank),
+            changed,
+        }
+    }
+}
+
+/// What the history makes of the bank that the command is for.
+pub(crate) fn history_of(history: &[Entry], command: &Command) -> BankHistory
+    ensures bank { result.bank ≡ bank_behind command.now history.now }
+    ensures changed { IsLastChange command.now history.now result.changed }
+    ensures idle { IfNone result.changed (result.bank ≡ None) }
+{
+    let mut seen = BankHistory {
+        bank: None,
+        changed: None,
+    };
+    for (place, entry) in history.iter().enumerate() {
+        seen = seen.after(place, entry, command);
+    }
+    seen
+}
+
+/// Whether the entry opens the bank, or closes it or is to close it where it is open.
+fn changes(entry: &Entry, bank: &Option<OpenBank>) -> bool
+    ensures { result ≡ changes entry.now bank.now }
+{
+    is_activate(&entry.command)
+        || (bank.is_some() && (is_precharge(&entry.command) || is_auto(&entry.command)))
+}
+
+/// How many clocks the cycle stands behind the start of the bank's auto-precharge; 0 before it.
+pub(crate) fn clocks_since_start(bank: &OpenBank, auto: &Entry, cycle: u64, timing: &Timing) -> u64
+    ensures { result ≡ cycle - auto_start timing.now bank.now auto.now }
+{
+    let since_command = cycle.saturating_sub(auto.cycle);
+    let since_open = cycle.saturating_sub(bank.since);
+    let by_command = since_command.saturating_sub(u64::from(recovery(&auto.command, timing)));
+    let by_open = since_open.saturating_sub(u64::from(timing.ras));
+    by_command.min(by_open)
+}
+
+/// The clocks from a read or a write to a precharge of its bank.
+fn recovery(command: &Command, timing: &Timing) -> u32
+    ensures { result ≡ recovery timing.now command.now }
+{
+    if matches!(command, Command::Rd { .. } | Command::RdAuto { .. }) {
+        timing.rtp
+    } else {
+        timing.cwl + BURST_CLOCKS + timing.wr
+    }
+}

@@ -1,0 +1,233 @@
+//! Rules on the state of banks: STATE and ROW, and RP and RP_REF behind an auto-precharge.
+//!
+//! `evidence`, `bank`, `kind` and `ddr_trace` stand below, and `find` above.
+ghost use Rattle.std.specs.Prelude.{◌≡◌, ℕ, ◌*◌, ◌<◌, ◌&&◌, IfNone, IfSome, MatchOption, false, is_some};
+ghost use Rattle.ddr_timing.specs.declared.units.TheConstants.{GROUP_BANKS};
+ghost use Rattle.ddr_trace.specs.Banks.{any_bank, bank_behind, is_active, is_auto_within, open_row, ready_row};
+ghost use Rattle.ddr_trace.specs.Commands.{bank_of, group_of, is_activate, is_refresh, rank_of, row_of};
+ghost use Rattle.ddr_trace.specs.Rules.{breaks_row, breaks_state};
+ghost use Rattle.ddr_evidence.specs.declared.evidence.Evidence.TheVariants.{Bank};
+ghost use Rattle.ddr_evidence.specs.Evidence.{IsActiveBank, IsFirstBank, IsOwnBank, IsStartOf, IsState, bank_test};
+ghost use Rattle.ddr_evidence.specs.Places.{bank_at};
+
+use crate::bank::{clocks_since_start, history_of};
+use crate::evidence::Evidence;
+use crate::kind::{is_activate, is_column, is_refresh};
+use ddr_timing::config::Config;
+use ddr_timing::timing::Timing;
+use ddr_timing::units::GROUP_BANKS;
+use ddr_trace::bank::OpenBank;
+use ddr_trace::command::{Command, Entry};
+
+/// What a REF wants of no bank of its rank.
+#[derive(Clone, Copy)]
+pub(crate) enum BankTest {
+    /// The bank is active.
+    Active,
+    /// RP isn't over since the start of the bank's auto-precharge.
+    WithinStart,
+}
+
+impl BankTest {
+    fn holds(self, bank: &Option<OpenBank>, cycle: u64, timing: &Timing) -> bool
+        ensures { result ≡ bank_test self timing.now cycle bank.now }
+    {
+        let Some(bank) = bank else {
+            return false;
+        };
+        match self {
+            BankTest::Active => bank.open_row(cycle, timing).is_some(),
+            BankTest::WithinStart => bank.is_auto_within(cycle, timing),
+        }
+    }
+}
+
+/// The bank of this number in its rank, as the PRE of it.
+pub(crate) fn bank_at(rank: u32, number: u32) -> Command
+    ensures { result ≡ bank_at rank number }
+{
+    Command::Pre {
+        rank,
+        group: number / GROUP_BANKS,
+        bank: number % GROUP_BANKS,
+    }
+}
+
+/// The first bank of the rank that passes the test, by its number.
+fn first_bank(
+    history: &[Entry],
+    rank: u32,
+    cycle: u64,
+    config: &Config,
+    test: BankTest,
+) -> Option<u32>
+    ensures { MatchOption result
+        ((number : ℕ) → number < config.now.geometry.groups * GROUP_BANKS
+        → bank_test test config.now.timing cycle (bank_behind (bank_at rank number) history.now) ≡ false)
+        (IsFirstBank config.now (bank_test test config.now.timing cycle) rank history.now) }
+{
+    for number in 0..config.geometry.groups * GROUP_BANKS {
+        let seen = history_of(history, &bank_at(rank, number));
+        if test.holds(&seen.bank, cycle, &config.timing) {
+            return Some(number);
+        }
+    }
+    None
+}
+
+/// Why the entry breaks STATE, if it does.
+pub(crate) fn state(history: &[Entry], entry: &Entry, config: &Config) -> Option<Evidence>
+    ensures none { IfNone result (breaks_state config.now history.now entry.now ≡ false) }
+    ensures some { IfSome result (IsState config.now history.now entry.now) }
+{
+    let command = &entry.command;
+    if is_refresh(command) {
+        return active_bank(history, entry, config);
+    }
+    let seen = history_of(history, command);
+    let is_wrong = (is_activate(command)
+        && BankTest::Active.holds(&seen.bank, entry.cycle, &config.timing))
+        || (is_column(command) && !is_ready(&seen.bank));
+    if is_wrong {
+        Some(own_bank(command, seen.changed))
+    } else {
+        None
+    }
+}
+
+/// The first active bank of the entry's rank, if there is one.
+fn active_bank(history: &[Entry], entry: &Entry, config: &Config) -> Option<Evidence>
+    ensures none { IfNone result (any_bank config.now.geometry (rank_of entry.now.command)
+        (λ bank. is_active config.now.timing entry.now.cycle (bank_behind bank history.now)) ≡ false) }
+    ensures some { IfSome result (IsActiveBank config.now history.now entry.now) }
+{
+    let rank = entry.command.rank();
+    let number = first_bank(history, rank, entry.cycle, config, BankTest::Active)?;
+    let seen = history_of(history, &bank_at(rank, number));
+    Some(Evidence::Bank {
+        group: number / GROUP_BANKS,
+        bank: number % GROUP_BANKS,
+        changed: seen.changed,
+    })
+}
+
+/// Why the entry breaks ROW, if it does.
+pub(crate) fn row(history: &[Entry], entry: &Entry, timing: &Timing) -> Option<Evidence>
+    ensures none { IfNone result (breaks_row timing.now history.now entry.now ≡ false) }
+    ensures some { IfSome result (IsOwnBank history.now entry.now) }
+{
+    let command = &entry.command;
+    let seen = history_of(history, command);
+    if is_column(command) && open_row(&seen.bank, entry.cycle, timing) != Some(row_of(command)) {
+        Some(own_bank(command, seen.changed))
+    } else {
+        None
+    }
+}
+
+/// That the ACT stands too close behind the start of an auto-precharge of its bank, if so.
+pub(crate) fn rp_start(history: &[Entry], entry: &Entry, timing: &Timing) -> Option<Evidence>
+    ensures none { IfNone result
+        ((is_activate entry.now.command && is_auto_within timing.now timing.now.rp entry.now.cycle (bank_behind entry.now.command history.now)) ≡ false) }
+    ensures some { IfSome result (IsStartOf timing.now entry.now.command history.now entry.now) }
+{
+    if is_activate(&entry.command) {
+        start_of(&entry.command, history, entry, timing)
+    } else {
+        None
+    }
+}
+
+/// That the REF stands too close behind the start of an auto-precharge of its rank, if so.
+pub(crate) fn rp_ref_start(history: &[Entry], entry: &Entry, config: &Config) -> Option<Evidence>
+    ensures none { IfNone result ((is_refresh entry.now.command && any_bank config.now.geometry (rank_of entry.now.command)
+        (λ bank. is_auto_within config.now.timing config.now.timing.rp entry.now.cycle (bank_behind bank history.now))) ≡ false) }
+    ensures some { IfSome result (λ evidence. (number : ℕ)
+        × IsFirstBank config.now (is_auto_within config.now.timing config.now.timing.rp entry.now.cycle) (rank_of entry.now.command) history.now number
+        × IsStartOf config.now.timing (bank_at (rank_of entry.now.command) number) history.now entry.now evidence) }
+{
+    if !is_refresh(&entry.command) {
+        return None;
+    }
+    let rank = entry.command.rank();
+    let number = first_bank(history, rank, entry.cycle, config, BankTest::WithinStart)?;
+    start_of(&bank_at(rank, number), history, entry, &config.timing)
+}
+
+/// That the entry stands too close behind the start of an auto-precharge of the command's bank, if so.
+fn start_of(
+    command: &Command,
+    history: &[Entry],
+    entry: &Entry,
+    timing: &Timing,
+) -> Option<Evidence>
+    ensures none { IfNone result (is_auto_within timing.now timing.now.rp entry.now.cycle (bank_behind command.now history.now) ≡ false) }
+    ensures some { IfSome result (IsStartOf timing.now command.now history.now entry.now) }
+{
+    let seen = history_of(history, command);
+    let open = seen.bank?;
+    let auto = open.auto?;
+    let earlier = seen.changed?;
+    if !open.is_auto_within(entry.cycle, timing) {
+        return None;
+    }
+    Some(Evidence::TooCloseToStart {
+        earlier,
+        distance: clocks_since_start(&open, &auto, entry.cycle, timing),
+        least: timing.rp,
+    })
+}
+
+/// Whether a read or a write finds a row in the bank.
+fn is_ready(bank: &Option<OpenBank>) -> bool
+    ensures { result ≡ is_some (ready_row bank.now) }
+{
+    match bank {
+        Some(bank) => bank.ready_row().is_some(),
+        None => false,
+    }
+}
+
+/// The open row of the bank in this cycle.
+fn open_row(bank: &Option<OpenBank>, cycle: u64, timing: &Timing) -> Option<u32>
+    ensures { result ≡ open_row timing.now cycle bank.now }
+{
+    match bank {
+        Some(bank) => bank.open_row(cycle, timing),
+        None => None,
+    }
+}
+
+/// That the command's bank is as its last change left it.
+fn own_bank(command: &Command, changed: Option<usize>) -> Evidence
+    ensures { result ≡ Bank (group_of command.now) (bank_of command.now) changed }
+{
+    let (group, bank) = match *command {
+        Command::Act { group, bank, .. }
+        | Command::Rd { group, bank, .. }
+        | Command::Wr { group, bank, .. }
+        | Command::RdAuto { group, bank, .. }
+        | Command::WrAuto { group, bank, .. }
+        | Command::Pre { group, bank, .. } => (group, bank),
+        Command::PreAll { .. } | Command::Refresh { .. } => (0, 0),
+    };
+    Evidence::Bank {
+        group,
+        bank,
+        changed,
+    }
+}
+
+/// The row, 0 where the command names none.
+fn row_of(command: &Command) -> u32
+    ensures { result ≡ row_of command.now }
+{
+    match *command {
+        Command::Act { row, .. }
+        | Command::Rd { row, .. }
+        | Command::Wr { row, .. }
+        | Command::RdAuto { row, .. }
+        | Command::WrAuto { row, .. } => row,
+        _ => 0,
+    }
+}

@@ -1,0 +1,11 @@
+-- What the map of a table finds at a key's spelling.
+use Rattle.std.proofs.Common.{ap, ◌∙◌}
+use Rattle.toml.specs.Data.{get_member}
+use Rattle.toml.specs.View.{table_view}
+use Rattle.toml.proofs.Views.{table_get}
+use Rattle.ddr_findings.proofs.table.value_at.Goals as goal
+
+pub returns : goal.returns
+returns c =
+    let found = table_get c.get.result c.name.result.now c.args.table.now.entries c.get.ensures.value in
+    found ∙ ap (λ name. get_member name (table_view c.args.table.now)) c.name.ensures

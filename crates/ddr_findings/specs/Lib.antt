@@ -1,0 +1,9 @@
+pub mod Faults
+pub mod Nearest
+pub mod Relations
+pub mod Shown
+pub mod Sound
+pub mod Takes
+pub mod Texts
+pub mod Warnings
+pub mod Words

@@ -1,0 +1,371 @@
+//! What `lint` writes of worked configurations: profile S, or S2, with other lines in the place of some. The numbers are
+//! worked out by hand.
+use crate::lint::lint;
+use crate::verdict::Verdict;
+use ddr_text::fault::Fault;
+use ddr_timing::profile::{PROFILE_S, PROFILE_S2};
+use std::alloc::{AllocError, Global};
+use std::process::Abort;
+use std::str;
+use std::test::Fail;
+
+/// The lines that have others in their place, the verdict, and what is written.
+type Case<'a> = (&'a [(&'a str, &'a str)], Verdict, &'a str);
+
+/// A configuration with other lines in the place of some.
+fn with_lines(alloc: Global, config: &str, lines: &[(&str, &str)]) -> Result<String, AllocError> {
+    let mut text = String::from_str(alloc, config)?;
+    for (old, new) in lines {
+        text = text.replace(alloc, old, new)?;
+    }
+    Ok(text)
+}
+
+/// That the command ends so on an input, and writes this text.
+fn is_so(
+    rt: &impl Abort,
+    alloc: Global,
+    sample: bool,
+    input: &[u8],
+    wanted: Result<Verdict, Fault>,
+    text: &str,
+) {
+    let mut reader = input;
+    let mut bytes = Vec::new(alloc);
+    let end = lint(alloc, sample, &mut reader, &mut bytes);
+    assert_eq!(rt; str::from_utf8(bytes.as_slice()).ok(), Some(text));
+    assert_eq!(rt; end, wanted, "{text:?}");
+}
+
+/// That of a configuration with other lines these findings are written.
+fn all_found(
+    rt: &impl Abort,
+    alloc: Global,
+    config: &str,
+    cases: &[Case],
+) -> Result<(), AllocError> {
+    for (lines, verdict, text) in cases {
+        let input = with_lines(alloc, config, lines)?;
+        is_so(rt, alloc, false, input.as_bytes(), Ok(*verdict), text);
+    }
+    Ok(())
+}
+
+#[test]
+fn nothing_is_found_in_the_samples(rt: HostRuntime) {
+    let alloc = rt.alloc();
+    is_so(&rt, alloc, true, b"cl = 0", Ok(Verdict::Clean), "");
+    let profiles = [PROFILE_S, PROFILE_S2];
+    for profile in profiles {
+        is_so(
+            &rt,
+            alloc,
+            false,
+            profile.as_bytes(),
+            Ok(Verdict::Clean),
+            "",
+        );
+    }
+}
+
+#[test]
+fn what_stands_behind_the_mark_is_not_looked_at(rt: HostRuntime) -> Result<(), Fail> {
+    let alloc = rt.alloc();
+    let input = with_lines(
+        alloc,
+        PROFILE_S,
+        &[("postpone = 2\n", "---\npostpone = 9\n")],
+    )?;
+    is_so(
+        &rt,
+        alloc,
+        false,
+        input.as_bytes(),
+        Ok(Verdict::AtFault),
+        "missing: there is no key postpone\n",
+    );
+    Ok(())
+}
+
+#[test]
+fn inputs_that_are_no_text_are_refused(rt: HostRuntime) {
+    let alloc = rt.alloc();
+    is_so(&rt, alloc, false, &[0xff], Err(Fault::InputNotUtf8), "");
+    let wanted = "syntax: the configuration is no TOML text\n";
+    is_so(&rt, alloc, false, b"cl", Ok(Verdict::AtFault), wanted);
+}
+
+/// Relation 5 has 12 + 4 + 18 = 34, then 39 + 17 = 56, and 420 + 4.
+const RELATIONS: &[Case] = &[
+    (
+        &[("ccd_s = 4", "ccd_s = 3"), ("ccd_l = 5", "ccd_l = 2")],
+        Verdict::AtFault,
+        "relation 1: ccd_s 3 is below 4\nrelation 2: ccd_l 2 is below ccd_s 3\n",
+    ),
+    (
+        &[("rrd_l = 3", "rrd_l = 1")],
+        Verdict::AtFault,
+        "relation 3: rrd_l 1 is below rrd_s 2\n",
+    ),
+    (
+        &[("rtw = 7", "rtw = 4")],
+        Verdict::AtFault,
+        "relation 4: max(4, 4 + 4 - 3) = 5 is above rtw 4
+warning: rtw + cwl = 7 is below cl + 6 = 10: fewer than 2 clocks lie on the data bus between the data of a read and of a write
+",
+    ),
+    (
+        &[("rtw = 7", "rtw = 3"), ("cwl = 3", "cwl = 20")],
+        Verdict::AtFault,
+        "relation 4: max(4, 4 + 4 - 20) = 4 is above rtw 3
+warning: cl = 4 is below cwl = 20: in DDR4 the write latency is never the longer one
+",
+    ),
+    (
+        &[
+            ("cl = 4", "cl = 16"),
+            ("cwl = 3", "cwl = 12"),
+            ("rp = 4", "rp = 17"),
+            ("ras = 10", "ras = 39"),
+            ("rc = 14", "rc = 56"),
+            ("wr = 5", "wr = 18"),
+            ("rtp = 3", "rtp = 9"),
+            ("rtw = 7", "rtw = 10"),
+            ("rfc = 20", "rfc = 420"),
+            ("refi = 200", "refi = 420"),
+        ],
+        Verdict::AtFault,
+        "relation 5: max(max(39, 12 + 4 + 18, 9) + 17, 420) + 4 = 424 is above refi 420
+warning: refi = 420 is below 4 * rfc = 1680: a rank would spend more than a quarter of its time on REFs
+warning: refi = 420 is below rfc + rcd = 424: the next REF falls due before a row that is opened behind a REF can be read
+",
+    ),
+    (
+        &[("low = 2", "low = 6")],
+        Verdict::AtFault,
+        "relation 6: low 6 is not below high 6
+warning: high = 6 is below low + 2 = 8: a drain may end behind a single write, and the data bus turns around for it
+",
+    ),
+    (
+        &[("high = 6", "high = 9")],
+        Verdict::AtFault,
+        "relation 7: high 9 is above writes 8
+warning: ports * window = 8 is below high = 9: so many writes are never pending, so no drain begins
+",
+    ),
+];
+
+#[test]
+fn broken_relations_are_told_with_both_sides(rt: HostRuntime) -> Result<(), Fail> {
+    all_found(&rt, rt.alloc(), PROFILE_S, RELATIONS)?;
+    Ok(())
+}
+
+/// `cll` is one letter from `cl` and from `cwl`, of which `cl` is the first. Of the keys that share no letter with three
+/// signs, `low` is the first that is no longer.
+const KEYS: &[Case] = &[
+    (
+        &[("cl = 4\n", "cll = 4\n")],
+        Verdict::AtFault,
+        "missing: there is no key cl\nunknown key: cll, the nearest known one is cl\n",
+    ),
+    (
+        &[("wtr_l = 4\n", "wtrl = 4\nranks = 1\n\"a\\tb\" = 0\n")],
+        Verdict::AtFault,
+        "missing: there is no key wtr_l
+unknown key: a?b, the nearest known one is low
+unknown key: ranks, which version 2 alone has
+unknown key: wtrl, the nearest known one is wtr_l
+",
+    ),
+    (
+        &[
+            ("channels = 2\n", "channels = 5\n"),
+            ("high = 6\n", "high = -1\n"),
+            ("rows = 16", "rows = 17"),
+            ("rc = 14\n", ""),
+        ],
+        Verdict::AtFault,
+        "range: channels = 5 is no integer from 1 to 4
+range: high = -1 is no integer from 1 to 32
+power of two: rows = 17 is none
+missing: there is no key rc
+",
+    ),
+    (
+        &[
+            ("groups = 4", "groups = 3"),
+            ("rows = 16", "rows = 8"),
+            (
+                "\"column group bank row channel\"",
+                "\"column group bank row\"",
+            ),
+            ("bank_xor = false", "bank_xor = 1"),
+            ("cl = 4", "cl = \"four\""),
+            ("rcd = 4", "rcd = 4.0"),
+        ],
+        Verdict::AtFault,
+        "range: groups = 3 is neither 2 nor 4
+range: rows = 8 is no power of two from 16 to 131072
+range: map = \"column group bank row\" is no text of the words channel, group, bank, column and row, each once with one space between two
+range: bank_xor = 1 is neither true nor false
+range: cl = \"four\" is no integer from 1 to 65535
+range: rcd = a float is no integer from 1 to 65535
+",
+    ),
+];
+
+#[test]
+fn each_key_at_fault_is_told(rt: HostRuntime) -> Result<(), Fail> {
+    all_found(&rt, rt.alloc(), PROFILE_S, KEYS)?;
+    Ok(())
+}
+
+const TIMINGS: &[Case] = &[
+    (
+        &[("rc = 14", "rc = 13")],
+        Verdict::Strange,
+        "warning: rc = 13 is below ras + rp = 14: a bank that is active for ras and precharged for rp is never activated sooner, so rc has no effect\n",
+    ),
+    (
+        &[("ras = 10", "ras = 6")],
+        Verdict::Strange,
+        "warning: ras = 6 is below rcd + rtp = 7: a row that is read is precharged no sooner than that, so ras has no effect on it\n",
+    ),
+    (
+        &[("rrd_l = 3", "rrd_l = 15")],
+        Verdict::Strange,
+        "warning: rc = 14 is below rrd_l = 15: activates of two banks of a group would stand further apart than those of one bank\n",
+    ),
+    (
+        &[("faw = 12", "faw = 7")],
+        Verdict::Strange,
+        "warning: faw = 7 is below 4 * rrd_s = 8: activates that stand rrd_s apart keep faw by themselves, so it has no effect\n",
+    ),
+    (
+        &[("wtr_l = 4", "wtr_l = 1")],
+        Verdict::Strange,
+        "warning: wtr_l = 1 is below wtr_s = 2: a read of the group just written would be allowed sooner than one of another group\n",
+    ),
+    (
+        &[("rtw = 7", "rtw = 6")],
+        Verdict::Strange,
+        "warning: rtw + cwl = 9 is below cl + 6 = 10: fewer than 2 clocks lie on the data bus between the data of a read and of a write\n",
+    ),
+    (
+        &[("cwl = 3", "cwl = 5")],
+        Verdict::Strange,
+        "warning: cl = 4 is below cwl = 5: in DDR4 the write latency is never the longer one\n",
+    ),
+    (
+        &[("wr = 5", "wr = 2")],
+        Verdict::Strange,
+        "warning: wr = 2 is below rtp = 3: a write would hold up a precharge less than a read does, where in DDR4 wr is twice rtp\n",
+    ),
+    (
+        &[("ccd_s = 4", "ccd_s = 5")],
+        Verdict::Strange,
+        "warning: the clocks of a burst = 4 is below ccd_s = 5: bursts of one kind would leave the data bus idle between them, where in DDR4 tCCD_S is 4\n",
+    ),
+    (
+        &[("rfc = 20", "rfc = 13")],
+        Verdict::Strange,
+        "warning: rfc = 13 is below rc = 14: a REF, which opens and closes rows of every bank, would take less than one row of one bank\n",
+    ),
+    (
+        &[("rfc = 20", "rfc = 51")],
+        Verdict::Strange,
+        "warning: refi = 200 is below 4 * rfc = 204: a rank would spend more than a quarter of its time on REFs\n",
+    ),
+    (
+        &[
+            ("rcd = 4", "rcd = 181"),
+            ("ras = 10", "ras = 184"),
+            ("rc = 14", "rc = 188"),
+            ("rfc = 20", "rfc = 50"),
+            ("refi = 200", "refi = 230"),
+        ],
+        Verdict::Strange,
+        "warning: rfc = 50 is below rc = 188: a REF, which opens and closes rows of every bank, would take less than one row of one bank
+warning: refi = 230 is below rfc + rcd = 231: the next REF falls due before a row that is opened behind a REF can be read
+",
+    ),
+];
+
+#[test]
+fn strange_timings_are_told(rt: HostRuntime) -> Result<(), Fail> {
+    all_found(&rt, rt.alloc(), PROFILE_S, TIMINGS)?;
+    Ok(())
+}
+
+const SIZES: &[Case] = &[
+    (
+        &[("cap = 1000", "cap = 8")],
+        Verdict::Strange,
+        "warning: cap = 8 is below rp + rcd + 1 = 9: a request that has to close another row reaches the age cap before it can be served
+warning: cap = 8 is below rfc + 1 = 21: each request that waits through a REF reaches the age cap
+",
+    ),
+    (
+        &[("high = 6", "high = 3")],
+        Verdict::Strange,
+        "warning: high = 3 is below low + 2 = 4: a drain may end behind a single write, and the data bus turns around for it\n",
+    ),
+    (
+        &[("window = 4", "window = 2")],
+        Verdict::Strange,
+        "warning: ports * window = 4 is below high = 6: so many writes are never pending, so no drain begins
+warning: ports * window = 4 is below intake = 8: so many requests are never on their way to a channel
+warning: ports * window = 4 is below reads = 8: so many reads are never pending
+warning: ports * window = 4 is below writes = 8: so many writes are never pending
+warning: ports * window = 4 is below done = 8: so many requests are never in flight or done
+",
+    ),
+    (
+        &[("done = 8", "done = 1")],
+        Verdict::Strange,
+        "warning: done * ccd_s = 4 is below cl + 4 = 8: too few requests may be in flight to keep the data bus busy\n",
+    ),
+    (
+        &[
+            ("window = 4", "window = 64"),
+            ("intake = 8", "intake = 1"),
+            ("reads = 8", "reads = 1"),
+        ],
+        Verdict::Strange,
+        "warning: channels * (intake + reads + writes + done) = 36 is below window = 64: a port may have more requests outstanding than all queues hold\n",
+    ),
+];
+
+#[test]
+fn strange_sizes_are_told(rt: HostRuntime) -> Result<(), Fail> {
+    all_found(&rt, rt.alloc(), PROFILE_S, SIZES)?;
+    Ok(())
+}
+
+const SECOND: &[Case] = &[
+    (
+        &[("rtrs = 2", "rtrs = 5")],
+        Verdict::Strange,
+        "warning: the clocks of a burst = 4 is below rtrs = 5: a change of ranks would cost more than a whole burst\n",
+    ),
+    (
+        &[
+            ("ranks = 2", "ranks = 3"),
+            (" channel rank\"", " channel\""),
+            ("closed = false\n", ""),
+        ],
+        Verdict::AtFault,
+        "range: map = \"column group bank row channel\" is no text of the words channel, group, bank, column, row and rank, each once with one space between two
+missing: there is no key closed
+range: ranks = 3 is no integer from 1 to 2
+",
+    ),
+];
+
+#[test]
+fn the_second_version_is_looked_through_by_its_keys(rt: HostRuntime) -> Result<(), Fail> {
+    all_found(&rt, rt.alloc(), PROFILE_S2, SECOND)?;
+    Ok(())
+}
