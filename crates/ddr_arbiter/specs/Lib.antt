@@ -4,5 +4,6 @@ pub mod Forced
 pub mod Known
 pub mod Laws
 pub mod Mode
+pub mod Quiet
 pub mod Served
 pub mod Situation

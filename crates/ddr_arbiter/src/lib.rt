@@ -16,5 +16,6 @@ pub mod choice;
 mod columns;
 pub mod commands;
 pub mod policy;
+pub mod quiet;
 mod refresh;
 mod rows;

@@ -43,6 +43,13 @@ pub IsLegal-later : (c : Config) (start end : ℕ) (entries : List Entry) → Is
 IsLegal-later c start end entries legal place r on_commands =
     where_later c start end entries (slice_get entries place) place r on_commands (legal place r on_commands)
 
+-- a legal trace stays legal when it ends so many cycles later
+pub IsLegal-later_by : (count : ℕ) (c : Config) (start end : ℕ) (entries : List Entry) → IsLegal c start end entries → IsLegal c start (count + end) entries
+IsLegal-later_by zero c start end entries legal = legal
+IsLegal-later_by (suc count) c start end entries legal =
+    let one_more : (count + end) + 1 ≡ suc count + end = omega arith in
+    rw one_more at (IsLegal-later c start (count + end) entries (IsLegal-later_by count c start end entries legal))
+
 not_past : {X : Type 0} (xs : List X) (place : ℕ) → place < length xs → slice_get xs place ≡ None → ⊥
 not_past [] place before is = omega arith
 not_past (x ∷ xs) zero before is = cc

@@ -40,6 +40,10 @@ recorded c b = record b { trace = b.trace ++ entry b.now c ∷ [] }
 abbrev pub ticked : Bus → Bus
 ticked b = record b { now = b.now + 1 }
 
+-- so many cycles later, with no command issued in them
+abbrev pub passed : ℕ → Bus → Bus
+passed count b = record b { now = b.now + count }
+
 -- the banks are in a state that the command may find now
 abbrev pub fits_now : Bus → Command → Bool
 fits_now b c = state_fits b.config b.trace (entry b.now c)

@@ -3,7 +3,7 @@ ghost use Rattle.std.specs.Prelude.{◌≡◌, ℕ, ◌+◌, ◌<◌, ◌≤◌,
 ghost use Rattle.std.specs.Option.{is_none};
 ghost use Rattle.ddr_trace.specs.declared.command.Command.TheVariants.{Pre};
 ghost use Rattle.ddr_trace.specs.declared.command.Entry.{Entry};
-ghost use Rattle.ddr_trace.specs.Banks.{bank_behind, open_row};
+ghost use Rattle.ddr_trace.specs.Banks.{bank_behind, open_row, ready_row};
 ghost use Rattle.ddr_trace.specs.Commands.{entry, rank_of};
 ghost use Rattle.ddr_trace.specs.Rules.{breaks, breaks_rtrs, is_in, is_on_commands};
 ghost use Rattle.ddr_trace.specs.Legality.{lowest_broken};
@@ -224,6 +224,17 @@ impl Issued {
         match rank {
             0 => self.first.open_row(cycle, group, bank),
             1 => self.second.open_row(cycle, group, bank),
+            _ => None,
+        }
+    }
+    /// The row of a bank that reads and writes find. `None` also outside the geometry.
+    pub fn ready_row(&self, rank: u32, group: u32, bank: u32) -> Option<u32>
+        ensures { (history : List Entry) → HasIssued self.now history
+            → result ≡ ready_row (bank_behind (Pre rank group bank) history) }
+    {
+        match rank {
+            0 => self.first.ready_row(group, bank),
+            1 => self.second.ready_row(group, bank),
             _ => None,
         }
     }

@@ -1,12 +1,13 @@
 //! What was issued on a channel's command bus, and what may be issued next.
 ghost use Rattle.std.specs.Prelude.{◌≡◌, ℕ, ◌+◌, ◌-◌, ◌<◌, ◌≤◌, ◌↔◌, ◌&&◌, nat_le, [], ◌∷◌, ◌++◌, None, Some, IsOk, IfOk, OnErr, OnOk, MatchResult};
 ghost use Rattle.ddr_timing.specs.declared.units.TheConstants.{CLOCK_STOP};
+ghost use Rattle.ddr_trace.specs.Banks.{bank_behind, ready_row};
 ghost use Rattle.ddr_trace.specs.Bus.{KeepsBus};
 ghost use Rattle.ddr_trace.specs.declared.command.Command.TheVariants.{Pre};
 ghost use Rattle.ddr_trace.specs.Commands.{entry};
 ghost use Rattle.ddr_trace.specs.Legality.{IsLegal};
 ghost use Rattle.ddr_rank.specs.Ready.{LAST_CYCLE};
-ghost use Rattle.ddr_legality.specs.Bus.{broken_now, fits_now, is_legal_now, keeps_distances_now, open_row_now, opened, recorded, ticked};
+ghost use Rattle.ddr_legality.specs.Bus.{broken_now, fits_now, is_legal_now, keeps_distances_now, open_row_now, opened, passed, recorded, ticked};
 
 use crate::issued::Issued;
 use ddr_timing::config::Config;
@@ -144,11 +145,28 @@ impl Legality {
         self.now += 1;
     }
 
+    /// Goes on by so many cycles, in none of which a command is issued.
+    pub fn pass(&mut self, count: u64)
+        requires { self.old.bus.now + count ≤ CLOCK_STOP }
+        ensures bus { self.new.bus ≡ passed count self.old.bus }
+        ensures spare { self.new.spare ≡ self.old.spare }
+    {
+        self.now += count;
+    }
+
     /// The open row of a bank now, if it is active. `None` also outside the geometry.
     pub fn open_row(&self, rank: u32, group: u32, bank: u32) -> Option<u32>
         ensures { result ≡ open_row_now self.entry.now.bus (Pre rank group bank) }
     {
         self.issued.open_row(self.now, rank, group, bank)
+    }
+
+    /// The row of a bank that reads and writes find. It stays open as long as nothing is issued; the open row of a bank
+    /// that has none is to be closed by an auto-precharge. `None` also outside the geometry.
+    pub fn ready_row(&self, rank: u32, group: u32, bank: u32) -> Option<u32>
+        ensures { result ≡ ready_row (bank_behind (Pre rank group bank) self.entry.now.bus.trace) }
+    {
+        self.issued.ready_row(rank, group, bank)
     }
 
     /// The commands so far. They are legal, in a trace that ends behind this cycle, and no two of their bursts

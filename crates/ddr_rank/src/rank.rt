@@ -4,7 +4,7 @@ ghost use Rattle.std.specs.Option.{is_none};
 ghost use Rattle.ddr_timing.specs.declared.units.TheConstants.{GROUP_BANKS};
 ghost use Rattle.ddr_trace.specs.declared.command.Entry.{Entry};
 ghost use Rattle.ddr_trace.specs.declared.command.Command.TheVariants.{Pre};
-ghost use Rattle.ddr_trace.specs.Banks.{bank_behind, open_row};
+ghost use Rattle.ddr_trace.specs.Banks.{bank_behind, open_row, ready_row};
 ghost use Rattle.ddr_trace.specs.Commands.{entry, rank_of};
 ghost use Rattle.ddr_trace.specs.Rules.{is_in};
 ghost use Rattle.ddr_trace.specs.Legality.{lowest_rule};
@@ -150,6 +150,18 @@ impl Rank {
             return None;
         }
         self.bank(group, bank).open_row(cycle, &self.config.timing)
+    }
+
+    /// The row of a bank that reads and writes find, which stays open until a precharge: `None` from an RDA or WRA on, though
+    /// its row is still open until the auto-precharge starts. `None` also outside the geometry.
+    pub fn ready_row(&self, group: u32, bank: u32) -> Option<u32>
+        ensures { (rank : ℕ) (history : List Entry) → StandsFor self.entry.now rank history
+            → result ≡ ready_row (bank_behind (Pre rank group bank) history) }
+    {
+        if group >= self.config.geometry.groups || bank >= GROUP_BANKS {
+            return None;
+        }
+        self.bank(group, bank).ready_row()
     }
 
     /// The lowest rule that the command would break, by what is kept.

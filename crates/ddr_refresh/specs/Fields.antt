@@ -2,8 +2,8 @@
 use Rattle.std.proofs.Common.{◌≡◌, ◌-◌, sym, ap, ◌∙◌}
 use Rattle.std.proofs.Math.Nat.{add-sub_cancel_left}
 use Rattle.ddr_refresh.specs.declared.debt.Debt.TheInside.{Inside}
-use Rattle.ddr_refresh.specs.Refreshes.{Refreshes, due_by}
-use Rattle.ddr_refresh.specs.View.{next_due, refreshes, IsSound}
+use Rattle.ddr_refresh.specs.Refreshes.{Refreshes, due_by, next_due}
+use Rattle.ddr_refresh.specs.View.{refreshes, IsSound}
 
 abbrev pub fields : Refreshes → Inside
 fields r = record {

@@ -22,6 +22,10 @@ opened timing = record { refi = timing.refi; postpone = timing.postpone; ticks =
 abbrev pub due_by : ℕ → ℕ → ℕ
 due_by ticks refi = (ticks - 1) / refi
 
+-- the tick in which the first REF falls due that isn't due yet
+abbrev pub next_due : Refreshes → ℕ
+next_due r = r.refi * (due_by r.ticks r.refi + 1) + 1
+
 -- how many REFs are due and not issued
 abbrev pub debt_of : Refreshes → ℕ
 debt_of r = due_by r.ticks r.refi - r.issued
@@ -32,6 +36,10 @@ is_forced nothing_pending r = nat_lt r.postpone (debt_of r) || (nothing_pending 
 
 abbrev pub after_tick : Refreshes → Refreshes
 after_tick r = record r { ticks = r.ticks + 1 }
+
+-- after so many cycles
+abbrev pub after_ticks : ℕ → Refreshes → Refreshes
+after_ticks count r = record r { ticks = r.ticks + count }
 
 abbrev pub after_issue : Refreshes → Refreshes
 after_issue r = record r { issued = r.issued + 1 }

@@ -2,14 +2,10 @@
 use Rattle.std.specs.Prelude.{◌≡◌, ℕ, ◌+◌, ◌*◌, ◌≤◌}
 use Rattle.ddr_timing.specs.declared.units.TheConstants.{CLOCK_STOP}
 use Rattle.ddr_refresh.specs.declared.debt.Debt.TheInside.{Inside}
-use Rattle.ddr_refresh.specs.Refreshes.{Refreshes, due_by}
+use Rattle.ddr_refresh.specs.Refreshes.{Refreshes, due_by, next_due}
 
 abbrev pub refreshes : Inside → Refreshes
 refreshes a = record { refi = a.refi; postpone = a.postpone; ticks = a.ticks; issued = a.issued }
-
--- the tick in which the first REF falls due that isn't due yet
-abbrev pub next_due : Refreshes → ℕ
-next_due r = r.refi * (due_by r.ticks r.refi + 1) + 1
 
 pub record IsSound (a : Inside) : Type 0 where
   pub interval : 1 ≤ a.refi

@@ -1,7 +1,7 @@
 //! How many refreshes of a rank are due and not issued.
-ghost use Rattle.std.specs.Prelude.{◌≡◌, ◌<◌, ◌≤◌};
+ghost use Rattle.std.specs.Prelude.{◌≡◌, ℕ, ◌+◌, ◌<◌, ◌≤◌};
 ghost use Rattle.ddr_timing.specs.declared.units.TheConstants.{CLOCK_STOP};
-ghost use Rattle.ddr_refresh.specs.Refreshes.{opened, after_tick, after_issue, debt_of, is_forced, IsCounted};
+ghost use Rattle.ddr_refresh.specs.Refreshes.{opened, after_tick, after_ticks, after_issue, debt_of, next_due, is_forced, IsCounted};
 
 use ddr_timing::config::Config;
 use std::marker::Model;
@@ -65,6 +65,31 @@ impl Debt {
             self.due += 1;
             self.until_due = self.refi;
         }
+    }
+
+    /// Counts so many cycles at once.
+    pub fn pass(&mut self, count: u64)
+        requires { self.old.ticks + count ≤ CLOCK_STOP }
+        ensures { self.new ≡ after_ticks count self.old }
+    {
+        self.ticks += count;
+        let until_due = u64::from(self.until_due);
+        if count < until_due {
+            self.until_due -= count as u32;
+            return;
+        }
+        let over = count - until_due;
+        let refi = u64::from(self.refi);
+        self.due += 1 + over / refi;
+        self.until_due = self.refi - (over % refi) as u32;
+    }
+
+    /// For how many further cycles no refresh falls due.
+    pub fn steady(&self) -> u64
+        ensures exact { result + self.entry.now.ticks + 1 ≡ next_due self.entry.now }
+        ensures steady { (count : ℕ) → count ≤ result → debt_of (after_ticks count self.entry.now) ≡ debt_of self.entry.now }
+    {
+        u64::from(self.until_due - 1)
     }
 
     /// How many refreshes are due and not issued.

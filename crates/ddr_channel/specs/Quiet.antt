@@ -1,0 +1,23 @@
+-- Cycles in which a channel completes nothing and issues nothing.
+use Rattle.std.specs.Prelude.{◌≡◌, ℕ, zero, suc, ◌<◌, ◌==◌, [], filter}
+use Rattle.ddr_timing.specs.declared.units.TheConstants.{CLOCK_STOP}
+use Rattle.ddr_arbiter.specs.declared.choice.Choice.TheVariants as choice
+use Rattle.ddr_channel.specs.Choice.{choice_of}
+use Rattle.ddr_channel.specs.Cycle.{after_cycle, at_choice}
+use Rattle.ddr_channel.specs.State.{State}
+
+-- the next cycle can be made, and in it nothing completes and nothing is issued
+pub record IsIdleNext (s : State) : Type 0 where
+  pub clock : s.now < CLOCK_STOP
+  pub completes : filter (λ d. d.due == s.now) s.flight ≡ []
+  pub issues : choice_of (at_choice s) ≡ choice.Nothing
+
+-- after so many cycles
+abbrev pub after_cycles : ℕ → State → State
+after_cycles zero s = s
+after_cycles (suc count) s = after_cycles count (after_cycle s)
+
+-- so it is in each of so many cycles from now on, with no other call between them
+abbrev pub IsQuiet : ℕ → State → Type 0
+IsQuiet zero s = Unit {0}
+IsQuiet (suc count) s = IsIdleNext s × IsQuiet count (after_cycle s)
