@@ -1,5 +1,5 @@
 -- Lemmas on legal traces that grow, and on what may be issued.
-use Rattle.std.proofs.Common.{◌≡◌, ℕ, zero, suc, ◌+◌, ◌<◌, Bool, true, false, ◌&&◌, not, eqb, ltb, leb, List, [], ◌∷◌, ◌++◌, Option, Some, None, length, take, refl, sym, ap, ◌∙◌, inl, inr, arith}
+use Rattle.std.proofs.Common.{◌≡◌, ℕ, zero, suc, ◌+◌, ◌<◌, Bool, true, false, ◌&&◌, not, eqb, ltb, leb, List, [], ◌∷◌, ◌++◌, Option, Some, None, length, take, refl, sym, ap, subst, ◌∙◌, inl, inr, arith}
 use Rattle.std.specs.List.{slice_get}
 use Rattle.std.proofs.lemmas.Bool.{and_parts, and_from, not-false, ltb-true, lt-ltb, and_right, cases_order, false≢true}
 use Rattle.std.proofs.lemmas.List.{take-append-le, take_at, length_push}
@@ -45,10 +45,9 @@ IsLegal-later c start end entries legal place r on_commands =
 
 -- a legal trace stays legal when it ends so many cycles later
 pub IsLegal-later_by : (count : ℕ) (c : Config) (start end : ℕ) (entries : List Entry) → IsLegal c start end entries → IsLegal c start (count + end) entries
-IsLegal-later_by zero c start end entries legal = legal
+IsLegal-later_by zero c start end entries legal = subst (λ (n : ℕ). IsLegal c start n entries) (omega arith) legal
 IsLegal-later_by (suc count) c start end entries legal =
-    let one_more : (count + end) + 1 ≡ suc count + end = omega arith in
-    rw one_more at (IsLegal-later c start (count + end) entries (IsLegal-later_by count c start end entries legal))
+    subst (λ (n : ℕ). IsLegal c start n entries) (omega arith) (IsLegal-later c start (count + end) entries (IsLegal-later_by count c start end entries legal))
 
 not_past : {X : Type 0} (xs : List X) (place : ℕ) → place < length xs → slice_get xs place ≡ None → ⊥
 not_past [] place before is = omega arith

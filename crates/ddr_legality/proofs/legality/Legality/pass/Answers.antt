@@ -1,5 +1,6 @@
 -- The trace ends so many cycles later.
-use Rattle.std.proofs.Common.{◌≡◌, ◌+◌, ap, arith}
+use Rattle.std.proofs.Common.{ℕ, ◌+◌, ap, subst, arith}
+use Rattle.ddr_trace.specs.Legality.{IsLegal}
 use Rattle.ddr_legality.specs.Kept.{Kept}
 use Rattle.ddr_legality.proofs.LegalLemmas.{IsLegal-later_by}
 use Rattle.ddr_legality.proofs.legality.Legality.pass.Goals as goal
@@ -8,8 +9,8 @@ pub invariant_of-self : goal.invariant_of-self
 invariant_of-self c = record {
   issued = c.self.invariant.issued;
   legal = (let a = c.self.inside in
-      let later : c.args.count + (a.now + 1) ≡ a.now + c.args.count + 1 = omega arith in
-      rw later at (IsLegal-later_by c.args.count a.issued.config a.issued.start (a.now + 1) a.entries.items c.self.invariant.legal));
+      subst (λ (n : ℕ). IsLegal a.issued.config a.issued.start n a.entries.items) (omega arith)
+      (IsLegal-later_by c.args.count a.issued.config a.issued.start (a.now + 1) a.entries.items c.self.invariant.legal));
   begun = omega (arith, c.self.invariant.begun);
   clock = omega (arith, ap (λ (k : Kept). k.bus.now) c.self.view_is);
 }
