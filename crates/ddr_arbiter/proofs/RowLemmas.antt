@@ -14,6 +14,7 @@ use Rattle.ddr_hazards.specs.Banks.{in_bank, is_in_bank}
 use Rattle.ddr_arbiter.specs.declared.candidates.Served.{Served}
 use Rattle.ddr_arbiter.specs.Known.{AreInOneBank, HasNoStep}
 use Rattle.ddr_arbiter.specs.Served.{is_candidate, places_of, wants}
+use Rattle.ddr_arbiter.specs.Until.{IsCandidate}
 use Rattle.ddr_arbiter.proofs.BankPlaceLemmas.{listed_place, place_of_bank}
 use Rattle.ddr_arbiter.proofs.LawLemmas.{passes_some}
 use Rattle.ddr_arbiter.proofs.PlaceLemmas.{any_here, any_none_more}
@@ -23,18 +24,18 @@ use Rattle.ddr_arbiter.proofs.KnownLemmas.{row_is, same_open_row}
 -- an idle bank
 
 -- has nothing to precharge
-idle_no_precharge : (b : Bus) (waiting : List Waiting) (places : List ℕ) (q : Place) → open_row_at b q ≡ None → can_precharge b waiting places q ≡ false
+pub idle_no_precharge : (b : Bus) (waiting : List Waiting) (places : List ℕ) (q : Place) → open_row_at b q ≡ None → can_precharge b waiting places q ≡ false
 idle_no_precharge b waiting places q none =
     let stays : is_on_other_row b q ≡ false = ap (λ o. is_some o && not (is_row o q.row)) none in
     rw stays refl
 
 -- the first rows of the places of a bank are one
-one_first_row : (b : Bus) (p q : Place) → AreInOneBank p q → is_legal_now b (activate_at (first_row q)) ≡ is_legal_now b (activate_at (first_row p))
+pub one_first_row : (b : Bus) (p q : Place) → AreInOneBank p q → is_legal_now b (activate_at (first_row q)) ≡ is_legal_now b (activate_at (first_row p))
 one_first_row b p q same =
     ap (λ (r : ℕ). is_legal_now b (Act r q.group q.bank 0)) (sym same.0) ∙ ap (λ (g : ℕ). is_legal_now b (Act p.rank g q.bank 0)) (sym same.1)
     ∙ ap (λ (k : ℕ). is_legal_now b (Act p.rank p.group k 0)) (sym same.2)
 
-no_act : (b : Bus) (q : Place) → is_legal_now b (activate_at (first_row q)) ≡ false → is_legal_now b (activate_at q) ≡ false
+pub no_act : (b : Bus) (q : Place) → is_legal_now b (activate_at (first_row q)) ≡ false → is_legal_now b (activate_at q) ≡ false
 no_act b q first = elim (cases_Bool (is_legal_now b (activate_at q))) [
   | inl legal ↦ absurd (true≢false (sym (first_row_legal b q legal) ∙ first))
   | inr not_legal ↦ not_legal
@@ -128,6 +129,16 @@ of_bank p w is =
 abbrev is_wanting : Bus → Place → Waiting → Bool
 is_wanting b p w = wants_open_row b p w.request.place
 
+-- a candidate of the bank whose row is the open one
+pub candidate_wants : (b : Bus) (c : Served) (waiting : List Waiting) (p : Place) (place : ℕ) (w : Waiting) → IsCandidate c waiting place w → AreInOneBank p w.request.place →
+    is_row_open b w.request.place ≡ true → is_open_row_wanted b waiting (places_of c waiting) p ≡ true
+candidate_wants b c waiting p place w candidate bank opened =
+    let here : is_wanting b p w ≡ true = rw (eq-eqb w.request.place.rank p.rank (sym bank.0), eq-eqb w.request.place.group p.group (sym bank.1), eq-eqb w.request.place.bank p.bank (sym bank.2)) opened in
+    let test : passes_at (is_wanting b p) waiting place ≡ true = ap (λ o. option_map_or (is_wanting b p) o false) candidate.here ∙ here in
+    any_kept (is_candidate c waiting) (passes_at (is_wanting b p) waiting) (range_with_len 0 c.count)
+    ∙ any_here (λ x. is_candidate c waiting x && passes_at (is_wanting b p) waiting x) c.count place candidate.within
+    (and_from (is_candidate c waiting place) (passes_at (is_wanting b p) waiting place) candidate.passes test)
+
 -- a candidate of the bank that wants the row
 pub found_wanted : (b : Bus) (c : Served) (waiting : List Waiting) (p : Place) (row k place : ℕ) → open_row_at b p ≡ Some row →
     in_bank p.rank p.group p.bank k waiting ≡ Some place → wants c row waiting place ≡ true → is_open_row_wanted b waiting (places_of c waiting) p ≡ true
@@ -139,11 +150,7 @@ found_wanted b c waiting p row k place is there wanted =
     let own : eqb w.request.place.row row ≡ true = sym (ap (λ o. option_map_or (λ (v : Waiting). eqb v.request.place.row row) o false) at.1) ∙ parts.0 in
     let bank = of_bank p w at.2 in
     let opened : is_row_open b w.request.place ≡ true = row_is b w.request.place row (same_open_row b p w.request.place bank ∙ is) ∙ eq-eqb row w.request.place.row (sym (eqb-true w.request.place.row row own)) in
-    let here : is_wanting b p w ≡ true = rw (eq-eqb w.request.place.rank p.rank (sym bank.0), eq-eqb w.request.place.group p.group (sym bank.1), eq-eqb w.request.place.bank p.bank (sym bank.2)) opened in
-    let test : passes_at (is_wanting b p) waiting place ≡ true = ap (λ o. option_map_or (is_wanting b p) o false) at.1 ∙ here in
-    any_kept (is_candidate c waiting) (passes_at (is_wanting b p) waiting) (range_with_len 0 c.count)
-    ∙ any_here (λ x. is_candidate c waiting x && passes_at (is_wanting b p) waiting x) c.count place (ltb-true place c.count rest.0)
-    (and_from (is_candidate c waiting place) (passes_at (is_wanting b p) waiting place) rest.1 test)
+    candidate_wants b c waiting p place w (record { within = ltb-true place c.count rest.0; passes = rest.1; here = at.1 }) bank opened
 
 never_true : (t : Bool) → (t ≡ true → ⊥) → t ≡ false
 never_true true never = absurd (never refl)

@@ -7,3 +7,4 @@ pub mod Mode
 pub mod Quiet
 pub mod Served
 pub mod Situation
+pub mod Until

@@ -1,28 +1,190 @@
 //! For how long the scheduler chooses nothing.
-ghost use Rattle.std.specs.Prelude.{◌≤◌, All, length};
+//!
+//! Where no command is issued, what it looks at changes by itself in four ways: a refresh falls due, the oldest request
+//! reaches the cap, an auto-precharge closes a bank, and a distance to an earlier command is kept. The first two end what is
+//! known of the candidates. Of the others the legality tells the first cycle of each command, once for each bank.
+ghost use Rattle.std.specs.Prelude.{◌≡◌, ℕ, ◌<◌, ◌≤◌, None, Bool, List, All, length};
+ghost use Rattle.ddr_timing.specs.declared.units.TheConstants.{CLOCK_STOP};
+ghost use Rattle.ddr_trace.specs.Banks.{bank_behind, ready_row};
 ghost use Rattle.ddr_hazards.specs.declared.pending.TheConstants.{RANKS};
+ghost use Rattle.ddr_hazards.specs.declared.waiting.Waiting.{Waiting};
+ghost use Rattle.ddr_hazards.specs.PendingList.{IsInRank};
+ghost use Rattle.ddr_arbiter.specs.declared.candidates.Served.{Served};
+ghost use Rattle.ddr_arbiter.specs.Commands as commands;
 ghost use Rattle.ddr_arbiter.specs.Quiet.{IsQuietUntil};
 ghost use Rattle.ddr_arbiter.specs.Situation.{situation};
+ghost use Rattle.ddr_arbiter.specs.Until.{AreSteadyUntil, AreStuckUntil, IsAgeSteadyUntil, IsBankStuckUntil, IsCandidate, IsStuckUntil};
 
+use crate::banks::{BANKS, bank_number};
+use crate::candidates::{Served, candidates, is_free, is_same_kind};
+use crate::commands::{activate_at, column_at, precharge_at};
 use crate::policy::Policy;
+use crate::refresh::forced_ranks;
+use crate::rows::is_wanted;
+use ddr_address_map::place::Place;
 use ddr_hazards::pending::Pending;
 use ddr_legality::legality::Legality;
 use ddr_refresh::debt::Debt;
+
+/// A cycle that no clock reaches.
+const NEVER: u64 = u64::MAX;
+
+/// Of each bank that a channel may have, whether it was asked until when nothing can be chosen for its candidates.
+type Asked = [bool; BANKS];
 
 /// A cycle before which nothing is chosen, in each cycle from the next one of the command bus on, as long as nothing is
 /// admitted, served or completed and the drain mode stays. It is no promise that something is chosen then. The parameters
 /// are those of `choose`.
 pub fn quiet_until(
-    _pending: &Pending,
+    pending: &Pending,
     legality: &Legality,
-    _debts: &[Debt],
-    _policy: &Policy,
-    _drain: bool,
-    _room: bool,
+    debts: &[Debt],
+    policy: &Policy,
+    drain: bool,
+    room: bool,
 ) -> u64
-    requires admitted { All (λ w. w.admitted ≤ legality.now.bus.now) _pending.now.waiting }
-    requires ranks { length _debts.now ≤ RANKS }
-    ensures { IsQuietUntil result (situation _pending.now legality.entry.now _debts.now _policy.now _drain _room) }
+    requires admitted { All (λ w. w.admitted ≤ legality.now.bus.now) pending.now.waiting }
+    requires ranks { length debts.now ≤ RANKS }
+    ensures { IsQuietUntil result (situation pending.now legality.entry.now debts.now policy.now drain room) }
 {
-    legality.now()
+    let now = legality.now();
+    let forced = forced_ranks(pending, debts);
+    if forced[0] || forced[1] {
+        return now;
+    }
+    let steady = steady_until(now, debts);
+    if pending.len() == 0 {
+        return steady;
+    }
+    let end = steady.min(age_steady_until(pending, now, policy.cap));
+    let candidates = candidates(pending, now, policy.cap, drain, &forced);
+    stuck_until(pending, legality, &candidates, room, end)
+}
+
+/// A cycle before which no further refresh falls due.
+fn steady_until(now: u64, debts: &[Debt]) -> u64
+    ensures { AreSteadyUntil result now debts.now }
+{
+    let mut end = NEVER;
+    for debt in debts {
+        end = end.min(now.saturating_add(debt.steady()).saturating_add(1));
+    }
+    end
+}
+
+/// The cycle in which the oldest request reaches the cap, where it hasn't yet.
+fn age_steady_until(pending: &Pending, now: u64, cap: u32) -> u64
+    requires admitted { All (λ w. w.admitted ≤ now) pending.now.waiting }
+    requires clock { now ≤ CLOCK_STOP }
+    ensures { IsAgeSteadyUntil result now cap pending.now.waiting }
+{
+    match pending.oldest() {
+        Some((_, admitted)) => {
+            let reached = admitted + u64::from(cap);
+            if now < reached { reached } else { NEVER }
+        }
+        None => NEVER,
+    }
+}
+
+/// A cycle, no later than `end`, before which nothing can be chosen for any candidate. Where something can be chosen now it
+/// may be told without a look at the others.
+fn stuck_until(
+    pending: &Pending,
+    legality: &Legality,
+    candidates: &Served,
+    room: bool,
+    end: u64,
+) -> u64
+    requires inside { All (λ w. IsInRank w.request.place) pending.now.waiting }
+    requires count { candidates.now.count ≤ length pending.now.waiting }
+    ensures end { result ≤ end }
+    ensures stuck { (place : ℕ) (w : Waiting) → IsCandidate candidates.now pending.now.waiting place w
+        → IsStuckUntil result legality.entry.now.bus candidates.now pending.now.waiting room w.request.place }
+{
+    let now = legality.now();
+    let mut asked = [false; BANKS];
+    let mut until = end;
+    for place in 0..candidates.count {
+        if until <= now {
+            return until;
+        }
+        until = place_until(
+            pending, legality, candidates, room, &mut asked, until, place,
+        );
+    }
+    until
+}
+
+/// A cycle, no later than `until`, before which nothing can be chosen for the request at the place, if it is a candidate.
+fn place_until(
+    pending: &Pending,
+    legality: &Legality,
+    candidates: &Served,
+    room: bool,
+    asked: &mut Asked,
+    until: u64,
+    place: usize,
+) -> u64
+    requires inside { All (λ w. IsInRank w.request.place) pending.now.waiting }
+    requires count { candidates.now.count ≤ length pending.now.waiting }
+    requires place { place < candidates.now.count }
+    requires asked { AreStuckUntil until legality.now.bus candidates.now pending.now.waiting room asked.old }
+    ensures until { result ≤ until }
+    ensures stuck { (w : Waiting) → IsCandidate candidates.now pending.now.waiting place w
+        → IsStuckUntil result legality.entry.now.bus candidates.now pending.now.waiting room w.request.place }
+    ensures asked { AreStuckUntil result legality.entry.now.bus candidates.now pending.now.waiting room asked.new }
+{
+    let Some((request, _)) = pending.get(place) else {
+        return until;
+    };
+    let at = request.place;
+    if !is_same_kind(candidates.kind, request.echo.kind) {
+        return until;
+    }
+    let number = bank_number(at);
+    if asked[number] {
+        return until;
+    }
+    if !is_free(&candidates.forced, pending, place) {
+        return until;
+    }
+    asked[number] = true;
+    until.min(bank_until(pending, legality, candidates, room, at))
+}
+
+/// A cycle before which nothing can be chosen for any candidate of the place's bank.
+fn bank_until(
+    pending: &Pending,
+    legality: &Legality,
+    candidates: &Served,
+    room: bool,
+    at: Place,
+) -> u64
+    requires inside { All (λ w. IsInRank w.request.place) pending.now.waiting }
+    requires count { candidates.now.count ≤ length pending.now.waiting }
+    requires at { IsInRank at }
+    ensures { IsBankStuckUntil result legality.entry.now.bus candidates.now pending.now.waiting room at }
+{
+    let Some(row) = legality.ready_row(at.rank, at.group, at.bank) else {
+        return idle_until(legality, at);
+    };
+    if !is_wanted(pending, candidates, at, row) {
+        return legality.allowed_at(precharge_at(at));
+    }
+    if !room {
+        return NEVER;
+    }
+    let first = Place { row, line: 0, ..at };
+    legality.allowed_at(column_at(false, candidates.kind, first))
+}
+
+/// A cycle before which nothing can be chosen for any request of the place's bank, which has no row for reads and writes: the
+/// first for an ACT. Where a row is still open, an auto-precharge is to close it, and then no PRE is legal that finds it open.
+/// What one row may, each may that the geometry has.
+fn idle_until(legality: &Legality, at: Place) -> u64
+    requires { ready_row (bank_behind (commands.precharge_at at) legality.now.bus.trace) ≡ None }
+    ensures { (candidates : Served) (waiting : List Waiting) (room : Bool) → IsBankStuckUntil result legality.entry.now.bus candidates waiting room at }
+{
+    legality.allowed_at(activate_at(Place { row: 0, ..at }))
 }

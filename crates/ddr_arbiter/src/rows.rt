@@ -128,7 +128,7 @@ fn activate_step(legality: &Legality, at: Place) -> Step
 }
 
 /// Whether a candidate wants this row, which is open in the bank of the place.
-fn is_wanted(pending: &Pending, candidates: &Served, at: Place, row: u32) -> bool
+pub(crate) fn is_wanted(pending: &Pending, candidates: &Served, at: Place, row: u32) -> bool
     requires inside { All (λ w. IsInRank w.request.place) pending.now.waiting }
     requires count { candidates.now.count ≤ length pending.now.waiting }
     requires at { IsInRank at }
