@@ -12,6 +12,8 @@ pub mod CycleLemmas
 pub mod RoomLemmas
 pub mod ChannelLemmas
 pub mod StandsLemmas
+pub mod QuietLemmas
+pub mod SleepLemmas
 pub mod HeldLemmas
 pub mod AdmittedLemmas
 pub mod ToldLemmas

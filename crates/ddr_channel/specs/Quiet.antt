@@ -1,9 +1,9 @@
 -- Cycles in which a channel completes nothing and issues nothing.
-use Rattle.std.specs.Prelude.{◌≡◌, ℕ, zero, suc, ◌<◌, ◌==◌, [], filter}
+use Rattle.std.specs.Prelude.{◌≡◌, ℕ, zero, suc, Bool, ◌<◌, ◌==◌, [], filter}
 use Rattle.ddr_timing.specs.declared.units.TheConstants.{CLOCK_STOP}
 use Rattle.ddr_arbiter.specs.declared.choice.Choice.TheVariants as choice
 use Rattle.ddr_channel.specs.Choice.{choice_of}
-use Rattle.ddr_channel.specs.Cycle.{after_cycle, at_choice}
+use Rattle.ddr_channel.specs.Cycle.{after_cycle, at_choice, drained}
 use Rattle.ddr_channel.specs.State.{State}
 
 -- the next cycle can be made, and in it nothing completes and nothing is issued
@@ -21,3 +21,8 @@ after_cycles (suc count) s = after_cycles count (after_cycle s)
 abbrev pub IsQuiet : ℕ → State → Type 0
 IsQuiet zero s = Unit {0}
 IsQuiet (suc count) s = IsIdleNext s × IsQuiet count (after_cycle s)
+
+-- the drain mode after so many quiet cycles: from the first of them on it stays
+abbrev pub drain_after : ℕ → State → Bool
+drain_after zero s = s.drain
+drain_after (suc count) s = (drained s).drain

@@ -1,5 +1,5 @@
 //! One channel: its pending requests, its rows, its trace, and the cycles that it makes.
-ghost use Rattle.std.specs.Prelude.{◌≡◌, false, ◌+◌, ◌<◌, ◌≤◌, ◌↔◌, List, [], ◌∷◌, ◌++◌, map, IfSome, IsTrue, IsErr, IsOk, IfOk, IfErr, OnOk, OnErr, IsErrOf, option_copied, slice_get};
+ghost use Rattle.std.specs.Prelude.{◌≡◌, false, ◌+◌, ◌<◌, ◌≤◌, ◌↔◌, List, [], ◌∷◌, ◌++◌, map, replicate, IfSome, IsTrue, IsErr, IsOk, IfOk, IfErr, OnOk, OnErr, IsErrOf, option_copied, slice_get};
 ghost use Rattle.ddr_arbiter.specs.declared.choice.Choice.TheVariants as choice;
 ghost use Rattle.ddr_channel.specs.declared.channel.CycleError.TheVariants.{ClockSpent, OutOfMemory};
 ghost use Rattle.ddr_address_map.specs.declared.request.Kind.TheVariants.{Read, Write};
@@ -14,13 +14,14 @@ ghost use Rattle.ddr_channel.specs.Cycle.{at_choice, drained, after_cycle};
 ghost use Rattle.ddr_channel.specs.History.{Call, Admit, Cycle, Pop, run};
 ghost use Rattle.ddr_channel.specs.Kept.{AgreesWith, state_of};
 ghost use Rattle.ddr_channel.specs.Promise.{StandsFor, IsNextAnswer};
+ghost use Rattle.ddr_channel.specs.Quiet.{IsQuiet, after_cycles, drain_after};
 ghost use Rattle.ddr_channel.specs.Room.{KeepsRoom, wants_memory};
 ghost use Rattle.ddr_channel.specs.Sound.{IsServed};
 ghost use Rattle.ddr_channel.specs.State.{opened, after_admit, after_pop, is_queue_full};
 ghost use Rattle.ddr_channel.specs.Told.{ComesAsTold, IsNewest, WasAdmitted, issued_in, with_issued};
 
 use crate::bus::{issue, reserve};
-use crate::debts::{Debts, count, tick};
+use crate::debts::{Debts, count, pass, tick};
 use crate::issued::{Issued, issued_with};
 use crate::queue::complete;
 use crate::transfer::serve;
@@ -227,6 +228,40 @@ impl Channel {
         self.debts = debts;
         self.legality.tick();
         Ok(issued_with(now, command, served))
+    }
+
+    /// How many cycles from now on are known to be quiet: nothing completes and nothing is issued in them, as long as
+    /// no other call comes between. There may be more.
+    pub fn quiet(&self) -> u64
+        ensures { IsQuiet result (state_of self.entry.now) }
+    {
+        0
+    }
+
+    /// Makes so many quiet cycles at once.
+    pub fn pass(&mut self, count: u64)
+        requires { IsQuiet count (state_of self.old) }
+        ensures state { state_of self.new ≡ after_cycles count (state_of self.old) }
+        ensures rest { (self.new.trace ≡ self.old.trace) × (self.new.pending ≡ self.old.pending)
+            × (self.new.flight ≡ self.old.flight) × (self.new.done ≡ self.old.done) }
+        ensures config { self.new.config ≡ self.old.config }
+        ensures clock { self.new.now ≡ self.old.now + count }
+        ensures room { KeepsRoom self.old self.new }
+        ensures stands { (calls : List Call) → StandsFor self.old calls → StandsFor self.new (calls ++ replicate count Cycle) }
+    {
+        self.drain = self.drain_after(count);
+        pass(&mut self.debts, count);
+        self.legality.pass(count);
+    }
+
+    /// The drain mode after so many quiet cycles.
+    fn drain_after(&self, count: u64) -> bool
+        ensures { result ≡ drain_after count (state_of self.entry.now) }
+    {
+        if count == 0 {
+            return self.drain;
+        }
+        self.next_drain()
     }
 
     /// The completion that was done first.

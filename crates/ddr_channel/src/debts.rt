@@ -1,9 +1,9 @@
 //! The refresh debts of a channel's ranks.
-ghost use Rattle.std.specs.Prelude.{◌≡◌, ℕ, ◌<◌, ◌≤◌, true, All, map, slice_get, option_map, IfSome};
+ghost use Rattle.std.specs.Prelude.{◌≡◌, ℕ, ◌+◌, ◌<◌, ◌≤◌, true, All, map, slice_get, option_map, IfSome};
 ghost use Rattle.std.specs.Option.{option_map_or};
 ghost use Rattle.ddr_timing.specs.declared.units.TheConstants.{CLOCK_STOP};
 ghost use Rattle.ddr_trace.specs.Commands.{is_refresh, rank_of};
-ghost use Rattle.ddr_refresh.specs.Refreshes.{after_tick, debt_of};
+ghost use Rattle.ddr_refresh.specs.Refreshes.{after_tick, after_ticks, debt_of};
 ghost use Rattle.ddr_channel.specs.Issue.{refreshes_with};
 
 use ddr_hazards::pending::RANKS;
@@ -20,6 +20,16 @@ pub(crate) fn tick(debts: &mut Debts)
 {
     for debt in debts {
         debt.tick();
+    }
+}
+
+/// Counts so many cycles at once.
+pub(crate) fn pass(debts: &mut Debts, cycles: u64)
+    requires { All (λ r. r.ticks + cycles ≤ CLOCK_STOP) debts.old }
+    ensures { debts.new ≡ map (after_ticks cycles) debts.old }
+{
+    for debt in debts {
+        debt.pass(cycles);
     }
 }
 
