@@ -35,7 +35,7 @@ use Rattle.ddr_channel.specs.Promise.{StandsFor}
 use Rattle.ddr_channel.specs.Sound.{IsServed, IsSound}
 use Rattle.ddr_channel.specs.State.{State, opened, after_admit, is_queue_full}
 use Rattle.ddr_channel.specs.View.{kept_of, IsWhole}
-use Rattle.ddr_channel.proofs.CycleLemmas.{bus_is, choosing}
+use Rattle.ddr_channel.proofs.CycleLemmas.{awake, bus_is, choosing}
 use Rattle.ddr_channel.proofs.SoundLemmas.{IsSound-opened, IsSound-after_admit, length-filter}
 use Rattle.ddr_channel.proofs.StandsLemmas.{stands_admitted, stands_refused}
 
@@ -73,11 +73,11 @@ ticks_below a whole clock = subst (All (λ (r : Refreshes). r.ticks < CLOCK_STOP
 
 -- admission
 
-abbrev with_pending : Inside → PendingList → Inside
-with_pending a p = record { config = a.config; pending = p; drain = a.drain; debts = a.debts; flight = a.flight; done = a.done; legality = a.legality; rows = a.rows }
+abbrev pub fields_admitted : Inside → PendingList → ℕ → Inside
+fields_admitted a p now = record a { pending = p; quiet_until = now }
 
-whole_admitted : (a : Inside) (r : Request) → IsWhole a → IsServed a.config r.place → IsWhole (with_pending a (pending.after_admit r a.legality.bus.now a.pending))
-whole_admitted a r whole served = record {
+whole_with : (a : Inside) (r : Request) (now : ℕ) → IsWhole a → IsServed a.config r.place → now ≡ a.legality.bus.now → IsWhole (fields_admitted a (pending.after_admit r a.legality.bus.now a.pending) now)
+whole_with a r now whole served clock = record {
   sound = IsSound-after_admit (state_of (kept_of a)) r whole.sound served;
   of_config = whole.of_config;
   clock = whole.clock;
@@ -87,18 +87,16 @@ whole_admitted a r whole served = record {
   flight_room = whole.flight_room;
   done_room = whole.done_room;
   agrees = whole.agrees;
+  quiet = awake now a.legality.bus.now (after_admit r (state_of (kept_of a))) (omega (arith, clock));
 }
 
-pub whole_admit : {T : Type 0} (a : Inside) (result : Result T Request) (p : PendingList) (r : Request) (now : ℕ) → IsWhole a → IsServed a.config r.place → now ≡ a.legality.bus.now →
-    OnOk result (p ≡ pending.after_admit r now a.pending) → IfErr result (λ q. (q ≡ r) × (p ≡ a.pending)) → IsWhole (with_pending a p)
-whole_admit a (Ok x) p r now whole served clock ok err =
-    subst (λ (q : PendingList). IsWhole (with_pending a q)) (sym (ok ∙ ap (λ n. pending.after_admit r n a.pending) clock)) (whole_admitted a r whole served)
-whole_admit a (Err q) p r now whole served clock ok err = subst (λ (x : PendingList). IsWhole (with_pending a x)) (sym err.1) whole
+pub whole_admitted : (a : Inside) (p : PendingList) (r : Request) (now : ℕ) → IsWhole a → IsServed a.config r.place → now ≡ a.legality.bus.now → p ≡ pending.after_admit r now a.pending → IsWhole (fields_admitted a p now)
+whole_admitted a p r now whole served clock ok =
+    subst (λ (q : PendingList). IsWhole (fields_admitted a q now)) (sym (ok ∙ ap (λ n. pending.after_admit r n a.pending) clock)) (whole_with a r now whole served clock)
 
-pub state_admit : {T : Type 0} (a : Inside) (result : Result T Request) (p : PendingList) (r : Request) (now : ℕ) → now ≡ a.legality.bus.now → OnOk result (p ≡ pending.after_admit r now a.pending) →
-    OnOk result (state_of (kept_of (with_pending a p)) ≡ after_admit r (state_of (kept_of a)))
-state_admit a (Ok x) p r now clock ok = ap (λ (q : PendingList). state_of (kept_of (with_pending a q))) (ok ∙ ap (λ n. pending.after_admit r n a.pending) clock)
-state_admit a (Err q) p r now clock ok = tt
+pub state_admitted : (a : Inside) (p : PendingList) (r : Request) (now : ℕ) → now ≡ a.legality.bus.now → p ≡ pending.after_admit r now a.pending →
+    state_of (kept_of (fields_admitted a p now)) ≡ after_admit r (state_of (kept_of a))
+state_admitted a p r now clock ok = ap (λ (q : PendingList). state_of (kept_of (fields_admitted a q now))) (ok ∙ ap (λ n. pending.after_admit r n a.pending) clock)
 
 -- the queue is full by the list's limits, which are the configuration's
 pub full_is : (a : Inside) (kind : Kind) → IsWhole a → pending.is_full a.pending kind ≡ is_queue_full (state_of (kept_of a)) kind
@@ -109,16 +107,18 @@ not_full : (b : Bool) → (IsTrue b → ⊥) → b ≡ false
 not_full true none = absurd (none refl)
 not_full false none = refl
 
-pub stands_admit : {T : Type 0} (a : Inside) (result : Result T Request) (p : PendingList) (r : Request) (now : ℕ) (calls : List Call) → IsWhole a → IsServed a.config r.place → now ≡ a.legality.bus.now →
-    OnOk result (p ≡ pending.after_admit r now a.pending) → (IsErr result ↔ IsTrue (pending.is_full a.pending r.echo.kind)) → IfErr result (λ q. (q ≡ r) × (p ≡ a.pending)) →
-    StandsFor (kept_of a) calls → StandsFor (kept_of (with_pending a p)) (calls ++ Admit r ∷ [])
-stands_admit a (Ok x) p r now calls whole served clock ok full err stands =
-    stands_admitted (kept_of a) (kept_of (with_pending a p)) r calls stands served
-    (sym (full_is a r.echo.kind whole) ∙ not_full (pending.is_full a.pending r.echo.kind) (λ is. false≢true (full.1 is)))
-    (state_admit a (Ok x) p r now clock ok)
-stands_admit a (Err q) p r now calls whole served clock ok full err stands =
-    stands_refused (kept_of a) (kept_of (with_pending a p)) r calls stands served
-    (sym (full_is a r.echo.kind whole) ∙ full.0 refl) (ap (λ (x : PendingList). kept_of (with_pending a x)) err.1)
+pub stands_with : (a : Inside) (p : PendingList) (r : Request) (now : ℕ) (calls : List Call) → IsWhole a → IsServed a.config r.place → now ≡ a.legality.bus.now → p ≡ pending.after_admit r now a.pending →
+    (IsTrue (pending.is_full a.pending r.echo.kind) → ⊥) → StandsFor (kept_of a) calls → StandsFor (kept_of (fields_admitted a p now)) (calls ++ Admit r ∷ [])
+stands_with a p r now calls whole served clock ok free stands =
+    stands_admitted (kept_of a) (kept_of (fields_admitted a p now)) r calls stands served
+    (sym (full_is a r.echo.kind whole) ∙ not_full (pending.is_full a.pending r.echo.kind) free)
+    (state_admitted a p r now clock ok)
+
+pub stands_without : (a : Inside) (p : PendingList) (r : Request) (calls : List Call) → IsWhole a → IsServed a.config r.place → IsTrue (pending.is_full a.pending r.echo.kind) → p ≡ a.pending →
+    StandsFor (kept_of a) calls → StandsFor (kept_of (record a { pending = p })) (calls ++ Admit r ∷ [])
+stands_without a p r calls whole served full same stands =
+    stands_refused (kept_of a) (kept_of (record a { pending = p })) r calls stands served
+    (sym (full_is a r.echo.kind whole) ∙ full) (ap (λ (x : PendingList). kept_of (record a { pending = x })) same)
 
 -- a channel's fields before the first cycle
 
@@ -132,13 +132,14 @@ fields_open config first spare rows = record {
   done = buffer [] config.limits.done;
   legality = record { bus = bus.opened config first; spare = spare };
   rows = rows;
+  quiet_until = 0;
 }
 
 pub fields_are_open : (config : Config) (first : ℕ) (p : PendingList) (debts : List Refreshes) (flight done : Buffer Completion) (l : legality.Kept) (rows : Rows) →
     p ≡ pending.opened config.limits.reads config.limits.writes → debts ≡ refreshes.opened config.timing ∷ refreshes.opened config.timing ∷ [] → flight ≡ buffer [] config.limits.done → done ≡ buffer [] config.limits.done → l.bus ≡ bus.opened config first →
-    record { config = config; pending = p; drain = false; debts = debts; flight = flight; done = done; legality = l; rows = rows } ≡ fields_open config first l.spare rows
+    record { config = config; pending = p; drain = false; debts = debts; flight = flight; done = done; legality = l; rows = rows; quiet_until = 0 } ≡ fields_open config first l.spare rows
 fields_are_open config first p debts flight done l rows p_is debts_are flight_is done_is bus_are =
-    λ i. record { config = config; pending = p_is i; drain = false; debts = debts_are i; flight = flight_is i; done = done_is i; legality = record { bus = bus_are i; spare = l.spare }; rows = rows }
+    λ i. record { config = config; pending = p_is i; drain = false; debts = debts_are i; flight = flight_is i; done = done_is i; legality = record { bus = bus_are i; spare = l.spare }; rows = rows; quiet_until = 0 }
 
 pub state_open : (config : Config) (first spare : ℕ) (rows : Rows) → IsFresh config rows → state_of (kept_of (fields_open config first spare rows)) ≡ opened config first
 state_open config first spare rows fresh =
@@ -173,4 +174,5 @@ whole_open config first spare rows clock fresh =
         lines = fresh.lines;
         opened = λ rank group bank r g b. fresh.idle (bank_number config.geometry rank group bank) ∙ sym (no_command rank group bank);
       };
+      quiet = awake 0 first (state_of (kept_of (fields_open config first spare rows))) (omega arith);
     }

@@ -1,5 +1,5 @@
 -- What quiet cycles make of a state and of a channel's fields: the clock goes on, and the drain mode, and nothing else.
-use Rattle.std.proofs.Common.{◌≡◌, ℕ, zero, suc, ◌+◌, ◌-◌, ◌<◌, ◌≤◌, Bool, true, false, not, cond, eqb, ltb, leb, map, replicate, List, [], ◌∷◌, ◌++◌, All, get_or, refl, sym, ap, ap₂, subst, ◌∙◌, arith}
+use Rattle.std.proofs.Common.{◌≡◌, ℕ, zero, suc, ◌+◌, ◌-◌, ◌<◌, ◌≤◌, Bool, true, false, not, cond, eqb, ltb, leb, map, replicate, List, [], ◌∷◌, ◌++◌, None, All, get_or, refl, sym, ap, ap₂, subst, ◌∙◌, arith}
 use Rattle.std.specs.List.{filter}
 use Rattle.std.proofs.lemmas.Bool.Decides.{nat_tests}
 use Rattle.std.proofs.lemmas.List.{append-nil, append_assoc}
@@ -24,6 +24,7 @@ use Rattle.ddr_channel.specs.Promise.{AreCalls, StandsFor}
 use Rattle.ddr_channel.specs.Quiet.{IsIdleNext, IsQuiet, after_cycles, drain_after}
 use Rattle.ddr_channel.specs.Sound.{IsSound}
 use Rattle.ddr_channel.specs.State.{State}
+use Rattle.ddr_channel.specs.Told.{issued_by, issued_in}
 use Rattle.ddr_channel.specs.View.{kept_of, IsWhole}
 use Rattle.ddr_channel.proofs.SoundLemmas.{IsSound-after_cycle}
 use Rattle.ddr_channel.proofs.StandsLemmas.{stands_after_cycle}
@@ -102,6 +103,27 @@ cycles_sound : (count : ℕ) (s : State) → IsSound s → IsSound (after_cycles
 cycles_sound zero s sound = sound
 cycles_sound (suc count) s sound = cycles_sound count (after_cycle s) (IsSound-after_cycle s sound)
 
+-- what is left of a quiet time after some of its cycles
+quiet_rest : (count n : ℕ) (s : State) → IsQuiet n s → IsQuiet (n - count) (after_cycles count s)
+quiet_rest zero n s quiet = let same : n ≡ n - 0 = omega arith in subst (λ m. IsQuiet m s) same quiet
+quiet_rest (suc count) zero s quiet = let none : 0 ≡ 0 - suc count = omega arith in subst (λ m. IsQuiet m (after_cycles count (after_cycle s))) none tt
+quiet_rest (suc count) (suc n) s quiet =
+    let same : n - count ≡ suc n - suc count = omega arith in
+    subst (λ m. IsQuiet m (after_cycles count (after_cycle s))) same (quiet_rest count n (after_cycle s) quiet.1)
+
+-- the first cycle of a quiet time
+pub idle_next : (n : ℕ) (s : State) → IsQuiet n s → (n ≡ 0 → ⊥) → IsIdleNext s
+idle_next zero s quiet some = absurd (some refl)
+idle_next (suc n) s quiet some = quiet.0
+
+-- before the cycle that is kept the next one is quiet
+pub idle_now : (a : Inside) (now : ℕ) → IsWhole a → now ≡ a.legality.bus.now → now < a.quiet_until → IsIdleNext (state_of (kept_of a))
+idle_now a now whole is before = idle_next (a.quiet_until - a.legality.bus.now) (state_of (kept_of a)) whole.quiet (λ none. omega (arith, none, before, is))
+
+-- a quiet cycle issues nothing
+pub idle_issued : (s : State) → IsIdleNext s → None ≡ issued_in s
+idle_issued s idle = sym (ap (issued_by (at_choice s)) idle.issues)
+
 -- the calls
 
 stands_same : (old new : Kept) (calls : List Call) → StandsFor old calls → state_of new ≡ state_of old → StandsFor new calls
@@ -158,6 +180,9 @@ whole_passed a count drain debts legality whole quiet drain_is debts_are on_bus 
       flight_room = whole.flight_room;
       done_room = whole.done_room;
       agrees = subst (λ (b : Bus). AgreesWith a.config b.trace a.rows) (sym on_bus) whole.agrees;
+      quiet = (let left : (a.quiet_until - s.now) - count ≡ a.quiet_until - legality.bus.now = omega (arith, ap (λ (b : Bus). b.now) on_bus) in
+          subst (λ n. IsQuiet n (state_of (kept_of (fields_passed a drain debts legality)))) left
+          (subst (IsQuiet ((a.quiet_until - s.now) - count)) (sym (state_passed a count drain debts legality quiet drain_is on_bus)) (quiet_rest count (a.quiet_until - s.now) s whole.quiet)));
     }
 
 -- no debt has counted so many cycles that these are too many

@@ -1,6 +1,7 @@
 //! One channel: its pending requests, its rows, its trace, and the cycles that it makes.
-ghost use Rattle.std.specs.Prelude.{◌≡◌, false, ◌+◌, ◌<◌, ◌≤◌, ◌↔◌, List, [], ◌∷◌, ◌++◌, map, replicate, IfSome, IsTrue, IsErr, IsOk, IfOk, IfErr, OnOk, OnErr, IsErrOf, option_copied, slice_get};
+ghost use Rattle.std.specs.Prelude.{◌≡◌, false, ◌+◌, ◌-◌, ◌<◌, ◌≤◌, ◌↔◌, List, [], ◌∷◌, ◌++◌, map, replicate, IfSome, IsTrue, IsErr, IsOk, IfOk, IfErr, OnOk, OnErr, IsErrOf, option_copied, slice_get};
 ghost use Rattle.ddr_arbiter.specs.declared.choice.Choice.TheVariants as choice;
+ghost use Rattle.ddr_arbiter.specs.Quiet.{IsQuietUntil};
 ghost use Rattle.ddr_channel.specs.declared.channel.CycleError.TheVariants.{ClockSpent, OutOfMemory};
 ghost use Rattle.ddr_address_map.specs.declared.request.Kind.TheVariants.{Read, Write};
 ghost use Rattle.ddr_timing.specs.declared.units.TheConstants.{CLOCK_STOP};
@@ -9,12 +10,12 @@ ghost use Rattle.ddr_trace.specs.Commands.{is_column};
 ghost use Rattle.ddr_trace.specs.Legality.{IsLegal};
 ghost use Rattle.ddr_refresh.specs.Refreshes.{after_tick};
 ghost use Rattle.ddr_hazards.specs.declared.pending.TheConstants.{RANKS};
-ghost use Rattle.ddr_channel.specs.Choice.{choice_of, policy_of, refreshes_of};
+ghost use Rattle.ddr_channel.specs.Choice.{choice_of, policy_of, refreshes_of, situation_of};
 ghost use Rattle.ddr_channel.specs.Cycle.{at_choice, drained, after_cycle};
 ghost use Rattle.ddr_channel.specs.History.{Call, Admit, Cycle, Pop, run};
 ghost use Rattle.ddr_channel.specs.Kept.{AgreesWith, state_of};
 ghost use Rattle.ddr_channel.specs.Promise.{StandsFor, IsNextAnswer};
-ghost use Rattle.ddr_channel.specs.Quiet.{IsQuiet, after_cycles, drain_after};
+ghost use Rattle.ddr_channel.specs.Quiet.{IsIdleNext, IsQuiet, after_cycles, drain_after};
 ghost use Rattle.ddr_channel.specs.Room.{KeepsRoom, wants_memory};
 ghost use Rattle.ddr_channel.specs.Sound.{IsServed};
 ghost use Rattle.ddr_channel.specs.State.{opened, after_admit, after_pop, is_queue_full};
@@ -30,6 +31,7 @@ use ddr_address_map::request::{Done, Kind, Req};
 use ddr_arbiter::choice::{Choice, choose};
 use ddr_arbiter::commands::command_of;
 use ddr_arbiter::policy::Policy;
+use ddr_arbiter::quiet::quiet_until;
 use ddr_hazards::pending::{Pending, RANKS};
 use ddr_legality::legality::Legality;
 use ddr_refresh::debt::Debt;
@@ -63,6 +65,8 @@ pub struct Channel {
     done: HeapCircularBuffer<Done>,
     legality: Legality,
     rows: RowArray,
+    // The cycles from the next one on that lie before this one are known to be quiet, unless a call comes between.
+    quiet_until: u64,
 }
 
 impl Model for Channel {
@@ -96,6 +100,7 @@ impl Channel {
             done: HeapCircularBuffer::with_capacity(alloc, limits.done as usize)?,
             legality: Legality::open(alloc, config, first_cycle)?,
             rows: RowArray::open(alloc, config)?,
+            quiet_until: 0,
         })
     }
 
@@ -110,7 +115,9 @@ impl Channel {
         ensures stands { (calls : List Call) → StandsFor self.old calls → StandsFor self.new (calls ++ Admit request ∷ []) }
     {
         let now = self.legality.now();
-        self.pending.admit(request, now)
+        self.pending.admit(request, now)?;
+        self.quiet_until = now;
+        Ok(())
     }
 
     /// Whether each of the two queues has a free place.
@@ -142,6 +149,50 @@ impl Channel {
             drain,
             room,
         )
+    }
+
+    /// A cycle before which the scheduler chooses nothing, where the debts were ticked and the drain mode is that of the
+    /// next cycle.
+    fn choice_until(&self, debts: &Debts, drain: bool) -> u64
+        requires debts { debts.now ≡ map after_tick (refreshes_of (state_of self.now) RANKS) }
+        requires mode { drain ≡ (drained (state_of self.now)).drain }
+        ensures { IsQuietUntil result (situation_of (at_choice (state_of self.entry.now))) }
+    {
+        let room = self.flight.len() + self.done.len() < self.config.limits.done as usize;
+        quiet_until(
+            &self.pending,
+            &self.legality,
+            &debts[..self.config.geometry.ranks as usize],
+            &policy(&self.config),
+            drain,
+            room,
+        )
+    }
+
+    /// A cycle before which each one from the next on is quiet: it comes no later than the first choice, the first
+    /// completion and the end of the clock.
+    fn sleep_until(&self) -> u64
+        ensures { IsQuiet (result - self.entry.now.now) (state_of self.entry.now) }
+    {
+        let now = self.legality.now();
+        if now == CLOCK_STOP {
+            return now;
+        }
+        let mut debts = self.debts;
+        tick(&mut debts);
+        let drain = self.next_drain();
+        let chosen = self.choice_until(&debts, drain).min(CLOCK_STOP);
+        match self.flight.front() {
+            Some(first) => chosen.min(first.due),
+            None => chosen,
+        }
+    }
+
+    /// Looks how long the channel is quiet from the next cycle on.
+    fn sleep(&mut self)
+        ensures { self.new ≡ self.old }
+    {
+        self.quiet_until = self.sleep_until();
     }
 
     /// Makes the cycle `now`: what is due completes, the refresh debts and the drain mode go on, and the command that
@@ -185,13 +236,34 @@ impl Channel {
         ensures admitted { IfOk result (λ o. IfSome o (λ i. IfSome i.served (λ v. (calls : List Call) → StandsFor self.old calls
             → WasAdmitted self.old.config self.old.start calls v))) }
     {
-        if self.legality.now() == CLOCK_STOP {
+        let now = self.legality.now();
+        if now < self.quiet_until {
+            self.quiet_cycle();
+            return Ok(None);
+        }
+        if now == CLOCK_STOP {
             return Err(CycleError::ClockSpent);
         }
         match self.make_cycle() {
-            Ok(issued) => Ok(issued),
+            Ok(issued) => {
+                self.sleep();
+                Ok(issued)
+            }
             Err(_) => Err(CycleError::OutOfMemory),
         }
+    }
+
+    /// Makes a quiet cycle.
+    fn quiet_cycle(&mut self)
+        requires { IsIdleNext (state_of self.old) }
+        ensures state { state_of self.new ≡ after_cycle (state_of self.old) }
+        ensures trace { self.new.trace ≡ self.old.trace }
+        ensures config { self.new.config ≡ self.old.config }
+        ensures room { KeepsRoom self.old self.new }
+    {
+        self.drain = self.next_drain();
+        tick(&mut self.debts);
+        self.legality.tick();
     }
 
     /// Makes a cycle, before the clock is spent, and tells what it issued.
@@ -226,6 +298,7 @@ impl Channel {
         count(&mut debts, command);
         self.drain = drain;
         self.debts = debts;
+        self.quiet_until = 0;
         self.legality.tick();
         Ok(issued_with(now, command, served))
     }
@@ -235,7 +308,7 @@ impl Channel {
     pub fn quiet(&self) -> u64
         ensures { IsQuiet result (state_of self.entry.now) }
     {
-        0
+        self.quiet_until.saturating_sub(self.legality.now())
     }
 
     /// Makes so many quiet cycles at once.
@@ -283,7 +356,9 @@ impl Channel {
         ensures config { self.new.config ≡ self.old.config }
         ensures stands { (calls : List Call) → StandsFor self.old calls → StandsFor self.new (calls ++ Pop ∷ []) }
     {
-        self.done.pop_front()
+        let taken = self.done.pop_front()?;
+        self.quiet_until = 0;
+        Some(taken)
     }
 
     /// Whether nothing is pending, in flight or done.
@@ -331,6 +406,7 @@ impl Channel {
             done: _,
             legality,
             rows: _,
+            quiet_until: _,
         } = self;
         let start = legality.start();
         let end = legality.now();

@@ -15,7 +15,7 @@ use Rattle.ddr_channel.specs.Kept.{Kept, state_of, AgreesWith}
 use Rattle.ddr_channel.specs.Room.{KeepsRoom, wants_memory}
 use Rattle.ddr_channel.specs.Told.{column_request, served_as, issued_with, issued_by, issued_in}
 use Rattle.ddr_channel.specs.View.{kept_of}
-use Rattle.ddr_channel.proofs.CycleLemmas.{choosing, chosen_legal, chosen_due, chosen_room, chosen_served, same_cells, Made, after, state_after, whole_after, state_refused}
+use Rattle.ddr_channel.proofs.CycleLemmas.{choosing, chosen_legal, chosen_due, chosen_room, chosen_served, same_cells, Made, after, state_after, whole_after, state_refused, whole_refused}
 use Rattle.ddr_channel.proofs.ChannelLemmas.{ticks_below}
 use Rattle.ddr_channel.proofs.IssueLemmas.{agrees_ready}
 use Rattle.ddr_channel.proofs.RoomLemmas.{ready_kept, wanted}
@@ -29,6 +29,10 @@ reserve-requires-clause-legal c =
 on_err : {T E : Type 0} (r : Result T E) (P : Type 0) → P → OnErr r P
 on_err (Ok x) P holds = tt
 on_err (Err e) P holds = holds
+
+pub invariant_of-self : goal.invariant_of-self
+invariant_of-self c =
+    whole_refused c.self.inside c.reserve.new.legality c.reserve.new.rows c.self.invariant c.reserve.ensures.bus c.reserve.ensures.bytes c.reserve.ensures.shape c.reserve.ensures.opened
 
 pub returns-in_err-reserve-clause-err : goal.returns-in_err-reserve-clause-err
 returns-in_err-reserve-clause-err c =

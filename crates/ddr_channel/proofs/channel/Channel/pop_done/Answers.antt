@@ -1,26 +1,26 @@
 -- What is done first is the right answer to the next owner.
-use Rattle.std.proofs.Common.{◌≡◌, List, Option, Some, None, IfSome, sym, ap, ◌∙◌}
+use Rattle.std.proofs.Common.{◌≡◌, sym, ap, ◌∙◌}
 use Rattle.std.specs.List.{slice_get}
 use Rattle.circular_buffer.specs.Buffer.{Buffer}
 use Rattle.ddr_address_map.specs.Requests.{Completion}
-use Rattle.ddr_channel.specs.History.{Call, run}
 use Rattle.ddr_channel.specs.Kept.{Kept, state_of}
-use Rattle.ddr_channel.specs.Promise.{StandsFor, IsNextAnswer}
 use Rattle.ddr_channel.specs.State.{after_pop}
 use Rattle.ddr_channel.specs.View.{kept_of}
 use Rattle.ddr_channel.proofs.StandsLemmas.{next_answer, stands_popped}
 use Rattle.ddr_channel.proofs.channel.Channel.pop_done.Goals as goal
 
-taken : (k : Kept) (calls : List Call) (o : Option Completion) → StandsFor k calls → o ≡ slice_get k.done 0 → IfSome o (IsNextAnswer (run k.config k.start calls))
-taken k calls None stands is = tt
-taken k calls (Some d) stands is = next_answer k calls d stands (sym is)
-
 pub returns-clause-right : goal.returns-clause-right
 returns-clause-right c = λ calls stands.
-    taken c.args.self.now calls c.pop_front.result stands (c.pop_front.ensures.value ∙ ap (λ (k : Kept). slice_get k.done 0) c.self.view_is)
+    next_answer c.args.self.now calls c.in_ok-taken.taken stands (ap (λ (k : Kept). slice_get k.done 0) (sym c.self.view_is) ∙ sym c.in_ok-taken.ensures.value)
 
 pub returns-clause-stands : goal.returns-clause-stands
 returns-clause-stands c = λ calls stands.
+    let k = kept_of c.self.inside in
+    let rest = ap (λ (b : Buffer Completion). state_of (record k { done = b.items })) c.pop_front.ensures.items in
+    stands_popped c.args.self.now (record k { done = c.pop_front.new.self.items }) calls stands (rest ∙ ap (λ (j : Kept). after_pop (state_of j)) c.self.view_is)
+
+pub returns-in_err-taken-clause-stands : goal.returns-in_err-taken-clause-stands
+returns-in_err-taken-clause-stands c = λ calls stands.
     let k = kept_of c.self.inside in
     let rest = ap (λ (b : Buffer Completion). state_of (record k { done = b.items })) c.pop_front.ensures.items in
     stands_popped c.args.self.now (record k { done = c.pop_front.new.self.items }) calls stands (rest ∙ ap (λ (j : Kept). after_pop (state_of j)) c.self.view_is)
