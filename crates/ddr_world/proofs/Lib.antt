@@ -15,3 +15,4 @@ pub mod CoreSubmit
 pub mod CoreRuns
 pub mod CorePromise
 mod RecordLemmas
+pub mod QuietLemmas

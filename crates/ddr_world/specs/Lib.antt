@@ -6,6 +6,7 @@ pub mod Kept
 pub mod Answer
 pub mod History
 pub mod Promise
+pub mod Quiet
 pub mod Record
 pub mod Told
 pub mod Close

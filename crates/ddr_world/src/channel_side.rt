@@ -3,10 +3,12 @@ ghost use Rattle.std.specs.Prelude.{◌≡◌, ◌<◌, ◌≤◌, ◌↔◌, tr
 ghost use Rattle.std.specs.Option.{option_map};
 ghost use Rattle.ddr_timing.specs.declared.units.TheConstants.{CLOCK_STOP};
 ghost use Rattle.ddr_channel.specs.Kept as kept;
+ghost use Rattle.ddr_channel.specs.Quiet.{IsQuiet};
 ghost use Rattle.ddr_channel.specs.Room.{wants_memory};
 ghost use Rattle.ddr_world.specs.declared.event.Refusal.TheVariants.{OutOfMemory};
 ghost use Rattle.ddr_world.specs.Close.{trace_of};
 ghost use Rattle.ddr_world.specs.Kept.{side_of};
+ghost use Rattle.ddr_world.specs.Quiet.{IsQuietSide, side_passed};
 ghost use Rattle.ddr_world.specs.State.{IsChannelDrained, is_busy, opened_channel};
 ghost use Rattle.ddr_world.specs.Step.{IsRefusedFor, cycled, queued, sent, taken};
 ghost use Rattle.ddr_world.specs.Told.{Tells};
@@ -112,6 +114,26 @@ impl ChannelSide {
     {
         let issued = self.channel.cycle_observed()?;
         Ok(issued)
+    }
+
+    /// For how many cycles from now on nothing is to be taken, completed, issued or delivered, as long as no other call comes
+    /// between: 0 where something waits in the queue or to be delivered. There may be more.
+    pub(crate) fn quiet(&self) -> u64
+        ensures { 0 < result → IsQuietSide result (side_of self.now) }
+    {
+        if !self.requests.is_empty() || self.channel.next_done().is_some() {
+            return 0;
+        }
+        self.channel.quiet()
+    }
+
+    /// Makes so many quiet cycles of the channel at once.
+    pub(crate) fn pass(&mut self, count: u64)
+        requires { IsQuiet count (kept.state_of self.old.channel) }
+        ensures state { side_of self.new ≡ side_passed count (side_of self.old) }
+        ensures config { self.new.channel.config ≡ self.old.channel.config }
+    {
+        self.channel.pass(count);
     }
 
     /// The port that the oldest completion is for, if one is done.

@@ -1,5 +1,5 @@
 //! A port with its completion queue.
-ghost use Rattle.std.specs.Prelude.{◌≡◌, ◌+◌, ◌-◌, ◌<◌, ◌≤◌, ◌==◌, ◌↔◌, true, false, length, slice_get, unwrap_or, All, IfNone, IfOk, IfSome, IsTrue, OnErr, OnOk, OnSome, Some, None};
+ghost use Rattle.std.specs.Prelude.{◌≡◌, ◌+◌, ◌-◌, ◌<◌, ◌≤◌, ◌==◌, ◌↔◌, true, false, [], length, slice_get, unwrap_or, All, IfNone, IfOk, IfSome, IsTrue, OnErr, OnOk, OnSome, Some, None};
 ghost use Rattle.std.specs.Option.{option_map};
 ghost use Rattle.std.specs.Result.{result_err};
 ghost use Rattle.ddr_address_map.specs.Map.{in_range};
@@ -102,6 +102,13 @@ impl PortSide {
         ensures { self.new ≡ after_deliver done self.old }
     {
         let _ = self.completions.try_push_back(done);
+    }
+
+    /// Whether nothing is to be collected.
+    pub(crate) fn is_collected(&self) -> bool
+        ensures { IsTrue result ↔ (self.now.completions ≡ []) }
+    {
+        self.completions.is_empty()
     }
 
     /// Pops the oldest completion, if there is one, puts its line in its place, and tells its number.

@@ -5,12 +5,15 @@ ghost use Rattle.std.specs.Option.{option_copied, option_map};
 ghost use Rattle.ddr_timing.specs.declared.units.TheConstants.{CLOCK_STOP};
 ghost use Rattle.ddr_reorder.specs.Replies.{said};
 ghost use Rattle.ddr_ports.specs.Asked.{asked_of};
+ghost use Rattle.ddr_channel.specs.Kept as channel_kept;
+ghost use Rattle.ddr_channel.specs.Quiet as quiet;
 ghost use Rattle.ddr_world.specs.Answer.{IsAnswered};
 ghost use Rattle.ddr_world.specs.Close.{GaveAll, IsLeftOf, trace_of};
 ghost use Rattle.ddr_world.specs.Events as events;
 ghost use Rattle.ddr_world.specs.Events.{event_of};
 ghost use Rattle.ddr_world.specs.History.{Answered, Opening, front_of};
 ghost use Rattle.ddr_world.specs.Kept.{side_of, state_of};
+ghost use Rattle.ddr_world.specs.Quiet.{IsQuiet, IsQuietSide, cycles_made, passed, side_passed};
 ghost use Rattle.ddr_world.specs.Record.{IsNext, RunsTo, StandsFor};
 ghost use Rattle.ddr_world.specs.State.{IsChannelDrained, IsDrained, IsPortDrained, opened, opened_channel, opened_port};
 ghost use Rattle.ddr_world.specs.Told.{TellsOf, cycle_answer};
@@ -276,6 +279,38 @@ impl World {
         Ok(Outcome::Ended)
     }
 
+    /// For how many cycles of each channel nothing is to be done in the core: nothing to take, to complete, to issue, to
+    /// deliver or to collect, as long as no other event comes between. 0 where something waits. There may be more.
+    pub fn quiet(&self) -> u64
+        ensures quiet { IsQuiet result (state_of self.now) }
+        ensures channels { length self.now.channels ≡ self.now.config.geometry.channels }
+    {
+        let channels = &self.channels;
+        if !self.are_ports_collected() {
+            return 0;
+        }
+        quiet_of(channels)
+    }
+
+    /// Whether no port has anything to collect.
+    fn are_ports_collected(&self) -> bool
+        ensures { IsTrue result ↔ All (λ side. side.completions ≡ []) self.now.ports }
+    {
+        self.ports.iter().all(|side| side.is_collected())
+    }
+
+    /// Makes so many cycles of each channel at once, where nothing is to be done in them. They are so many events of each
+    /// channel, one channel after another.
+    pub fn pass(&mut self, count: u64)
+        requires { IsQuiet count (state_of self.old) }
+        ensures state { state_of self.new ≡ passed count (state_of self.old) }
+        ensures config { self.new.config ≡ self.old.config }
+        ensures stands { (opening : Opening) (earlier : List Answered) → StandsFor self.old opening earlier
+            → StandsFor self.new opening (earlier ++ cycles_made count (length self.old.channels)) }
+    {
+        pass_all(self.channels.as_mut_slice(), count);
+    }
+
     /// The oldest reply of the port, where it is ready. `None` also where there is no such port.
     pub fn front(&self, port: u32) -> Option<Reply<'_>>
         ensures front { option_map said result ≡ front_of (state_of self.now) port }
@@ -365,6 +400,31 @@ fn open_channels(alloc: Global, config: &Config, first: u64) -> Result<Vec<Chann
         channels.push(ChannelSide::open(alloc, config, first)?)?;
     }
     Ok(channels)
+}
+
+/// The least number of cycles for which the channels are quiet.
+fn quiet_of(channels: &[ChannelSide]) -> u64
+    ensures { 0 < result → All (λ side. IsQuietSide result (side_of side)) channels.now }
+{
+    let mut least = u64::MAX;
+    for side in channels {
+        least = least.min(side.quiet());
+        if least == 0 {
+            return 0;
+        }
+    }
+    least
+}
+
+/// Makes so many quiet cycles of each channel at once.
+fn pass_all(channels: &mut [ChannelSide], count: u64)
+    requires { All (λ side. quiet.IsQuiet count (channel_kept.state_of side.channel)) channels.old }
+    ensures state { map side_of channels.new ≡ map (side_passed count) (map side_of channels.old) }
+    ensures config { map (λ side. side.channel.config) channels.new ≡ map (λ side. side.channel.config) channels.old }
+{
+    for side in channels.iter_mut() {
+        side.pass(count);
+    }
 }
 
 /// How many requests each port had accepted.
