@@ -18,7 +18,7 @@ use Rattle.ddr_channel.specs.Promise.{AreCalls}
 use Rattle.ddr_channel.proofs.HistoryLemmas.{kept_run}
 use Rattle.ddr_channel.proofs.ListLemmas.{list_any-none_at}
 use Rattle.ddr_bounds.specs.Columns.{AreColumnsApart}
-use Rattle.ddr_bounds.proofs.PlaceLemmas.{taken_at}
+use Rattle.ddr_channel.proofs.PlaceLemmas.{taken_at}
 
 -- the pair keeps the rule on two commands
 abbrev Keeps : Timing → Rule → Entry → Entry → Type 0

@@ -1,10 +1,3 @@
-pub mod PlaceLemmas
 pub mod ColumnLemmas
 pub mod ApartLemmas
 pub mod OvertakerLemmas
-pub mod BusLemmas
-pub mod BankLemmas
-pub mod ForcedLemmas
-pub mod PromptLemmas
-pub mod RefreshLemmas
-pub mod InTimeLemmas

@@ -29,7 +29,7 @@ use Rattle.ddr_channel.proofs.ListLemmas.{slice_get-remove_before, slice_get-rem
 use Rattle.ddr_bounds.specs.Overtakers.{owners_before, overtakers, most_overtakers, HasFewOvertakers}
 use Rattle.ddr_bounds.proofs.ApartLemmas.{AreApart, cycles, owners_apart, apart_narrower, IsWithin, span_counts}
 use Rattle.ddr_bounds.proofs.ColumnLemmas.{columns_apart}
-use Rattle.ddr_bounds.proofs.PlaceLemmas.{at_place, pushed}
+use Rattle.ddr_channel.proofs.PlaceLemmas.{at_place, pushed}
 
 -- some column command is the request's
 abbrev is_owner : ℕ → List Owner → Bool

@@ -4,7 +4,7 @@ ghost use Rattle.ddr_timing.specs.declared.config.Config.{Config};
 ghost use Rattle.ddr_channel.specs.History.{Call, run};
 ghost use Rattle.ddr_channel.specs.Kept.{Kept, state_of};
 ghost use Rattle.ddr_channel.specs.Promise.{AreCalls, StandsFor};
-ghost use Rattle.ddr_bounds.specs.Refresh.{HasNoFault, KeepsRefreshes};
+ghost use Rattle.ddr_channel.specs.Refresh.{HasNoFault, KeepsRefreshes};
 
 /// Whatever the calls of a channel, after each of them every rank owes at most `postpone + 1` REFs, which is at most 8.
 /// From the tick that brings its debt there, its commands are at most one PREA, and PREA and REF come in cycles that the

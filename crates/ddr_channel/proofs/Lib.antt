@@ -10,6 +10,13 @@ pub mod IssueLemmas
 pub mod TransferLemmas
 pub mod CycleLemmas
 pub mod RoomLemmas
+pub mod PlaceLemmas
+pub mod BusLemmas
+pub mod BankTimeLemmas
+pub mod ForcedLemmas
+pub mod PromptLemmas
+pub mod RefreshLemmas
+pub mod InTimeLemmas
 pub mod ChannelLemmas
 pub mod StandsLemmas
 pub mod QuietLemmas

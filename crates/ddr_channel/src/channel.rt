@@ -1,5 +1,5 @@
 //! One channel: its pending requests, its rows, its trace, and the cycles that it makes.
-ghost use Rattle.std.specs.Prelude.{◌≡◌, false, ◌+◌, ◌-◌, ◌<◌, ◌≤◌, ◌↔◌, List, [], ◌∷◌, ◌++◌, map, replicate, IfSome, IsTrue, IsErr, IsOk, IfOk, IfErr, OnOk, OnErr, IsErrOf, option_copied, slice_get};
+ghost use Rattle.std.specs.Prelude.{◌≡◌, ℕ, false, ◌+◌, ◌-◌, ◌<◌, ◌≤◌, ◌↔◌, List, [], ◌∷◌, ◌++◌, map, replicate, IfSome, IsTrue, IsErr, IsOk, IfOk, IfErr, OnOk, OnErr, IsErrOf, option_copied, slice_get};
 ghost use Rattle.ddr_arbiter.specs.declared.choice.Choice.TheVariants as choice;
 ghost use Rattle.ddr_arbiter.specs.Quiet.{IsQuietUntil};
 ghost use Rattle.ddr_channel.specs.declared.channel.CycleError.TheVariants.{ClockSpent, OutOfMemory};
@@ -7,7 +7,7 @@ ghost use Rattle.ddr_address_map.specs.declared.request.Kind.TheVariants.{Read, 
 ghost use Rattle.ddr_timing.specs.declared.units.TheConstants.{CLOCK_STOP};
 ghost use Rattle.std.specs.Option.{is_some};
 ghost use Rattle.ddr_trace.specs.Commands.{is_column};
-ghost use Rattle.ddr_trace.specs.Legality.{IsLegal};
+ghost use Rattle.ddr_trace.specs.Legality.{IsLegal, IsRefreshed};
 ghost use Rattle.ddr_refresh.specs.Refreshes.{after_tick};
 ghost use Rattle.ddr_hazards.specs.declared.pending.TheConstants.{RANKS};
 ghost use Rattle.ddr_channel.specs.Choice.{choice_of, policy_of, refreshes_of, situation_of};
@@ -16,6 +16,7 @@ ghost use Rattle.ddr_channel.specs.History.{Call, Admit, Cycle, Pop, run};
 ghost use Rattle.ddr_channel.specs.Kept.{AgreesWith, state_of};
 ghost use Rattle.ddr_channel.specs.Promise.{StandsFor, IsNextAnswer};
 ghost use Rattle.ddr_channel.specs.Quiet.{IsIdleNext, IsQuiet, after_cycles, drain_after};
+ghost use Rattle.ddr_channel.specs.Refresh.{KeepsRefreshes};
 ghost use Rattle.ddr_channel.specs.Room.{KeepsRoom, wants_memory};
 ghost use Rattle.ddr_channel.specs.Sound.{IsServed};
 ghost use Rattle.ddr_channel.specs.State.{opened, after_admit, after_pop, is_queue_full};
@@ -209,6 +210,8 @@ impl Channel {
         ensures memory { IsErrOf result OutOfMemory → IsTrue (wants_memory self.old) }
         ensures room { KeepsRoom self.old self.new }
         ensures stands { OnOk result ((calls : List Call) → StandsFor self.old calls → StandsFor self.new (calls ++ Cycle ∷ [])) }
+        ensures refreshes { OnOk result ((calls : List Call) → StandsFor self.old calls
+            → (rank : ℕ) → rank < self.new.config.geometry.ranks → KeepsRefreshes (state_of self.new) rank) }
     {
         self.cycle_observed()?;
         Ok(())
@@ -388,6 +391,8 @@ impl Channel {
         ensures value { result.now ≡ self.entry.now.trace }
         ensures rows { AgreesWith self.entry.now.config result.now self.entry.now.rows }
         ensures legal { IsLegal self.entry.now.config self.entry.now.start self.entry.now.now result.now }
+        ensures refreshed { (calls : List Call) → StandsFor self.entry.now calls
+            → IsRefreshed self.entry.now.config self.entry.now.start self.entry.now.now result.now }
     {
         self.legality.entries()
     }
@@ -396,6 +401,7 @@ impl Channel {
     pub fn into_trace(self) -> Trace
         ensures value { result ≡ record { start = self.start; end = self.now; entries = self.trace } }
         ensures legal { IsLegal self.config result.start result.end result.entries }
+        ensures refreshed { (calls : List Call) → StandsFor self calls → IsRefreshed self.config result.start result.end result.entries }
     {
         let Channel {
             config: _,

@@ -84,6 +84,8 @@ pub record IsThreaded (config : Config) (instructions : List Instruction) (text 
   pub is_closed : IsClosed RUN (map (λ h. h.end) hosted) worked left
   pub verdicts : List ℕ
   pub are_verdicts : AreVerdicts config 0 left.traces verdicts legal
+  -- each is that the trace is legal
+  pub all_legal : legal ≡ true
   pub text_is : text ≡ texts_of hosted ++ verdicts
 
 -- Why the threads of a run stopped, on this configuration: ports and workers were opened, and one of their threads stopped

@@ -35,7 +35,8 @@ const RUN: u64 = 0;
 /// With `sample` the whole input is the script, on the sample configuration; else the input is a configuration, a
 /// line `---` and the script. Each port asks for what its lines say, in order, and keeps its replies. Once all threads
 /// ended these are written, those of port 0 first, and then a line for each channel: `channel C legal`, or `channel C fault
-/// PLACE RULE` for the first fault of its trace. Answers whether all traces are legal.
+/// PLACE RULE` for the first fault of its trace. Answers whether all traces are legal, which is proved to be so: no trace has a
+/// fault.
 ///
 /// Fails as `open` does, then as `ScriptLine` at the first line of the script that is at fault, of which `cycle` is
 /// one, or as `ScriptLimit` at the first request too many, and then as `RequestLine` at the first request that no port

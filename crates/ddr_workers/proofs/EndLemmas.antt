@@ -7,7 +7,7 @@ use Rattle.std.proofs.lemmas.List.{append-nil}
 use Rattle.ddr_timing.specs.declared.config.Config.{Config}
 use Rattle.ddr_trace.specs.declared.command.Entry.{Entry}
 use Rattle.ddr_trace.specs.Commands.{is_column}
-use Rattle.ddr_trace.specs.Legality.{IsLegal}
+use Rattle.ddr_trace.specs.Legality.{IsLegal, IsRefreshed}
 use Rattle.ddr_trace.specs.Traces.{Recorded}
 use Rattle.ddr_address_map.specs.Requests as records
 use Rattle.ddr_address_map.specs.Requests.{Completion}
@@ -15,6 +15,7 @@ use Rattle.ddr_channel.specs.History.{Call, Owner, begun, run}
 use Rattle.ddr_channel.specs.Promise as promise
 use Rattle.ddr_channel.specs.Promise.{AreCalls, KeepsPromise, right_answer, owned_entry}
 use Rattle.ddr_channel.specs.State.{State}
+use Rattle.ddr_channel.proofs.InTimeLemmas.{refreshed_run}
 use Rattle.ddr_workers.specs.Worker.{WorkerState, AreBusy, AreSent, IsAtWork, IsWorkDone, HasNothing, refused_pushes, unused_cycles}
 use Rattle.ddr_workers.specs.WorkerView.{IsWhole, history_of}
 
@@ -67,6 +68,8 @@ work_done w config trace whole nothing promised is legal =
       answers = ap (map (λ (d : Completion). Some d)) (sym all_popped) ∙ kept.answers ∙ ap₂ (λ (c : Config) (rs : List records.Request). map (right_answer c rs) h.owners) own accepted;
       sent = subst (λ o. AreSent h.popped (option_to_list o) w.completions) nothing.held whole.at_work.sent;
       legal = legal;
+      refreshed = subst (λ (t : Recorded). IsRefreshed w.channel.config t.start t.end t.entries) (sym is)
+          (subst (λ (s : State). IsRefreshed s.config s.start s.now s.trace) (sym state) (refreshed_run w.channel.config w.channel.start whole.calls whole.at_work.stands.calls_are).refreshed);
       calls = whole.calls;
       admitted = ap (λ n. (run w.channel.config n whole.calls).accepted) start ∙ accepted;
       popped = sym (ap (λ n. (run w.channel.config n whole.calls).popped) start);

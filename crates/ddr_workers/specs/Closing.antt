@@ -107,7 +107,7 @@ pub record IsEmptied (ports : List PortEnded) (workers : List WorkerEnded) (left
   pub joined : AreJoined ports workers (λ p. [])
   -- each port got the right reply to each of its requests, once
   pub got : (p : ℕ) (e : PortEnded) → slice_get ports p ≡ Some e → GotAll (accepted_by workers) p e
-  -- each worker admitted, answered and traced rightly under the configuration of its channel: its trace is legal
+  -- each worker admitted, answered and traced rightly under the configuration of its channel: its trace is legal and refreshed
   pub work : (c : ℕ) (w : WorkerEnded) → slice_get workers c ≡ Some w → IsWorkDone w.config w
   -- as many requests of each port were accepted as replies were given up
   pub accepted : left.accepted ≡ map (λ p. length (accepted_of workers p)) (range_with_len 0 (length ports))

@@ -4,7 +4,7 @@ use Rattle.std.specs.List.{range_with_len}
 use Rattle.std.specs.Option.{option_to_list}
 use Rattle.ddr_timing.specs.declared.config.Config.{Config}
 use Rattle.ddr_trace.specs.Commands.{is_column}
-use Rattle.ddr_trace.specs.Legality.{IsLegal}
+use Rattle.ddr_trace.specs.Legality.{IsLegal, IsRefreshed}
 use Rattle.ddr_trace.specs.Traces.{Recorded}
 use Rattle.ddr_address_map.specs.Requests as records
 use Rattle.ddr_address_map.specs.Requests.{Completion}
@@ -153,7 +153,9 @@ pub record IsWorkDone (config : Config) (e : WorkerEnded) : Type 0 where
   pub dones : List Completion
   pub answers : map Some dones ≡ map (right_answer config (requests_of e.requests.took)) owners
   pub sent : AreSent dones [] e.completions
+  -- the trace is legal, and refreshed in time
   pub legal : IsLegal config e.trace.start e.trace.end e.trace.entries
+  pub refreshed : IsRefreshed config e.trace.start e.trace.end e.trace.entries
   -- its channel's calls: by the scheduler's definition they admit these requests, and make this trace, these completions
   -- and this clock
   pub calls : List Call

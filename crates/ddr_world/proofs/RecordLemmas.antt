@@ -4,11 +4,11 @@ use Rattle.std.specs.List.{AllByRecursion, slice_get, range_with_len}
 use Rattle.std.specs.Option.{IsSomeAnd, option_map, option_and_then}
 use Rattle.std.proofs.lemmas.List.{length-map}
 use Rattle.std.proofs.lemmas.Option.{slice_get-map}
-use Rattle.ddr_trace.specs.Legality.{IsLegal}
+use Rattle.ddr_trace.specs.Legality.{IsLegal, IsRefreshed}
 use Rattle.ddr_channel.proofs.ListLemmas.{All-at}
 use Rattle.ddr_reorder.specs.declared.reply.Reply.{Reply}
 use Rattle.ddr_reorder.specs.Replies.{Answer, said, nth_answer}
-use Rattle.ddr_world.specs.Close.{trace_of, IsLegalTrace, GaveAll}
+use Rattle.ddr_world.specs.Close.{trace_of, IsRightTrace, GaveAll}
 use Rattle.ddr_world.specs.History.{Opening, History, front_of, run}
 use Rattle.ddr_world.specs.Kept.{KeptSide, Kept, Left, side_of, state_of}
 use Rattle.ddr_world.specs.Promise.{replies_of_port, KeepsPromise}
@@ -31,19 +31,20 @@ told_by_index : {X : Type 0} (f : X → ℕ) (g : ℕ → ℕ) (a : ℕ) (xs : L
 told_by_index f g a [] told = refl
 told_by_index f g a (x ∷ xs) told = ap₂ ◌∷◌ (told 0 x refl ∙ ap g (omega arith)) (told_by_index f g (a + 1) xs (λ i y is. told (suc i) y is ∙ ap g (omega arith)))
 
--- each trace is there, and is legal where that of its channel is
-each_trace : (o : Opening) (sides : List KeptSide) → ((c : ℕ) (side : KeptSide) → slice_get sides c ≡ Some side → IsLegalTrace o (trace_of side))
-    → AllByRecursion (λ t. IsSomeAnd t (IsLegalTrace o)) (map (λ side. Some (trace_of side)) sides)
+-- each trace is there, and is right where that of its channel is
+each_trace : (o : Opening) (sides : List KeptSide) → ((c : ℕ) (side : KeptSide) → slice_get sides c ≡ Some side → IsRightTrace o (trace_of side))
+    → AllByRecursion (λ t. IsSomeAnd t (IsRightTrace o)) (map (λ side. Some (trace_of side)) sides)
 each_trace o [] told = tt
 each_trace o (side ∷ sides) told = (told 0 side refl, each_trace o sides (λ c later is. told (suc c) later is))
 
--- that of a channel begins with the core's first cycle and is legal under its configuration
-trace_legal : (o : Opening) (h : History) (c : ℕ) (side : KeptSide) → KeepsPromise o h → slice_get h.state.channels c ≡ Some (side_of side) → IsLegalTrace o (trace_of side)
-trace_legal o h c side promise there =
+-- that of a channel begins with the core's first cycle, and is legal and refreshed under its configuration
+trace_right : (o : Opening) (h : History) (c : ℕ) (side : KeptSide) → KeepsPromise o h → slice_get h.state.channels c ≡ Some (side_of side) → IsRightTrace o (trace_of side)
+trace_right o h c side promise there =
     let opened = promise.opened c (side_of side) there in
     record {
       start = opened.1;
       legal = subst₂ (λ config start. IsLegal config start side.channel.now side.channel.trace) opened.0 opened.1 (promise.legal c (side_of side) there);
+      refreshed = subst₂ (λ config start. IsRefreshed config start side.channel.now side.channel.trace) opened.0 opened.1 (promise.refreshed c (side_of side) there);
     }
 
 -- a drained core that is closed gave all
@@ -66,6 +67,6 @@ closed_gave_all k left drained accepted taken traces opening events stands =
           let same : side.taken ≡ length (h.sent p) = omega (arith, counted.taken, counted.outstanding, empty.outstanding) in
           same ∙ ap (λ n. length (h.sent n)) (omega arith));
       channels = ap length traces ∙ length-map k.channels (λ (side : KeptSide). Some (trace_of side)) ∙ sym (length-map k.channels side_of) ∙ ap length channels ∙ (run_keeps opening events).channels_are;
-      traces = subst (AllByRecursion (λ t. IsSomeAnd t (IsLegalTrace opening))) (sym traces) (each_trace opening k.channels (λ c side is.
-          trace_legal opening h c side promise (ap (λ (sides : List ChannelSide). slice_get sides c) (sym channels) ∙ slice_get-map side_of k.channels c ∙ ap (option_map side_of) is)));
+      traces = subst (AllByRecursion (λ t. IsSomeAnd t (IsRightTrace opening))) (sym traces) (each_trace opening k.channels (λ c side is.
+          trace_right opening h c side promise (ap (λ (sides : List ChannelSide). slice_get sides c) (sym channels) ∙ slice_get-map side_of k.channels c ∙ ap (option_map side_of) is)));
     }

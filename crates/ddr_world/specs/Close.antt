@@ -2,7 +2,7 @@
 use Rattle.std.specs.Prelude.{◌≡◌, List, ℕ, length, map, Some}
 use Rattle.std.specs.List.{AllByRecursion, range_with_len}
 use Rattle.std.specs.Option.{IsSomeAnd}
-use Rattle.ddr_trace.specs.Legality.{IsLegal}
+use Rattle.ddr_trace.specs.Legality.{IsLegal, IsRefreshed}
 use Rattle.ddr_trace.specs.Traces.{Recorded}
 use Rattle.ddr_world.specs.History.{Opening, Answered, History, run}
 use Rattle.ddr_world.specs.Kept.{KeptSide, Kept, Left}
@@ -23,19 +23,21 @@ pub record IsLeftOf (k : Kept) (left : Left) : Type 0 where
 abbrev pub counts_of : History → List ℕ
 counts_of h = map (λ p. length (h.sent p)) (range_with_len 0 (length h.state.ports))
 
--- the trace begins with the core's first cycle, and is legal to its end under the configuration that the core was opened with
-pub record IsLegalTrace (o : Opening) (t : Recorded) : Type 0 where
+-- the trace begins with the core's first cycle, and is legal and refreshed to its end under the configuration that the core was
+-- opened with, so that the checker of a whole trace finds nothing
+pub record IsRightTrace (o : Opening) (t : Recorded) : Type 0 where
   pub start : t.start ≡ o.cycle
   pub legal : IsLegal o.config o.cycle t.end t.entries
+  pub refreshed : IsRefreshed o.config o.cycle t.end t.entries
 
 -- the record is finished, and the counts are those of its accepted requests: as many replies were taken; each channel's
--- trace is there and legal
+-- trace is there, legal and refreshed
 pub record IsWhole (o : Opening) (h : History) (left : Left) : Type 0 where
   pub finished : IsFinished h
   pub accepted : left.accepted ≡ counts_of h
   pub taken : left.taken ≡ counts_of h
   pub channels : length left.traces ≡ o.config.geometry.channels
-  pub traces : AllByRecursion (λ t. IsSomeAnd t (IsLegalTrace o)) left.traces
+  pub traces : AllByRecursion (λ t. IsSomeAnd t (IsRightTrace o)) left.traces
 
 -- so it is for every record that the core stood for
 abbrev pub GaveAll : Kept → Left → Type 0

@@ -8,7 +8,7 @@ use Rattle.ddr_timing.specs.declared.units.TheConstants.{LINE_BYTES}
 use Rattle.ddr_trace.specs.declared.command.Command.{Command}
 use Rattle.ddr_trace.specs.declared.command.Command.TheVariants as command
 use Rattle.ddr_trace.specs.declared.command.Entry.{Entry}
-use Rattle.ddr_trace.specs.Legality.{IsLegal}
+use Rattle.ddr_trace.specs.Legality.{IsLegal, IsRefreshed}
 use Rattle.ddr_address_map.specs.declared.request.Kind.{Kind}
 use Rattle.ddr_address_map.specs.declared.request.Kind.TheVariants.{Read, Write}
 use Rattle.ddr_address_map.specs.Map.{place_of}
@@ -112,6 +112,9 @@ pub record KeepsPromise (o : Opening) (h : History) : Type 0 where
   pub opened : (c : ℕ) (side : ChannelSide) → slice_get h.state.channels c ≡ Some side → (side.channel.config ≡ o.config) × (side.channel.start ≡ o.cycle)
   pub legal : (c : ℕ) (side : ChannelSide) → slice_get h.state.channels c ≡ Some side
       → IsLegal side.channel.config side.channel.start side.channel.now side.channel.trace
+  -- and each is refreshed in time
+  pub refreshed : (c : ℕ) (side : ChannelSide) → slice_get h.state.channels c ≡ Some side
+      → IsRefreshed side.channel.config side.channel.start side.channel.now side.channel.trace
   -- a completion that is done finds room on the queue of its port
   pub fits : (c : ℕ) → step h.state (Deliver c) ≢ Err QueueFull
   -- and the port waits for it

@@ -1,5 +1,5 @@
 -- Every rank of a channel keeps its refreshes in time.
-use Rattle.ddr_bounds.proofs.InTimeLemmas.{refreshes_of_run}
+use Rattle.ddr_channel.proofs.InTimeLemmas.{refreshes_of_run}
 use Rattle.ddr_bounds.proofs.refresh.refreshes_come_in_time.Goals as goal
 
 pub returns : goal.returns

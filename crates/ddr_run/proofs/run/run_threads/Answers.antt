@@ -7,6 +7,7 @@ use Rattle.ddr_workers.specs.Port.{PortEnded}
 use Rattle.ddr_run.specs.declared.run.TheConstants.{RUN}
 use Rattle.ddr_run.specs.Outcome.{AreVerdicts}
 use Rattle.ddr_text.specs.Script.{view}
+use Rattle.ddr_run.proofs.LegalLemmas.{closed_legal}
 use Rattle.ddr_run.proofs.OutcomeLemmas.{complete, new_ports}
 use Rattle.ddr_run.proofs.run.run_threads.Goals as goal
 
@@ -28,6 +29,9 @@ unreachable-requires-in-Err-Missing g c =
 
 pub returns-clause-ran : goal.returns-clause-ran
 returns-clause-ran g c =
+    let closed = subst (λ (es : List PortEnded). IsClosed RUN es c.in_ok-ended.ended.workers.items c.in-Ok.closed) c.in_ok-replies.ensures.ends c.in-Ok.ensures.ok in
+    let are_verdicts = subst (λ (given : Left). AreVerdicts c.args.config.now 0 given.traces (string_bytes c.in_ok-verdicts.verdicts) c.in_ok-verdicts.legal) c.closed.view_is
+    (subst (λ (ts : List Recorded). AreVerdicts c.args.config.now 0 ts (string_bytes c.in_ok-verdicts.verdicts) c.in_ok-verdicts.legal) c.as_slice.ensures.value c.in_ok-verdicts.ensures) in
     let worked = c.in_ok-ended.ended.workers.items in
     let left = c.in-Ok.closed in
     let verdicts = string_bytes c.in_ok-verdicts.verdicts in
@@ -40,10 +44,11 @@ returns-clause-ran g c =
       worked = worked;
       ended = c.in_ok-ended.ensures.ended.worked;
       left = left;
-      is_closed = subst (λ (es : List PortEnded). IsClosed RUN es worked left) c.in_ok-replies.ensures.ends c.in-Ok.ensures.ok;
+      is_closed = closed;
       verdicts = verdicts;
-      are_verdicts = subst (λ (given : Left). AreVerdicts c.args.config.now 0 given.traces verdicts c.in_ok-verdicts.legal) c.closed.view_is
-          (subst (λ (ts : List Recorded). AreVerdicts c.args.config.now 0 ts verdicts c.in_ok-verdicts.legal) c.as_slice.ensures.value c.in_ok-verdicts.ensures);
+      are_verdicts = are_verdicts;
+      all_legal = closed_legal c.args.config.now c.in_ok-ports.ports.items c.in_ok-ports.workers.items (map (λ h. h.end) c.in_ok-ended.ended.ports.items) worked left verdicts
+          c.in_ok-verdicts.legal c.in_ok-ports.ensures c.in_ok-ended.ensures.ended.worked closed are_verdicts;
       text_is = c.in_ok-push_str.ensures.bytes ∙ ap₂ ◌++◌ c.in_ok-replies.ensures.text c.as_str.ensures.value;
     }
 

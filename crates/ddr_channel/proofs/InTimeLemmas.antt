@@ -41,12 +41,12 @@ use Rattle.ddr_channel.specs.Promise.{AreCalls, StandsFor}
 use Rattle.ddr_channel.specs.Sound.{IsSound}
 use Rattle.ddr_channel.specs.State.{State, after_admit, is_queue_full, opened}
 use Rattle.ddr_channel.proofs.HistoryLemmas.{IsKept, kept_begun, kept_call, kept_run, served_alike}
-use Rattle.ddr_bounds.specs.Refresh.{HasNoFault, IsAtMostPrecharge, IsNotLate, KeepsRefreshes, commands_from, recovery_time}
-use Rattle.ddr_bounds.proofs.BankLemmas.{any_none}
-use Rattle.ddr_bounds.proofs.ForcedLemmas.{debt_ticked, refreshes_at}
-use Rattle.ddr_bounds.proofs.PlaceLemmas.{pushed}
-use Rattle.ddr_bounds.proofs.PromptLemmas.{IsClosed, IsPrompt, after, due_at, prompt_fresh, refresh_is, taken_from}
-use Rattle.ddr_bounds.proofs.RefreshLemmas.{IsKeptPrompt, count_other, count_refreshed, prompt_cycle}
+use Rattle.ddr_channel.specs.Refresh.{HasNoFault, IsAtMostPrecharge, IsNotLate, KeepsRefreshes, commands_from, recovery_time}
+use Rattle.ddr_channel.proofs.BankTimeLemmas.{any_none}
+use Rattle.ddr_channel.proofs.ForcedLemmas.{debt_ticked, refreshes_at}
+use Rattle.ddr_channel.proofs.PlaceLemmas.{pushed}
+use Rattle.ddr_channel.proofs.PromptLemmas.{IsClosed, IsPrompt, after, due_at, prompt_fresh, refresh_is, taken_from}
+use Rattle.ddr_channel.proofs.RefreshLemmas.{IsKeptPrompt, count_other, count_refreshed, prompt_cycle}
 
 -- what the invariant says of the REF that comes next
 pub not_late : (b : Bus) (rank : ℕ) → IsPrompt b rank → IsNotLate b.config b.start b.now rank b.trace
@@ -340,3 +340,11 @@ refreshed_run config start calls may = record {
 -- so it is of a channel that stands for its calls
 pub refreshed_standing : (channel : Kept) (calls : List Call) → StandsFor channel calls → HasNoFault (state_of channel)
 refreshed_standing channel calls stands = subst HasNoFault (sym stands.state) (refreshed_run channel.config channel.start calls stands.calls_are)
+
+pub refreshed_trace : (channel : Kept) (calls : List Call) → StandsFor channel calls → IsRefreshed channel.config channel.start channel.now channel.trace
+refreshed_trace channel calls stands = (refreshed_standing channel calls stands).refreshed
+
+-- each of its ranks keeps its refreshes in time
+pub refreshes_standing : (channel : Kept) (calls : List Call) → StandsFor channel calls → (rank : ℕ) → rank < channel.config.geometry.ranks → KeepsRefreshes (state_of channel) rank
+refreshes_standing channel calls stands rank inside =
+    subst (λ (s : State). KeepsRefreshes s rank) (sym stands.state) (refreshes_of_run channel.config channel.start calls stands.calls_are rank inside)

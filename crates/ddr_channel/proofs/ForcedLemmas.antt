@@ -26,7 +26,7 @@ use Rattle.ddr_arbiter.specs.Situation.{Situation}
 use Rattle.ddr_channel.specs.Choice.{rank_refreshes, refreshes_of, situation_of}
 use Rattle.ddr_channel.specs.State.{State}
 use Rattle.ddr_channel.proofs.ListLemmas.{mapped_at}
-use Rattle.ddr_bounds.specs.Refresh.{overdue_from}
+use Rattle.ddr_channel.specs.Refresh.{overdue_from}
 
 -- the step of a forced rank
 

@@ -21,11 +21,11 @@ use Rattle.ddr_arbiter.specs.Laws.{command_of}
 use Rattle.ddr_arbiter.proofs.LawLemmas.{choice_lawful}
 use Rattle.ddr_channel.specs.Choice.{bus_of, choice_of, situation_of}
 use Rattle.ddr_channel.specs.State.{State}
-use Rattle.ddr_bounds.specs.Refresh.{commands_from}
-use Rattle.ddr_bounds.proofs.BusLemmas.{IsNext, all_before}
-use Rattle.ddr_bounds.proofs.ForcedLemmas.{Served, overdue_command, overdue_served, overdue_when, precharged_active, ranks_counted, step_cases, when_overdue}
-use Rattle.ddr_bounds.proofs.PlaceLemmas.{pushed}
-use Rattle.ddr_bounds.proofs.PromptLemmas.{IsClosed, IsElsewhere, IsLegalNow, IsPrompt, IsPromptBy, after, due_at, free_after, is_before_from, prompt_fresh, prompt_precharge, prompt_taken, prompt_waits, refresh_is, taken_from}
+use Rattle.ddr_channel.specs.Refresh.{commands_from}
+use Rattle.ddr_channel.proofs.BusLemmas.{IsNext, all_before}
+use Rattle.ddr_channel.proofs.ForcedLemmas.{Served, overdue_command, overdue_served, overdue_when, precharged_active, ranks_counted, step_cases, when_overdue}
+use Rattle.ddr_channel.proofs.PlaceLemmas.{pushed}
+use Rattle.ddr_channel.proofs.PromptLemmas.{IsClosed, IsElsewhere, IsLegalNow, IsPrompt, IsPromptBy, after, due_at, free_after, is_before_from, prompt_fresh, prompt_precharge, prompt_taken, prompt_waits, refresh_is, taken_from}
 
 -- the REFs of a rank, as the trace grows
 

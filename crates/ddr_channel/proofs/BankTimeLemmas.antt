@@ -11,8 +11,8 @@ use Rattle.ddr_trace.specs.declared.command.Entry.{Entry}
 use Rattle.ddr_trace.specs.Banks.{auto_start, bank_after, bank_behind, changed_by, closing, is_active, is_auto_within, is_before_start, opened, recovery, row_until}
 use Rattle.ddr_trace.specs.Commands.{entry, is_activate, is_auto, is_precharge, is_read, is_same_bank, rank_of}
 use Rattle.ddr_trace.proofs.BankLemmas.{bank_behind-append}
-use Rattle.ddr_bounds.specs.Refresh.{recovery_time}
-use Rattle.ddr_bounds.proofs.BusLemmas.{Each, is_of}
+use Rattle.ddr_channel.specs.Refresh.{recovery_time}
+use Rattle.ddr_channel.proofs.BusLemmas.{Each, is_of}
 
 -- PREA leaves no bank of its rank open
 pub bank_closed : (rank group bank cycle : ℕ) (before : List Entry) → bank_behind (Pre rank group bank) (before ++ entry cycle (PreAll rank) ∷ []) ≡ None

@@ -20,7 +20,7 @@ use Rattle.ddr_trace.proofs.WindowLemmas.{no_faw}
 use Rattle.ddr_legality.specs.Bus.{Bus, is_legal_now}
 use Rattle.ddr_arbiter.specs.Choice.{some_bank_active}
 use Rattle.ddr_channel.proofs.ListLemmas.{list_any-none_at}
-use Rattle.ddr_bounds.specs.Refresh.{recovery_time}
+use Rattle.ddr_channel.specs.Refresh.{recovery_time}
 
 -- every entry of the trace that passes has a property
 abbrev pub Each : (Entry → Bool) → (Entry → Type 0) → List Entry → Type 0

@@ -18,10 +18,10 @@ use Rattle.ddr_arbiter.specs.Choice.{some_bank_active}
 use Rattle.ddr_arbiter.specs.Commands.{precharge_all, refresh}
 use Rattle.ddr_arbiter.proofs.CommandLemmas.{legal_keeps}
 use Rattle.ddr_channel.specs.Cycle.{with_command}
-use Rattle.ddr_bounds.specs.Refresh.{commands_from, overdue_from, recovery_time, refresh_time}
-use Rattle.ddr_bounds.proofs.BankLemmas.{active_before, any_implies, any_none, auto_over, bank_before, bank_closed, bank_elsewhere, bank_refreshed}
-use Rattle.ddr_bounds.proofs.BusLemmas.{Each, IsNext, is_of, is_refresh_of, kept_far, precharge_legal, refresh_legal}
-use Rattle.ddr_bounds.proofs.PlaceLemmas.{none_passes, passes_none, passes_one, pushed}
+use Rattle.ddr_channel.specs.Refresh.{commands_from, overdue_from, recovery_time, refresh_time}
+use Rattle.ddr_channel.proofs.BankTimeLemmas.{active_before, any_implies, any_none, auto_over, bank_before, bank_closed, bank_elsewhere, bank_refreshed}
+use Rattle.ddr_channel.proofs.BusLemmas.{Each, IsNext, is_of, is_refresh_of, kept_far, precharge_legal, refresh_legal}
+use Rattle.ddr_channel.proofs.PlaceLemmas.{none_passes, passes_none, passes_one, pushed}
 
 -- the bus after a cycle that issues the command, if there is one
 abbrev pub after : Option Command → Bus → Bus
