@@ -1,6 +1,6 @@
 -- A PRE that is legal finds no bank that an auto-precharge is still to close: by the rules from the ACT and from the read or
 -- write it may come only once the auto-precharge has started.
-use Rattle.std.proofs.Common.{◌≡◌, ℕ, ◌+◌, ◌<◌, ◌≤◌, Bool, true, false, ◌&&◌, cond, ltb, List, [], ◌∷◌, Option, Some, None, option_map, refl, ap, arith}
+use Rattle.std.proofs.Common.{◌≡◌, ℕ, ◌+◌, ◌≤◌, Bool, true, false, ◌&&◌, cond, ltb, List, [], ◌∷◌, Option, Some, None, option_map, refl, ap, arith}
 use Rattle.std.specs.List.{fold, list_any}
 use Rattle.std.proofs.lemmas.Bool.{le-leb, ltb-false, or_parts}
 use Rattle.ddr_timing.specs.declared.timing.Timing.{Timing}

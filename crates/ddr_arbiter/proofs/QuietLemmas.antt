@@ -3,10 +3,10 @@
 use Rattle.std.proofs.Common.{◌≡◌, ℕ, zero, suc, ◌+◌, ◌<◌, ◌≤◌, Bool, true, false, ◌&&◌, ◌||◌, not, cond, nat_lt, nat_le, List, [], ◌∷◌, map, length, get_or, Option, Some, None, refl, sym, ap, ◌∙◌, All, arith}
 use Rattle.std.specs.List.{filter, find, range_with_len, slice_get}
 use Rattle.std.specs.Option.{option_map, option_map_or}
-use Rattle.std.proofs.lemmas.Bool.{and_parts, or_parts, and_right}
+use Rattle.std.proofs.lemmas.Bool.{and_parts, or_parts}
 use Rattle.std.proofs.lemmas.List.Elements.{All-get_or}
 use Rattle.std.proofs.lemmas.Option.{get_or_from_slice_get, slice_get-map, slice_get_past, slice_get_within}
-use Rattle.ddr_legality.specs.Bus.{Bus, passed}
+use Rattle.ddr_legality.specs.Bus.{Bus}
 use Rattle.ddr_address_map.specs.declared.request.Kind.TheVariants.{Read}
 use Rattle.ddr_hazards.specs.declared.waiting.Waiting.{Waiting}
 use Rattle.ddr_hazards.specs.Hazards.{is_blocked}
@@ -15,7 +15,7 @@ use Rattle.ddr_refresh.specs.Refreshes.{Refreshes, after_ticks, debt_of, is_forc
 use Rattle.ddr_arbiter.specs.declared.candidates.Served.{Served}
 use Rattle.ddr_arbiter.specs.declared.choice.Choice.{Choice}
 use Rattle.ddr_arbiter.specs.declared.choice.Choice.TheVariants as choice
-use Rattle.ddr_arbiter.specs.Choice.{access_choice, can_column, candidates, candidates_of, choice_of, column_choice, column_place, first_choice, is_idly_forced, is_oldest_capped, is_overdue, is_rank_forced, is_rank_idle, is_something, of_kind, or_all, passes_at, ranks_of, refresh_choice, refresh_choice_at, row_choice, row_choice_at, served_kind}
+use Rattle.ddr_arbiter.specs.Choice.{access_choice, can_column, candidates, candidates_of, choice_of, column_choice, column_place, is_idly_forced, is_oldest_capped, is_overdue, is_rank_forced, is_rank_idle, is_something, of_kind, or_all, passes_at, ranks_of, refresh_choice, row_choice, row_choice_at, served_kind}
 use Rattle.ddr_arbiter.specs.Forced.{AreForced}
 use Rattle.ddr_arbiter.specs.Quiet.{IsQuietUntil, later}
 use Rattle.ddr_arbiter.specs.Served.{is_candidate, is_free_of_marks, is_of_kind, places_of}

@@ -1,6 +1,5 @@
 -- Until when nothing can be chosen for the candidates of a bank, by its row and the first cycle of one command.
 use Rattle.std.proofs.Common.{◌≡◌, ℕ, ◌+◌, ◌<◌, ◌≤◌, Bool, true, false, ◌&&◌, nat_le, List, Option, Some, None, refl, sym, ap, ◌∙◌, inl, inr, arith}
-use Rattle.std.specs.List.{slice_get}
 use Rattle.std.specs.Option.{is_none, option_map_or}
 use Rattle.std.proofs.lemmas.Bool.{and_parts, and_right, cases_Bool, eq-eqb, lt-leb, false≢true, true≢false}
 use Rattle.ddr_timing.specs.declared.config.Config.{Config}
@@ -21,14 +20,14 @@ use Rattle.ddr_hazards.specs.declared.waiting.Waiting.{Waiting}
 use Rattle.ddr_hazards.specs.PendingList.{is_same_kind}
 use Rattle.ddr_arbiter.specs.declared.candidates.Served.{Served}
 use Rattle.ddr_arbiter.specs.declared.choice.Choice.TheVariants as choice
-use Rattle.ddr_arbiter.specs.Choice.{can_activate, can_column, can_precharge, is_on_other_row, is_open_row_wanted, is_row_open, open_row_at, row_choice_at}
+use Rattle.ddr_arbiter.specs.Choice.{can_column, can_precharge, is_open_row_wanted, is_row_open, open_row_at, row_choice_at}
 use Rattle.ddr_arbiter.specs.Commands.{activate_at, column_at, column_of, precharge_at}
 use Rattle.ddr_arbiter.specs.Known.{AreInOneBank}
-use Rattle.ddr_arbiter.specs.Served.{is_candidate, is_free_of_marks, is_of_kind, places_of}
+use Rattle.ddr_arbiter.specs.Served.{is_free_of_marks, is_of_kind, places_of}
 use Rattle.ddr_arbiter.specs.Until.{AreStuckUntil, IsBankStuckUntil, IsCandidate, IsStuck, IsStuckUntil, MarkTellsUntil}
 use Rattle.ddr_arbiter.proofs.ClosingLemmas.{closed_when_legal}
 use Rattle.ddr_arbiter.proofs.CommandLemmas.{closed_no_column, column_bank, first_row, legal_keeps}
-use Rattle.ddr_arbiter.proofs.KnownLemmas.{bank_refused, row_is, same_open_row}
+use Rattle.ddr_arbiter.proofs.KnownLemmas.{bank_refused, row_is}
 use Rattle.ddr_arbiter.proofs.RowLemmas.{active_done, candidate_wants, idle_no_precharge, no_act, one_first_row, refused_or_wanted, wanted_or_refused}
 
 -- the first cycle in which a command is allowed
