@@ -153,7 +153,9 @@ fn place_until(
     until.min(bank_until(pending, legality, candidates, room, at))
 }
 
-/// A cycle before which nothing can be chosen for any candidate of the place's bank.
+/// A cycle before which nothing can be chosen for any candidate of the place's bank. A row for reads and writes stays open:
+/// if a candidate wants it, the bank waits for the first read or write of the row, else for a PRE. What one line of a row may,
+/// each may that the geometry has, so the first is asked for.
 fn bank_until(
     pending: &Pending,
     legality: &Legality,
