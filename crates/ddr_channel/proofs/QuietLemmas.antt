@@ -1,5 +1,5 @@
 -- What quiet cycles make of a state and of a channel's fields: the clock goes on, and the drain mode, and nothing else.
-use Rattle.std.proofs.Common.{◌≡◌, ℕ, zero, suc, ◌+◌, ◌-◌, ◌<◌, ◌≤◌, Bool, true, false, not, cond, eqb, ltb, leb, map, replicate, List, [], ◌∷◌, ◌++◌, None, All, get_or, refl, sym, ap, ap₂, subst, ◌∙◌, arith}
+use Rattle.std.proofs.Common.{◌≡◌, ℕ, zero, suc, ◌+◌, ◌-◌, ◌<◌, ◌≤◌, Bool, true, false, not, cond, eqb, ltb, leb, map, replicate, List, [], ◌∷◌, ◌++◌, None, All, get_or, refl, sym, ap, subst, ◌∙◌, arith}
 use Rattle.std.specs.List.{filter}
 use Rattle.std.proofs.lemmas.Bool.Decides.{nat_tests}
 use Rattle.std.proofs.lemmas.List.{append-nil, append_assoc}
@@ -16,7 +16,7 @@ use Rattle.ddr_arbiter.specs.declared.choice.Choice.TheVariants as choice
 use Rattle.ddr_arbiter.specs.declared.policy.Policy.{Policy}
 use Rattle.ddr_arbiter.specs.Mode.{next_mode}
 use Rattle.ddr_channel.specs.declared.channel.Channel.TheInside.{Inside}
-use Rattle.ddr_channel.specs.Choice.{policy_of, choice_of, rank_refreshes, refreshes_of}
+use Rattle.ddr_channel.specs.Choice.{policy_of, rank_refreshes, refreshes_of}
 use Rattle.ddr_channel.specs.Cycle.{at_choice, drained, issued, ticked, after_cycle}
 use Rattle.ddr_channel.specs.History.{Call, Cycle, run}
 use Rattle.ddr_channel.specs.Kept.{Kept, state_of, AgreesWith}

@@ -1,5 +1,5 @@
 -- For how long a channel is quiet: up to the cycle before which its scheduler chooses nothing and nothing in flight is due.
-use Rattle.std.proofs.Common.{◌≡◌, ℕ, zero, suc, ◌+◌, ◌-◌, ◌<◌, ◌≤◌, map, List, [], ◌∷◌, Option, Some, None, refl, sym, ap, ap₂, subst, ◌∙◌, arith}
+use Rattle.std.proofs.Common.{◌≡◌, ℕ, zero, suc, ◌+◌, ◌-◌, ◌≤◌, map, List, [], ◌∷◌, Option, Some, None, refl, sym, ap, ap₂, subst, ◌∙◌, arith}
 use Rattle.std.specs.List.{slice_get}
 use Rattle.std.specs.Option.{IfSome}
 use Rattle.ddr_timing.specs.declared.units.TheConstants.{CLOCK_STOP}
@@ -10,7 +10,7 @@ use Rattle.ddr_arbiter.specs.Choice as arbiter
 use Rattle.ddr_arbiter.specs.Quiet.{later, IsQuietUntil}
 use Rattle.ddr_arbiter.specs.Situation.{Situation}
 use Rattle.ddr_channel.specs.declared.channel.Channel.TheInside.{Inside}
-use Rattle.ddr_channel.specs.Choice.{bus_of, policy_of, has_room, rank_refreshes, refreshes_of, situation_of, choice_of}
+use Rattle.ddr_channel.specs.Choice.{bus_of, policy_of, has_room, rank_refreshes, refreshes_of, situation_of}
 use Rattle.ddr_channel.specs.Cycle.{at_choice}
 use Rattle.ddr_channel.specs.Quiet.{IsIdleNext, IsQuiet}
 use Rattle.ddr_channel.specs.Kept.{state_of}

@@ -1,5 +1,5 @@
 -- With no cycle the mode is the old one, and else that of the next cycle.
-use Rattle.std.proofs.Common.{◌≡◌, ap, subst, sym, ◌∙◌}
+use Rattle.std.proofs.Common.{ap, sym, ◌∙◌}
 use Rattle.ddr_channel.specs.Kept.{Kept, state_of}
 use Rattle.ddr_channel.specs.Quiet.{drain_after}
 use Rattle.ddr_channel.specs.View.{kept_of}

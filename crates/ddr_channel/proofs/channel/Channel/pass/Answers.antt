@@ -1,9 +1,6 @@
 -- Quiet cycles change the clock, the debts and the drain mode, and are so many calls more.
-use Rattle.std.proofs.Common.{◌≡◌, List, sym, ap, subst, ◌∙◌, arith}
-use Rattle.ddr_legality.specs.Bus.{Bus}
-use Rattle.ddr_channel.specs.History.{Call}
+use Rattle.std.proofs.Common.{sym, ap, subst, ◌∙◌}
 use Rattle.ddr_channel.specs.Kept.{Kept, state_of}
-use Rattle.ddr_channel.specs.Promise.{StandsFor}
 use Rattle.ddr_channel.specs.Quiet.{IsQuiet, after_cycles, drain_after}
 use Rattle.ddr_channel.specs.View.{kept_of}
 use Rattle.ddr_channel.proofs.QuietLemmas.{cycles_clock, fields_passed, stands_passed, state_passed, ticks_left, whole_passed}

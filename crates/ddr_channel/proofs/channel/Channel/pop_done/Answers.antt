@@ -1,5 +1,5 @@
 -- What is done first is the right answer to the next owner.
-use Rattle.std.proofs.Common.{◌≡◌, sym, ap, ◌∙◌}
+use Rattle.std.proofs.Common.{sym, ap, ◌∙◌}
 use Rattle.std.specs.List.{slice_get}
 use Rattle.circular_buffer.specs.Buffer.{Buffer}
 use Rattle.ddr_address_map.specs.Requests.{Completion}
