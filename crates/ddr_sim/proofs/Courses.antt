@@ -183,7 +183,7 @@ front_fewer s next p o is = subst (λ (r : Step). elim r as (λ _. Type 0) [ Ok 
 abbrev pub replies_of : ℕ → Run → Course
 replies_of p run = Ok (replied (items_of run.state (Release p)) p run)
 
-none_replied : (n p : ℕ) (run : Run) → front_of run.state p ≡ None → replied n p run ≡ run
+pub none_replied : (n p : ℕ) (run : Run) → front_of run.state p ≡ None → replied n p run ≡ run
 none_replied zero p run is = refl
 none_replied (suc n) p run is = ap (λ o. option_map_or (λ a. replied n p (record run { state = after run.state (Release p); text = run.text ++ reply_text p a })) o run) is
 

@@ -1,3 +1,4 @@
+pub mod Quiet
 pub mod Replies
 pub mod Rounds
 pub mod Runs

@@ -25,8 +25,9 @@ pub record Simulated : Type 0 where
 abbrev pub simulated : Inside → Simulated
 simulated a = record { config = a.config; world = a.world; left = a.left; waiting = a.waiting; silent = a.silent }
 
-abbrev pub IsCounted : Inside → Type 0
-IsCounted a = a.waiting ≡ outstanding (state_of a.world)
+pub record IsWhole (a : Inside) : Type 0 where
+  pub config : a.world.config ≡ a.config
+  pub counted : a.waiting ≡ outstanding (state_of a.world)
 
 -- the run that a simulation has come to, where this text was to be printed
 abbrev pub run_at : Simulated → List ℕ → Run

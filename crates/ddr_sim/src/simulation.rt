@@ -1,7 +1,7 @@
 //! A run of a script over the core: its instructions, its rounds and its Ends.
 //!
 //! `reply`, `ddr_text` and `ddr_world` stand below, and `sim` above.
-ghost use Rattle.std.specs.Prelude.{◌≡◌, ◌==◌, ◌+◌, ◌-◌, ◌<◌, ◌≤◌, ◌^◌, ◌⊎◌, [], true, IfErr, IfOk, IsErrOf, IsTrue, OnOk, Ok, Some, map};
+ghost use Rattle.std.specs.Prelude.{◌≡◌, ◌==◌, ℕ, ◌+◌, ◌-◌, ◌<◌, ◌≤◌, ◌^◌, ◌⊎◌, [], true, false, IfErr, IfOk, IsErrOf, IsTrue, OnOk, Ok, Err, Some, None, map};
 ghost use Rattle.std.specs.Io.KnownBytes.{Appends};
 ghost use Rattle.ddr_ports.specs.Asked.{asked_of};
 ghost use Rattle.ddr_world.specs.Answer.{IsAnswered};
@@ -9,7 +9,9 @@ ghost use Rattle.ddr_world.specs.Events.{event_of};
 ghost use Rattle.ddr_world.specs.History.{front_of};
 ghost use Rattle.ddr_trace.specs.Text.{trace_text};
 ghost use Rattle.ddr_world.specs.Kept.{state_of};
+ghost use Rattle.ddr_world.specs.Quiet.{passed};
 ghost use Rattle.ddr_world.specs.State.{IsDrained};
+ghost use Rattle.ddr_sim.specs.Quiet.{AreQuiet, HasMade};
 ghost use Rattle.ddr_sim.specs.Rounds.{channel_served, channels_served, outstanding, port_served, ports_served, round, rounds, until_refused};
 ghost use Rattle.ddr_sim.specs.Runs.{all_followed, begun, channel_text, channels_ended, drained, followed, ports_ended, submitted, whole};
 ghost use Rattle.ddr_text.specs.Script.{view};
@@ -51,11 +53,11 @@ impl Model for Simulation {
 
     ghost Value = { Simulated };
 
-    ghost use Rattle.ddr_sim.specs.Simulated.{simulated, IsCounted};
+    ghost use Rattle.ddr_sim.specs.Simulated.{simulated, IsWhole};
 
     ghost view = { simulated };
 
-    ghost invariant = { IsCounted };
+    ghost invariant = { IsWhole };
 }
 
 impl Simulation {
@@ -179,8 +181,10 @@ impl Simulation {
         ensures taken { IsErrOf result Fault.Write → IsTrue W.may_fail }
         ensures same { IsSameRun self.old self.new 0 }
     {
-        for _made in 0..count {
-            self.round(alloc, writer)?;
+        let mut to_make = count;
+        'rounds: while to_make > 0 {
+            let made = self.next_rounds(alloc, to_make, writer)?;
+            to_make -= made;
         }
         Ok(())
     }
@@ -192,9 +196,72 @@ impl Simulation {
         ensures same { IsSameRun self.old self.new 0 }
     {
         'rounds: while !self.is_idle() {
-            self.round(alloc, writer)?;
+            self.next_rounds(alloc, u32::MAX, writer)?;
         }
         Ok(())
+    }
+
+    /// Makes the next round, or where the next ones are quiet as many of those at once, and tells how many: at most so many.
+    fn next_rounds<W: Sink>(
+        &mut self,
+        alloc: Global,
+        most: u32,
+        writer: &mut W,
+    ) -> Result<u32, Fault>
+        requires { 0 < most }
+        ensures made { IfOk result (HasMade most self.old (W.contents writer.old) self.new (W.contents writer.new)) }
+        ensures fault { IfErr result (λ fault. Leads (round self.old.config) self.old (W.contents writer.old) self.new (W.contents writer.new) (Err fault)) }
+        ensures taken { IsErrOf result Fault.Write → IsTrue W.may_fail }
+        ensures same { IsSameRun self.old self.new 0 }
+    {
+        let quiet = self.quiet_rounds(most);
+        if quiet > 0 {
+            self.pass(quiet);
+            return Ok(quiet);
+        }
+        self.round(alloc, writer)?;
+        Ok(1)
+    }
+
+    /// How many of the next rounds, at most so many, are known to be quiet: nothing is to be done in them, and so many may
+    /// still be made.
+    fn quiet_rounds(&self, most: u32) -> u32
+        ensures within { result ≤ most }
+        ensures quiet { 0 < result → AreQuiet self.now.config result (state_of self.now.world) self.now.left }
+    {
+        if self.has_front() {
+            return 0;
+        }
+        let most = most.min(self.left);
+        let quiet = self.world.quiet();
+        if quiet < u64::from(most) {
+            quiet as u32
+        } else {
+            most
+        }
+    }
+
+    /// Whether a reply is in front of a port.
+    fn has_front(&self) -> bool
+        ensures { result ≡ false → (port : ℕ) → port < self.now.config.limits.ports → front_of (state_of self.now.world) port ≡ None }
+    {
+        for port in 0..self.config.limits.ports {
+            if self.world.front(port).is_some() {
+                return true;
+            }
+        }
+        false
+    }
+
+    /// Makes so many quiet rounds at once.
+    fn pass(&mut self, count: u32)
+        requires { AreQuiet self.old.config count (state_of self.old.world) self.old.left }
+        ensures state { state_of self.new.world ≡ passed count (state_of self.old.world) }
+        ensures left { self.new.left ≡ self.old.left - count }
+        ensures same { IsSameRun self.old self.new 0 }
+    {
+        self.world.pass(u64::from(count));
+        self.left -= count;
     }
 
     /// Whether nothing is outstanding.

@@ -1,13 +1,14 @@
--- One round more, while something is outstanding.
-use Rattle.std.proofs.Common.{Ok, Err, ◌-◌, refl, subst, sym, ◌∙◌}
+-- One round more, or some quiet ones, while something is outstanding.
+use Rattle.std.proofs.Common.{◌≡◌, ◌<◌, ◌-◌, ℕ, List, Ok, Err, IfOk, subst, sym, ◌∙◌}
 use Rattle.std.proofs.lemmas.Result.{err_from_is_err_and}
 use Rattle.ddr_timing.specs.declared.config.Config.{Config}
 use Rattle.ddr_world.specs.Kept.{state_of}
-use Rattle.ddr_sim.specs.Rounds.{round}
+use Rattle.ddr_sim.specs.Rounds.{outstanding, round, rounds}
 use Rattle.ddr_sim.specs.Runs.{drained}
 use Rattle.ddr_sim.specs.Simulated.{Leads, run_at}
-use Rattle.ddr_sim.proofs.Courses.{drain_turn, drained_end, drained_turn, onward_end, onward_stop, onward_turn, same_on}
+use Rattle.ddr_sim.proofs.Courses.{drained_end, drained_turn, onward_end, onward_stop, onward_turn, same_on}
 use Rattle.ddr_sim.proofs.Growth.{drained_grows}
+use Rattle.ddr_sim.proofs.QuietLemmas.{drained_some}
 use Rattle.ddr_sim.proofs.simulation.Simulation.drain.Goals as goal
 
 pub rounds-preserved : goal.rounds-preserved
@@ -15,28 +16,30 @@ rounds-preserved g c =
     let contents = g.W.Write.contents in
     let config = c.args.self.now.config in
     let now = c.rounds.self in
-    let next = c.round.new.self in
+    let next = c.next_rounds.new.self in
     let kept = c.rounds.invariant in
+    let made = c.in_ok-next_rounds.field-0 in
     let busy = sym c.is_idle.ensures ∙ c.rounds-test.true in
     record {
-      onward = onward_turn (drained config c.args.self.now.left) c.args.self.now (contents c.args.writer.now) (drained config now.left) (round config) (drained config next.left) now next (contents c.rounds.writer) (contents c.round.new.writer) tt
-          (λ text. drain_turn config now.left next.left now text refl c.in_ok-round.ensures.left busy)
-          (subst (λ (k : Config). Leads (round k) now (contents c.rounds.writer) next (contents c.round.new.writer) (Ok tt)) kept.same.config c.in_ok-round.ensures.leads) kept.onward;
-      same = same_on c.args.self.now now next 0 0 kept.same c.round.ensures.same;
+      onward = onward_turn (drained config c.args.self.now.left) c.args.self.now (contents c.args.writer.now) (drained config now.left) (rounds config made) (drained config next.left) now next (contents c.rounds.writer) (contents c.next_rounds.new.writer) tt
+          (drained_some config now next.left made c.in_ok-next_rounds.ensures.made.left busy
+          (subst (λ (k : Config). (text : List ℕ) (n : ℕ) → n < made → IfOk (rounds k n (run_at now text)) (λ run. outstanding run.state ≡ outstanding (state_of now.world))) kept.same.config c.in_ok-next_rounds.ensures.made.waits))
+          (subst (λ (k : Config). Leads (rounds k made) now (contents c.rounds.writer) next (contents c.next_rounds.new.writer) (Ok tt)) kept.same.config c.in_ok-next_rounds.ensures.made.leads) kept.onward;
+      same = same_on c.args.self.now now next 0 0 kept.same c.next_rounds.ensures.same;
     }
 
-pub returns-in_err-round-clause-leads : goal.returns-in_err-round-clause-leads
-returns-in_err-round-clause-leads g c =
+pub returns-in_err-next_rounds-clause-leads : goal.returns-in_err-next_rounds-clause-leads
+returns-in_err-next_rounds-clause-leads g c =
     let contents = g.W.Write.contents in
     let config = c.args.self.now.config in
     let now = c.rounds.self in
-    let next = c.round.new.self in
+    let next = c.next_rounds.new.self in
     let kept = c.rounds.invariant in
     let busy = sym c.is_idle.ensures ∙ c.rounds-test.true in
     let p = err_from_is_err_and c.from_residual.result c.from_residual.ensures.1 in
-    rw (p.1, p.2) (onward_stop (drained config c.args.self.now.left) c.args.self.now (contents c.args.writer.now) (drained config now.left) (round config) (drained config (now.left - 1)) now next (contents c.rounds.writer) (contents c.round.new.writer) c.in_err-round.field-0.0 (drained_grows config (now.left - 1))
+    rw (p.1, p.2) (onward_stop (drained config c.args.self.now.left) c.args.self.now (contents c.args.writer.now) (drained config now.left) (round config) (drained config (now.left - 1)) now next (contents c.rounds.writer) (contents c.next_rounds.new.writer) c.in_err-next_rounds.field-0.0 (drained_grows config (now.left - 1))
     (λ text. drained_turn config now.left (state_of now.world) text busy)
-    (subst (λ (k : Config). Leads (round k) now (contents c.rounds.writer) next (contents c.round.new.writer) (Err c.in_err-round.field-0.0)) kept.same.config c.in_err-round.ensures.leads) kept.onward)
+    (subst (λ (k : Config). Leads (round k) now (contents c.rounds.writer) next (contents c.next_rounds.new.writer) (Err c.in_err-next_rounds.field-0.0)) kept.same.config c.in_err-next_rounds.ensures.fault) kept.onward)
 
 pub returns-clause-leads : goal.returns-clause-leads
 returns-clause-leads g c =

@@ -13,7 +13,10 @@ invariant_of-self-in-Accepted c =
     let n = outstanding (state_of a.world) in
     let m = outstanding (state_of c.step.new.self) in
     let counted = made_counts (state_of a.world) (state_of c.step.new.self) (event_of c.args.event) c.in_ok-outcome.outcome c.in_ok-outcome.ensures.answer.ok in
-    omega (arith, c.self.invariant, (subst (λ (o : Outcome). Counted (event_of c.args.event) n o m) c.in-Accepted.is counted).0)
+    record {
+      config = c.in_ok-outcome.ensures.answer.config ∙ c.self.invariant.config;
+      counted = omega (arith, c.self.invariant.counted, (subst (λ (o : Outcome). Counted (event_of c.args.event) n o m) c.in-Accepted.is counted).0);
+    }
 
 pub overflow_sub-self : goal.overflow_sub-self
 overflow_sub-self c =
@@ -21,7 +24,7 @@ overflow_sub-self c =
     let n = outstanding (state_of a.world) in
     let m = outstanding (state_of c.step.new.self) in
     let counted = made_counts (state_of a.world) (state_of c.step.new.self) (event_of c.args.event) c.in_ok-outcome.outcome c.in_ok-outcome.ensures.answer.ok in
-    omega (arith, c.self.invariant, subst (λ (o : Outcome). Counted (event_of c.args.event) n o m) c.in-Released.is counted)
+    omega (arith, c.self.invariant.counted, subst (λ (o : Outcome). Counted (event_of c.args.event) n o m) c.in-Released.is counted)
 
 pub invariant_of-self-in-Released : goal.invariant_of-self-in-Released
 invariant_of-self-in-Released c =
@@ -29,13 +32,19 @@ invariant_of-self-in-Released c =
     let n = outstanding (state_of a.world) in
     let m = outstanding (state_of c.step.new.self) in
     let counted = made_counts (state_of a.world) (state_of c.step.new.self) (event_of c.args.event) c.in_ok-outcome.outcome c.in_ok-outcome.ensures.answer.ok in
-    omega (arith, c.self.invariant, subst (λ (o : Outcome). Counted (event_of c.args.event) n o m) c.in-Released.is counted)
+    record {
+      config = c.in_ok-outcome.ensures.answer.config ∙ c.self.invariant.config;
+      counted = omega (arith, c.self.invariant.counted, subst (λ (o : Outcome). Counted (event_of c.args.event) n o m) c.in-Released.is counted);
+    }
 
 pub invariant_of-self-in_default : goal.invariant_of-self-in_default
 invariant_of-self-in_default c =
     let a = c.self.inside in
     let counted = made_counts (state_of a.world) (state_of c.step.new.self) (event_of c.args.event) c.in_ok-outcome.outcome c.in_ok-outcome.ensures.answer.ok in
-    c.self.invariant ∙ sym (as_many (event_of c.args.event) (outstanding (state_of a.world)) (outstanding (state_of c.step.new.self)) c.in_ok-outcome.outcome counted c.in_default.not-Accepted c.in_default.not-Released)
+    record {
+      config = c.in_ok-outcome.ensures.answer.config ∙ c.self.invariant.config;
+      counted = c.self.invariant.counted ∙ sym (as_many (event_of c.args.event) (outstanding (state_of a.world)) (outstanding (state_of c.step.new.self)) c.in_ok-outcome.outcome counted c.in_default.not-Accepted c.in_default.not-Released);
+    }
 
 pub overflow_add-self : goal.overflow_add-self
 overflow_add-self c =
