@@ -337,11 +337,6 @@ port_more i n a b d ca cb cd v r e p q =
     leads_same (λ run. Ok (ports_served n run)) (λ run. Ok (ports_served i run) then λ x. Ok (port_served i x)) a d ca cd r (λ text. ap (λ m. Ok (ports_served m (run_at a text))) e)
     (leads_then (λ run. Ok (ports_served i run)) (λ x. Ok (port_served i x)) a b d ca cb cd v r p q)
 
-pub drain_turn : (config : Config) (n m : ℕ) (a : Simulated) (text : List ℕ) → a.left ≡ n → n ≡ m + 1 → (outstanding (state_of a.world) == 0) ≡ false → drained config a.left (run_at a text) ≡ (round config (run_at a text) then drained config m)
-drain_turn config n m a text left e busy =
-    let rest : a.left - 1 ≡ m = omega (arith, left, e) in
-    drained_turn config a.left (state_of a.world) text busy ∙ ap (λ k. round config (run_at a text) then drained config k) rest
-
 pub rounds_turn : (config : Config) (n m : ℕ) (run : Run) → n ≡ m + 1 → rounds config n run ≡ (round config run then rounds config m)
 rounds_turn config n m run e =
     let one : n ≡ suc m = omega (arith, e) in
