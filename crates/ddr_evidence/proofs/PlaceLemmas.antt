@@ -15,7 +15,7 @@ use Rattle.ddr_trace.specs.declared.rule.Rule.{Rule}
 use Rattle.ddr_trace.specs.Banks.{bank_after, bank_behind}
 use Rattle.ddr_trace.specs.Commands.{is_activate, is_auto, is_precharge, is_same_bank}
 use Rattle.ddr_trace.proofs.BankLemmas.{bank_behind-append}
-use Rattle.ddr_evidence.specs.Places.{IsLastChange, are_breaking, breaks_from, changes, changes_at, counts}
+use Rattle.ddr_evidence.specs.Places.{IsLastChangeAt, are_breaking, breaks_from, changes, changes_at, counts}
 
 -- ---- walking back
 
@@ -132,7 +132,17 @@ below_or_past command history place below = go (nat_lt place (length history)) r
     go false less = change_past command history place (ltb-false place (length history) less)
 
 -- the whole history was walked through
-pub change_all : (command : Command) (history : List Entry) (found : Option ℕ) → IsLastBelow (changes_at command history) (length history) found → IsLastChange command history found
+-- an entry that changes the bank is in the history
+pub change_within : (command : Command) (history : List Entry) (place : ℕ) → changes_at command history place ≡ true → place < length history
+change_within command history place passes = go (nat_lt place (length history)) refl
+  where
+    go : (b : Bool) → nat_lt place (length history) ≡ b → place < length history
+    go true below = ltb-true place (length history) below
+    go false above =
+        let past = ltb-false place (length history) above in
+        absurd (let none = change_past command history place past in cc)
+
+pub change_all : (command : Command) (history : List Entry) (found : Option ℕ) → IsLastBelow (changes_at command history) (length history) found → IsLastChangeAt command history found
 change_all command history None none = λ place. below_or_past command history place (none place)
 change_all command history (Some last) found = record {
   passes = found.1;

@@ -9,6 +9,7 @@ use Rattle.ddr_trace.specs.declared.command.Command.TheVariants.{Pre}
 use Rattle.ddr_trace.specs.declared.command.Entry.{Entry}
 use Rattle.ddr_trace.specs.declared.rule.Rule.{Rule}
 use Rattle.ddr_trace.specs.declared.rule.Rule.TheVariants as rule
+use Rattle.ddr_evidence.specs.declared.evidence.Placed.{Placed}
 use Rattle.ddr_trace.specs.Banks.{bank_behind}
 use Rattle.ddr_trace.specs.Commands.{is_activate, is_auto, is_precharge, is_refresh, is_same_bank, is_same_rank}
 use Rattle.ddr_trace.specs.Rules.{breaks_faw, breaks_ref_gap, breaks_rtrs, breaks_spacing, is_switched_too_soon, is_too_close, rank_switch, spacing_of}
@@ -65,9 +66,14 @@ abbrev pub changes_at : Command → List Entry → ℕ → Bool
 changes_at command history place =
     option_map_or (λ a. is_same_bank a.command command && changes a (bank_behind command (take place history))) (slice_get history place) false
 
--- the last entry that changed the bank, if one did
-abbrev pub IsLastChange : Command → List Entry → Option ℕ → Type 0
-IsLastChange command history (Some place) = IsLast (changes_at command history) place
+-- the place of the last entry that changed the bank, if one did
+abbrev pub IsLastChangeAt : Command → List Entry → Option ℕ → Type 0
+IsLastChangeAt command history (Some place) = IsLast (changes_at command history) place
+IsLastChangeAt command history None = (place : ℕ) → changes_at command history place ≡ false
+
+-- that entry, at its place
+abbrev pub IsLastChange : Command → List Entry → Option Placed → Type 0
+IsLastChange command history (Some p) = (slice_get history p.place ≡ Some p.entry) × IsLast (changes_at command history) p.place
 IsLastChange command history None = (place : ℕ) → changes_at command history place ≡ false
 
 -- the bank of this number in its rank

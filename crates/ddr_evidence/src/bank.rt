@@ -1,11 +1,12 @@
 //! Rules on the state of banks: the command that last changed the bank.
 //!
-//! `kind` and `ddr_trace` stand below, and `state` above.
-ghost use Rattle.std.specs.Prelude.{◌≡◌, ◌-◌, ◌&&◌, if◌then◌else◌, IfNone, None, Some};
+//! `evidence`, `kind` and `ddr_trace` stand below, and `state` above.
+ghost use Rattle.std.specs.Prelude.{◌≡◌, ◌-◌, ◌<◌, ◌&&◌, if◌then◌else◌, IfNone, None, Some, length, slice_get};
 ghost use Rattle.ddr_trace.specs.Banks.{auto_start, bank_after, bank_behind, recovery};
 ghost use Rattle.ddr_trace.specs.Commands.{is_same_bank};
-ghost use Rattle.ddr_evidence.specs.Places.{IsLastChange, changes};
+ghost use Rattle.ddr_evidence.specs.Places.{IsLastChange, IsLastChangeAt, changes};
 
+use crate::evidence::Placed;
 use crate::kind::{is_activate, is_auto, is_precharge, is_same_bank};
 use ddr_timing::timing::Timing;
 use ddr_timing::units::BURST_CLOCKS;
@@ -16,13 +17,50 @@ use ddr_trace::command::{Command, Entry};
 #[derive(Clone, Copy)]
 pub(crate) struct BankHistory {
     pub(crate) bank: Option<OpenBank>,
-    /// The place of the entry that last changed the bank.
-    pub(crate) changed: Option<usize>,
+    /// The entry that last changed the bank.
+    pub(crate) changed: Option<Placed>,
 }
 
-impl BankHistory {
-    /// What the history and one more entry, at this place, make of the bank that the command is for.
-    fn after(self, place: usize, entry: &Entry, command: &Command) -> BankHistory
+/// What the history makes of the bank that the command is for.
+pub(crate) fn history_of(history: &[Entry], command: &Command) -> BankHistory
+    ensures bank { result.bank ≡ bank_behind command.now history.now }
+    ensures changed { IsLastChange command.now history.now result.changed }
+    ensures idle { IfNone result.changed (result.bank ≡ None) }
+{
+    let seen = walk(history, command);
+    let changed = match seen.changed {
+        Some(place) => Some(placed(history, place)),
+        None => None,
+    };
+    BankHistory {
+        bank: seen.bank,
+        changed,
+    }
+}
+
+/// The entry at the place.
+fn placed(history: &[Entry], place: usize) -> Placed
+    requires { place < length history.now }
+    ensures place { result.place ≡ place }
+    ensures entry { slice_get history.now place ≡ Some result.entry }
+{
+    prove!(place < history.len());
+    Placed {
+        place,
+        entry: history[place],
+    }
+}
+
+/// What the entries so far make of a bank, and the place of the one that last changed it.
+#[derive(Clone, Copy)]
+struct SoFar {
+    bank: Option<OpenBank>,
+    changed: Option<usize>,
+}
+
+impl SoFar {
+    /// What they and one more entry, at this place, make of the bank that the command is for.
+    fn after(self, place: usize, entry: &Entry, command: &Command) -> SoFar
         ensures bank { result.bank ≡ bank_after command.now self.bank entry.now }
         ensures changed { result.changed
             ≡ (if is_same_bank entry.now.command command.now && changes entry.now self.bank then Some place else self.changed) }
@@ -35,20 +73,20 @@ impl BankHistory {
         } else {
             self.changed
         };
-        BankHistory {
+        SoFar {
             bank: changed_by(entry, self.bank),
             changed,
         }
     }
 }
 
-/// What the history makes of the bank that the command is for.
-pub(crate) fn history_of(history: &[Entry], command: &Command) -> BankHistory
+/// What the whole history makes of the bank that the command is for.
+fn walk(history: &[Entry], command: &Command) -> SoFar
     ensures bank { result.bank ≡ bank_behind command.now history.now }
-    ensures changed { IsLastChange command.now history.now result.changed }
+    ensures changed { IsLastChangeAt command.now history.now result.changed }
     ensures idle { IfNone result.changed (result.bank ≡ None) }
 {
-    let mut seen = BankHistory {
+    let mut seen = SoFar {
         bank: None,
         changed: None,
     };

@@ -1,18 +1,18 @@
 //! Rules on an entry's own numbers: ORDER and PLACE.
 //!
 //! `evidence`, `kind` and `ddr_trace` stand below, and `find` above.
-ghost use Rattle.std.specs.Prelude.{◌≡◌, IfNone, IfSome, MatchOption, false, true};
+ghost use Rattle.std.specs.Prelude.{◌≡◌, IfSome, MatchOption, false, is_some, not, true};
 ghost use Rattle.ddr_trace.specs.Rules.{breaks_order, is_in, last_cycle_below};
-ghost use Rattle.ddr_evidence.specs.Evidence.{IsOrder, IsOutside, IsNotAbove, bound_of, is_outside, number_in};
+ghost use Rattle.ddr_evidence.specs.Evidence.{IsNotAbove, IsOrder, IsOutside, bound_of, first_outside, is_outside, number_in};
 
-use crate::evidence::{Evidence, Part};
+use crate::evidence::{Evidence, Part, Placed};
 use ddr_timing::geometry::Geometry;
 use ddr_timing::units::{GROUP_BANKS, LINE_COLUMNS};
 use ddr_trace::command::{Command, Entry};
 
 /// Why the entry breaks ORDER, if it does.
 pub(crate) fn order(history: &[Entry], entry: &Entry, start: u64, end: u64) -> Option<Evidence>
-    ensures none { IfNone result (breaks_order start end history.now entry.now ≡ false) }
+    ensures broken { is_some result ≡ breaks_order start end history.now entry.now }
     ensures some { IfSome result (IsOrder start end history.now entry.now) }
 {
     if let Some(earlier) = not_above(history, entry) {
@@ -27,56 +27,65 @@ pub(crate) fn order(history: &[Entry], entry: &Entry, start: u64, end: u64) -> O
     None
 }
 
-/// The place of the entry before, where its cycle is not below the entry's.
-fn not_above(history: &[Entry], entry: &Entry) -> Option<usize>
-    ensures { MatchOption result (last_cycle_below history.now entry.now.cycle ≡ true) (IsNotAbove history.now entry.now) }
+/// The entry before, where its cycle is not below the entry's.
+fn not_above(history: &[Entry], entry: &Entry) -> Option<Placed>
+    ensures kept { not (is_some result) ≡ last_cycle_below history.now entry.now.cycle }
+    ensures some { IfSome result (IsNotAbove history.now entry.now) }
 {
     let (last, before) = history.split_last()?;
     if last.cycle < entry.cycle {
         return None;
     }
-    Some(before.len())
-}
-
-/// Why the command breaks PLACE, if it does: its first number that is not below its bound.
-#[tactic(auto, using(crate::proofs::FindLemmas::is_inside))]
-pub(crate) fn place(command: &Command, geometry: &Geometry) -> Option<Evidence>
-    ensures none { IfNone result (is_in geometry.now command.now ≡ true) }
-    ensures some { IfSome result (IsOutside geometry.now command.now) }
-{
-    if let Some(rank) = outside(Part::Rank, command, geometry) {
-        return Some(rank);
-    }
-    if let Some(group) = outside(Part::Group, command, geometry) {
-        return Some(group);
-    }
-    if let Some(bank) = outside(Part::Bank, command, geometry) {
-        return Some(bank);
-    }
-    if let Some(row) = outside(Part::Row, command, geometry) {
-        return Some(row);
-    }
-    outside(Part::Line, command, geometry)
-}
-
-/// That this number of the command is not below its bound, if so.
-fn outside(part: Part, command: &Command, geometry: &Geometry) -> Option<Evidence>
-    ensures none { IfNone result (is_outside geometry.now command.now part ≡ false) }
-    ensures some { IfSome result (IsOutside geometry.now command.now) }
-{
-    let number = part.number_in(command)?;
-    let bound = part.bound(geometry);
-    if number < bound {
-        return None;
-    }
-    Some(Evidence::Outside {
-        part,
-        number,
-        bound,
+    Some(Placed {
+        place: before.len(),
+        entry: *last,
     })
 }
 
+/// Why the command breaks PLACE, if it does: its first number that is not below its bound.
+pub(crate) fn place(command: &Command, geometry: &Geometry) -> Option<Evidence>
+    ensures broken { is_some result ≡ not (is_in geometry.now command.now) }
+    ensures some { IfSome result (IsOutside geometry.now command.now) }
+{
+    let part = first_outside(command, geometry)?;
+    let number = part.number_in(command)?;
+    Some(Evidence::Outside {
+        part,
+        number,
+        bound: part.bound(geometry),
+    })
+}
+
+/// The first number of the command that is not below its bound, if there is one.
+fn first_outside(command: &Command, geometry: &Geometry) -> Option<Part>
+    ensures { result ≡ first_outside geometry.now command.now }
+{
+    if Part::Rank.is_outside(command, geometry) {
+        Some(Part::Rank)
+    } else if Part::Group.is_outside(command, geometry) {
+        Some(Part::Group)
+    } else if Part::Bank.is_outside(command, geometry) {
+        Some(Part::Bank)
+    } else if Part::Row.is_outside(command, geometry) {
+        Some(Part::Row)
+    } else if Part::Line.is_outside(command, geometry) {
+        Some(Part::Line)
+    } else {
+        None
+    }
+}
+
 impl Part {
+    /// Whether the command has this number, and it is not below its bound.
+    fn is_outside(self, command: &Command, geometry: &Geometry) -> bool
+        ensures { result ≡ is_outside geometry.now command.now self }
+    {
+        match self.number_in(command) {
+            Some(number) => self.bound(geometry) <= number,
+            None => false,
+        }
+    }
+
     /// The command's number of this part, if it has one.
     fn number_in(self, command: &Command) -> Option<u32>
         ensures { result ≡ number_in self command.now }

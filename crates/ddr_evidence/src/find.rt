@@ -1,11 +1,9 @@
 //! The evidence of any rule.
 //!
 //! `evidence` has the types; `pair`, `state`, `bounds` and `refresh` stand below, one for each kind of rule.
-ghost use Rattle.std.specs.Prelude.{◌≡◌, IfNone, IfSome, false};
-ghost use Rattle.ddr_trace.specs.declared.command.Command.TheVariants.{Refresh};
-ghost use Rattle.ddr_trace.specs.Rules.{breaks, ends_late, refresh_count};
-ghost use Rattle.ddr_evidence.specs.declared.evidence.Evidence.TheVariants.{Late};
-ghost use Rattle.ddr_evidence.specs.Evidence.{IsEvidence, IsGap, IsLate, IsPair};
+ghost use Rattle.std.specs.Prelude.{◌≡◌, IfSome, is_some};
+ghost use Rattle.ddr_trace.specs.Rules.{breaks, ends_late};
+ghost use Rattle.ddr_evidence.specs.Evidence.{IsEvidence, IsGap, IsLateAtEnd, IsPair};
 ghost use Rattle.ddr_evidence.specs.Places.{pair_breaks};
 
 use crate::evidence::Evidence;
@@ -25,7 +23,7 @@ pub fn evidence_of(
     start: u64,
     end: u64,
 ) -> Option<Evidence>
-    ensures none { IfNone result (breaks config.now start end rule history.now entry.now ≡ false) }
+    ensures broken { is_some result ≡ breaks config.now start end rule history.now entry.now }
     ensures some { IfSome result (IsEvidence config.now start end rule history.now entry.now) }
 {
     let timing = &config.timing;
@@ -55,8 +53,8 @@ pub fn evidence_at_end(
     start: u64,
     end: u64,
 ) -> Option<(u32, usize, u64)>
-    ensures none { IfNone result (ends_late config.now start end entries.now ≡ false) }
-    ensures some { IfSome result (λ l. IsLate config.now.timing start end (refresh_count entries.now (Refresh l.0)) (Late l.1 l.2)) }
+    ensures broken { is_some result ≡ ends_late config.now start end entries.now }
+    ensures some { IfSome result (λ l. IsLateAtEnd config.now start end entries.now l.0 l.1 l.2) }
 {
     for rank in 0..config.geometry.ranks {
         let refresh = Command::Refresh { rank };
@@ -75,25 +73,25 @@ pub fn evidence_at_end(
 
 /// That the entry stands too close behind an earlier one, if so.
 fn too_close(rule: Rule, history: &[Entry], entry: &Entry, timing: &Timing) -> Option<Evidence>
-    ensures none { IfNone result (pair_breaks timing.now rule history.now entry.now ≡ false) }
+    ensures broken { is_some result ≡ pair_breaks timing.now rule history.now entry.now }
     ensures some { IfSome result (IsPair timing.now rule history.now entry.now) }
 {
-    let (earlier, first) = pair::nearest(rule, history, entry, timing)?;
+    let earlier = pair::nearest(rule, history, entry, timing)?;
     Some(Evidence::TooClose {
         earlier,
-        distance: entry.cycle.saturating_sub(first.cycle),
-        least: pair::least_of(rule, &first.command, &entry.command, timing),
+        distance: entry.cycle.saturating_sub(earlier.entry.cycle),
+        least: pair::least_of(rule, &earlier.entry.command, &entry.command, timing),
     })
 }
 
 /// That the REF stands too far behind the REF before, if so.
 fn too_far(history: &[Entry], entry: &Entry, timing: &Timing) -> Option<Evidence>
-    ensures none { IfNone result (pair_breaks timing.now Rule.RefGap history.now entry.now ≡ false) }
+    ensures broken { is_some result ≡ pair_breaks timing.now Rule.RefGap history.now entry.now }
     ensures some { IfSome result (IsGap timing.now history.now entry.now) }
 {
-    let (earlier, first) = pair::nearest(Rule::RefGap, history, entry, timing)?;
+    let earlier = pair::nearest(Rule::RefGap, history, entry, timing)?;
     Some(Evidence::TooFar {
         earlier,
-        distance: entry.cycle.saturating_sub(first.cycle),
+        distance: entry.cycle.saturating_sub(earlier.entry.cycle),
     })
 }

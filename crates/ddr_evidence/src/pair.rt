@@ -1,11 +1,12 @@
 //! Rules that an earlier entry breaks together with the present one: those on two commands, on four activations, on two
 //! ranks and on the gap between REFs.
 //!
-//! `kind` and `ddr_trace` stand below, and `find` above.
+//! `evidence`, `kind` and `ddr_trace` stand below, and `find` above.
 ghost use Rattle.std.specs.Prelude.{◌≡◌, ℕ, ◌≤◌, MatchOption, Some, false, slice_get};
 ghost use Rattle.ddr_trace.specs.Rules.{is_too_close, spacing_of};
 ghost use Rattle.ddr_evidence.specs.Places.{IsLast, are_breaking, breaks_from, counts, least_of};
 
+use crate::evidence::Placed;
 use crate::kind::{is_activate, is_column, is_refresh};
 use ddr_timing::timing::Timing;
 use ddr_trace::command::{Command, Entry, is_before};
@@ -13,22 +14,25 @@ use ddr_trace::ranks::rank_switch;
 use ddr_trace::refresh::is_gap_too_long;
 use ddr_trace::rule::Rule;
 
-/// The last entry of the history that breaks the rule together with the present one, and its place.
+/// The last entry of the history that breaks the rule together with the present one.
 pub(crate) fn nearest(
     rule: Rule,
     history: &[Entry],
     entry: &Entry,
     timing: &Timing,
-) -> Option<(usize, Entry)>
+) -> Option<Placed>
     ensures { MatchOption result
         ((place : ℕ) → breaks_from timing.now rule history.now entry.now place ≡ false)
-        (λ n. IsLast (breaks_from timing.now rule history.now entry.now) n.0 × (slice_get history.now n.0 ≡ Some n.1)) }
+        (λ n. IsLast (breaks_from timing.now rule history.now entry.now) n.place × (slice_get history.now n.place ≡ Some n.entry)) }
 {
     let mut between = 0usize;
     let mut earlier = history;
     while let Some((last, before)) = earlier.split_last() {
         if are_breaking(rule, last, entry, between, timing) {
-            return Some((before.len(), *last));
+            return Some(Placed {
+                place: before.len(),
+                entry: *last,
+            });
         }
         if counts(rule, last, entry) {
             between += 1;

@@ -1,7 +1,7 @@
 //! The rule on when a REF is due.
 //!
 //! `evidence`, `kind` and `ddr_trace` stand below, and `find` above.
-ghost use Rattle.std.specs.Prelude.{◌≡◌, ◌+◌, ◌*◌, ◌^◌, ◌≤◌, IfNone, IfSome, MatchOption, false, nat_lt};
+ghost use Rattle.std.specs.Prelude.{◌≡◌, ◌+◌, ◌*◌, ◌^◌, ◌≤◌, IfSome, MatchOption, is_some, nat_lt};
 ghost use Rattle.ddr_trace.specs.Rules.{breaks_ref_late, refresh_count};
 ghost use Rattle.ddr_evidence.specs.declared.evidence.Evidence.TheVariants.{Late};
 ghost use Rattle.ddr_evidence.specs.Evidence.{IsLate};
@@ -18,7 +18,7 @@ pub(crate) fn ref_late(
     timing: &Timing,
     start: u64,
 ) -> Option<Evidence>
-    ensures none { IfNone result (breaks_ref_late timing.now start history.now entry.now ≡ false) }
+    ensures broken { is_some result ≡ breaks_ref_late timing.now start history.now entry.now }
     ensures some { IfSome result (IsLate timing.now start entry.now.cycle (refresh_count history.now entry.now.command)) }
 {
     if !is_refresh(&entry.command) {
@@ -36,7 +36,7 @@ pub(crate) fn late(
     start: u64,
     cycle: u64,
 ) -> Option<(usize, u64)>
-    ensures none { IfNone result (nat_lt (start + (refresh_count history.now command.now + 9) * timing.now.refi) cycle ≡ false) }
+    ensures broken { is_some result ≡ nat_lt (start + (refresh_count history.now command.now + 9) * timing.now.refi) cycle }
     ensures some { IfSome result (λ l. IsLate timing.now start cycle (refresh_count history.now command.now) (Late l.0 l.1)) }
 {
     let refreshes = refresh_count(history, command);

@@ -1,16 +1,16 @@
 //! Rules on the state of banks: STATE and ROW, and RP and RP_REF behind an auto-precharge.
 //!
 //! `evidence`, `bank`, `kind` and `ddr_trace` stand below, and `find` above.
-ghost use Rattle.std.specs.Prelude.{◌≡◌, ℕ, ◌*◌, ◌<◌, ◌&&◌, IfNone, IfSome, MatchOption, false, is_some};
+ghost use Rattle.std.specs.Prelude.{◌≡◌, ℕ, ◌*◌, ◌<◌, ◌&&◌, IfSome, MatchOption, false, is_some};
 ghost use Rattle.ddr_timing.specs.declared.units.TheConstants.{GROUP_BANKS};
 ghost use Rattle.ddr_trace.specs.Banks.{any_bank, bank_behind, is_active, is_auto_within, open_row, ready_row};
 ghost use Rattle.ddr_trace.specs.Commands.{bank_of, group_of, is_activate, is_refresh, rank_of, row_of};
 ghost use Rattle.ddr_trace.specs.Rules.{breaks_row, breaks_state};
 ghost use Rattle.ddr_evidence.specs.declared.evidence.Evidence.TheVariants.{Bank};
-ghost use Rattle.ddr_evidence.specs.Evidence.{IsActiveBank, IsFirstBank, IsOwnBank, IsStartOf, IsState, bank_test};
+ghost use Rattle.ddr_evidence.specs.Evidence.{IsActiveBank, IsFirstBank, IsOwnBank, IsStartOf, IsStartOfRank, IsState, bank_test, is_behind_start, is_behind_start_of_rank};
 ghost use Rattle.ddr_evidence.specs.Places.{bank_at};
 
-use crate::bank::{clocks_since_start, history_of};
+use crate::bank::{BankHistory, clocks_since_start, history_of};
 use crate::evidence::Evidence;
 use crate::kind::{is_activate, is_column, is_refresh};
 use ddr_timing::config::Config;
@@ -77,7 +77,7 @@ fn first_bank(
 
 /// Why the entry breaks STATE, if it does.
 pub(crate) fn state(history: &[Entry], entry: &Entry, config: &Config) -> Option<Evidence>
-    ensures none { IfNone result (breaks_state config.now history.now entry.now ≡ false) }
+    ensures broken { is_some result ≡ breaks_state config.now history.now entry.now }
     ensures some { IfSome result (IsState config.now history.now entry.now) }
 {
     let command = &entry.command;
@@ -89,7 +89,7 @@ pub(crate) fn state(history: &[Entry], entry: &Entry, config: &Config) -> Option
         && BankTest::Active.holds(&seen.bank, entry.cycle, &config.timing))
         || (is_column(command) && !is_ready(&seen.bank));
     if is_wrong {
-        Some(own_bank(command, seen.changed))
+        Some(own_bank(command, seen))
     } else {
         None
     }
@@ -97,8 +97,8 @@ pub(crate) fn state(history: &[Entry], entry: &Entry, config: &Config) -> Option
 
 /// The first active bank of the entry's rank, if there is one.
 fn active_bank(history: &[Entry], entry: &Entry, config: &Config) -> Option<Evidence>
-    ensures none { IfNone result (any_bank config.now.geometry (rank_of entry.now.command)
-        (λ bank. is_active config.now.timing entry.now.cycle (bank_behind bank history.now)) ≡ false) }
+    ensures broken { is_some result ≡ any_bank config.now.geometry (rank_of entry.now.command)
+        (λ bank. is_active config.now.timing entry.now.cycle (bank_behind bank history.now)) }
     ensures some { IfSome result (IsActiveBank config.now history.now entry.now) }
 {
     let rank = entry.command.rank();
@@ -107,19 +107,20 @@ fn active_bank(history: &[Entry], entry: &Entry, config: &Config) -> Option<Evid
     Some(Evidence::Bank {
         group: number / GROUP_BANKS,
         bank: number % GROUP_BANKS,
+        opened: seen.bank,
         changed: seen.changed,
     })
 }
 
 /// Why the entry breaks ROW, if it does.
 pub(crate) fn row(history: &[Entry], entry: &Entry, timing: &Timing) -> Option<Evidence>
-    ensures none { IfNone result (breaks_row timing.now history.now entry.now ≡ false) }
+    ensures broken { is_some result ≡ breaks_row timing.now history.now entry.now }
     ensures some { IfSome result (IsOwnBank history.now entry.now) }
 {
     let command = &entry.command;
     let seen = history_of(history, command);
     if is_column(command) && open_row(&seen.bank, entry.cycle, timing) != Some(row_of(command)) {
-        Some(own_bank(command, seen.changed))
+        Some(own_bank(command, seen))
     } else {
         None
     }
@@ -127,8 +128,7 @@ pub(crate) fn row(history: &[Entry], entry: &Entry, timing: &Timing) -> Option<E
 
 /// That the ACT stands too close behind the start of an auto-precharge of its bank, if so.
 pub(crate) fn rp_start(history: &[Entry], entry: &Entry, timing: &Timing) -> Option<Evidence>
-    ensures none { IfNone result
-        ((is_activate entry.now.command && is_auto_within timing.now timing.now.rp entry.now.cycle (bank_behind entry.now.command history.now)) ≡ false) }
+    ensures broken { is_some result ≡ is_behind_start timing.now history.now entry.now }
     ensures some { IfSome result (IsStartOf timing.now entry.now.command history.now entry.now) }
 {
     if is_activate(&entry.command) {
@@ -140,11 +140,8 @@ pub(crate) fn rp_start(history: &[Entry], entry: &Entry, timing: &Timing) -> Opt
 
 /// That the REF stands too close behind the start of an auto-precharge of its rank, if so.
 pub(crate) fn rp_ref_start(history: &[Entry], entry: &Entry, config: &Config) -> Option<Evidence>
-    ensures none { IfNone result ((is_refresh entry.now.command && any_bank config.now.geometry (rank_of entry.now.command)
-        (λ bank. is_auto_within config.now.timing config.now.timing.rp entry.now.cycle (bank_behind bank history.now))) ≡ false) }
-    ensures some { IfSome result (λ evidence. (number : ℕ)
-        × IsFirstBank config.now (is_auto_within config.now.timing config.now.timing.rp entry.now.cycle) (rank_of entry.now.command) history.now number
-        × IsStartOf config.now.timing (bank_at (rank_of entry.now.command) number) history.now entry.now evidence) }
+    ensures broken { is_some result ≡ is_behind_start_of_rank config.now history.now entry.now }
+    ensures some { IfSome result (IsStartOfRank config.now history.now entry.now) }
 {
     if !is_refresh(&entry.command) {
         return None;
@@ -161,7 +158,7 @@ fn start_of(
     entry: &Entry,
     timing: &Timing,
 ) -> Option<Evidence>
-    ensures none { IfNone result (is_auto_within timing.now timing.now.rp entry.now.cycle (bank_behind command.now history.now) ≡ false) }
+    ensures broken { is_some result ≡ is_auto_within timing.now timing.now.rp entry.now.cycle (bank_behind command.now history.now) }
     ensures some { IfSome result (IsStartOf timing.now command.now history.now entry.now) }
 {
     let seen = history_of(history, command);
@@ -199,8 +196,8 @@ fn open_row(bank: &Option<OpenBank>, cycle: u64, timing: &Timing) -> Option<u32>
 }
 
 /// That the command's bank is as its last change left it.
-fn own_bank(command: &Command, changed: Option<usize>) -> Evidence
-    ensures { result ≡ Bank (group_of command.now) (bank_of command.now) changed }
+fn own_bank(command: &Command, seen: BankHistory) -> Evidence
+    ensures { result ≡ Bank (group_of command.now) (bank_of command.now) seen.bank seen.changed }
 {
     let (group, bank) = match *command {
         Command::Act { group, bank, .. }
@@ -214,7 +211,8 @@ fn own_bank(command: &Command, changed: Option<usize>) -> Evidence
     Evidence::Bank {
         group,
         bank,
-        changed,
+        opened: seen.bank,
+        changed: seen.changed,
     }
 }
 

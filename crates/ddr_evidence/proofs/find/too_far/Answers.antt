@@ -1,15 +1,14 @@
 -- The last earlier entry that breaks the rule.
-use Rattle.std.proofs.Common.{rules}
+use Rattle.std.proofs.Common.{rules, sym, ap, is_some, ◌∙◌}
 use Rattle.ddr_trace.specs.declared.rule.Rule.TheVariants.{RefGap}
-use Rattle.ddr_evidence.proofs.FindLemmas.{if_none, pair_kept}
+use Rattle.ddr_evidence.proofs.FindLemmas.{pair_broken, pair_kept}
 use Rattle.ddr_evidence.proofs.find.too_far.Goals as goal
 
-pub returns-in_err-earlier-clause-none : goal.returns-in_err-earlier-clause-none
-returns-in_err-earlier-clause-none c =
-    if_none _ c.from_residual.result (pair_kept c.args.timing.now RefGap c.args.history.now c.args.entry.now c.in_err-earlier.ensures)
+pub returns-in_err-earlier-clause-broken : goal.returns-in_err-earlier-clause-broken
+returns-in_err-earlier-clause-broken c = ap is_some c.from_residual.ensures ∙ sym (pair_kept c.args.timing.now RefGap c.args.history.now c.args.entry.now c.in_err-earlier.ensures)
+
+pub returns-clause-broken : goal.returns-clause-broken
+returns-clause-broken c = sym (pair_broken c.args.timing.now RefGap c.args.history.now c.args.entry.now c.in_ok-earlier.earlier.place c.in_ok-earlier.ensures.0.passes)
 
 pub returns-clause-some : goal.returns-clause-some
-returns-clause-some c = (
-  c.in_ok-earlier.first,
-  record { there = c.in_ok-earlier.ensures.1; nearest = c.in_ok-earlier.ensures.0; clocks = search rules },
-)
+returns-clause-some c = record { there = c.in_ok-earlier.ensures.1; nearest = c.in_ok-earlier.ensures.0; clocks = search rules }

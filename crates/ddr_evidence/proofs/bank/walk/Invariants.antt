@@ -3,7 +3,7 @@ use Rattle.std.specs.Prelude.{IfNone}
 use Rattle.ddr_trace.specs.Banks.{bank_behind}
 use Rattle.ddr_evidence.specs.Places.{changes_at}
 use Rattle.ddr_evidence.proofs.PlaceLemmas.{IsLastBelow}
-use Rattle.ddr_evidence.proofs.bank.history_of.Given as goal
+use Rattle.ddr_evidence.proofs.bank.walk.Given as goal
 
 abbrev pub invariant-loop-place : goal.invariant-loop-place
 invariant-loop-place l = record {
