@@ -105,7 +105,7 @@ fn changes(entry: &Entry, bank: &Option<OpenBank>) -> bool
 }
 
 /// How many clocks the cycle stands behind the start of the bank's auto-precharge; 0 before it.
-pub(crate) fn clocks_since_start(bank: &OpenBank, auto: &Entry, cycle: u64, timing: &Timing) -> u64
+pub fn clocks_since_start(bank: &OpenBank, auto: &Entry, cycle: u64, timing: &Timing) -> u64
     ensures { result ≡ cycle - auto_start timing.now bank.now auto.now }
 {
     let since_command = cycle.saturating_sub(auto.cycle);

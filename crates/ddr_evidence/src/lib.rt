@@ -6,7 +6,7 @@
 //! on an entry's own numbers, and `refresh` the one on when a REF is due. `kind` says which kind of command a rule speaks of.
 #![tactic(auto)]
 
-mod bank;
+pub mod bank;
 mod bounds;
 pub mod evidence;
 pub mod find;

@@ -51,7 +51,7 @@ parts_fault (Some input) items text profile sample fault known same is_text refu
     (text_fault profile items sample fault is_text (subst (λ t. IsRefused (parts_of sample profile t) fault) same refused))
 
 -- a body that is read is not refused as unreadable
-pub not_read : (answer : Result Bool Fault) (refusal : TraceError) (A : Type 0) → answer ≡ Err (trace_fault_of refusal) → refusal ≢ error.Read → answer ≡ Err faults.Read → A
+pub not_read : {X : Type 0} (answer : Result X Fault) (refusal : TraceError) (A : Type 0) → answer ≡ Err (trace_fault_of refusal) → refusal ≢ error.Read → answer ≡ Err faults.Read → A
 not_read answer error.Read A was other is = absurd (other refl)
 not_read answer error.Write A was other is = absurd (let impossible = sym was ∙ is in cc)
 not_read answer error.Header A was other is = absurd (let impossible = sym was ∙ is in cc)
@@ -62,7 +62,7 @@ not_read answer error.TooLong A was other is = absurd (let impossible = sym was 
 not_read answer error.OutOfMemory A was other is = absurd (let impossible = sym was ∙ is in cc)
 
 -- nor as one that can't be written
-pub not_written : (answer : Result Bool Fault) (refusal : TraceError) (said : Result Recorded TraceError) (A : Type 0) → NotWrite said → IsAnswer said (Err refusal) → answer ≡ Err (trace_fault_of refusal) → answer ≡ Err faults.Write → A
+pub not_written : {X : Type 0} (answer : Result X Fault) (refusal : TraceError) (said : Result Recorded TraceError) (A : Type 0) → NotWrite said → IsAnswer said (Err refusal) → answer ≡ Err (trace_fault_of refusal) → answer ≡ Err faults.Write → A
 unfolding NotWrite
 not_written answer error.Write said A other_than told was is = absurd (subst NotWrite (sym told) other_than)
 not_written answer error.Read said A other_than told was is = absurd (let impossible = sym was ∙ is in cc)

@@ -1,10 +1,11 @@
 //! Whether a trace is legal: a configuration and a trace's text in, a verdict out.
 //!
-//! `input`, `body`, `writing`, `ddr_legality` and `ddr_trace` stand below, and the program above.
-ghost use Rattle.std.specs.Prelude.{◌≡◌, ◌≢◌, IfErr, IfOk, IfSome, IsErrOf, IsTrue, string_bytes};
+//! `input`, `body`, `writing`, `ddr_legality` and `ddr_trace` stand below, and the program above. `ddr_explain` reads and
+//! judges a trace by the functions here.
+ghost use Rattle.std.specs.Prelude.{◌≡◌, ◌≢◌, IfErr, IfOk, IfSome, IsErrOf, IsTrue, Ok, string_bytes};
 ghost use Rattle.ddr_trace.specs.declared.checker.Fault as checker;
 ghost use Rattle.ddr_trace.specs.Reader.{IsAnswer, records_in, trace_of};
-ghost use Rattle.ddr_text.specs.Check.{HasCheckFault, IsChecked, IsVerdict, in_memory, verdict_text};
+ghost use Rattle.ddr_text.specs.Check.{HasCheckFault, IsChecked, IsVerdict, SaysTrace, in_memory, verdict_text};
 ghost use Rattle.ddr_text.specs.Fault.{is_before_output};
 
 use crate::body::open;
@@ -48,14 +49,32 @@ pub fn check<R: Source, W: Sink>(
     ensures written { IfOk result (λ legal. IfSome (R.remaining reader.old) (λ input.
         IsChecked sample PROFILE_S.now input legal (W.contents writer.old) (W.contents writer.new))) }
 {
-    let input = read_source(alloc, reader)?;
-    let text = text_of(input.as_slice())?;
-    let (config, body) = open(alloc, sample, text)?;
-    let trace = trace_in(alloc, body)?;
+    let (config, trace) = read_checked(alloc, sample, reader)?;
     let fault = verdict(alloc, &config, &trace)?;
     let line = verdict_text(alloc, fault)?;
     write_whole(writer, line.as_str())?;
     Ok(fault.is_none())
+}
+
+/// Reads what a check looks at, a configuration and a trace. The input is that of `check`; fails as `check` does where
+/// it can't be read, and never as `Write`.
+pub fn read_checked<R: Source>(
+    alloc: Global,
+    sample: bool,
+    reader: &mut R,
+) -> Result<(Config, Trace), Fault>
+    ensures sure { IsErrOf result Fault.Read → IsTrue R.may_fail }
+    ensures unwritten { ¬ IsErrOf result Fault.Write }
+    ensures fault { IfErr result (λ fault. IfSome (R.remaining reader.old) (λ input.
+        HasCheckFault sample PROFILE_S.now input fault)) }
+    ensures said { IfOk result (λ read. IfSome (R.remaining reader.old) (λ input.
+        SaysTrace sample PROFILE_S.now input read.0 (Ok read.1))) }
+{
+    let input = read_source(alloc, reader)?;
+    let text = text_of(input.as_slice())?;
+    let (config, body) = open(alloc, sample, text)?;
+    let trace = trace_in(alloc, body)?;
+    Ok((config, trace))
 }
 
 /// The trace of a body. Its text is in memory, and so it never fails as `Read`.
