@@ -21,13 +21,13 @@ use Rattle.clap.specs.declared.error.kind.ErrorKind.TheVariants.{OutOfMemory}
 use Rattle.clap.proofs.CallerReads.{signed_reads}
 use Rattle.clap.proofs.ValueTestLemmas.{accepts-Accepts}
 use Rattle.ddr_text.specs.declared.command.Job.TheVariants.{Sim}
-use Rattle.ddr_text.specs.Job.{Answers, AreTaken, IsTaken, ddr_app, is_subcommand, job_of, job_or, job_with, sample_rule, trace_rule}
+use Rattle.ddr_text.specs.Job.{Answers, AreTaken, IsTaken, ddr_app, explain_rule, flag_rule, is_subcommand, job_of, job_or, job_with, sample_rule, trace_rule}
 use Rattle.ddr_text.proofs.PassLemmas.{AllFit, AllSubsLike, IsLike, fit_subcommand, one_passes}
 
--- the flag, as `get_flag` reads it
-pub flag_read : (o : Option Text) (r : Bool) → (o ≡ None → r ≡ false) → (o ≡ Some (codes "true") → r ≡ true) → (o ≡ Some (codes "false") → r ≡ false) → IfSome o (IsTaken (filled sample_rule)) → r ≡ option_map_or (λ text. bytes_eq text (codes "true")) o false
-flag_read None r none set other taken = none refl
-flag_read (Some text) r none set other (value, same, accepted) = go (bytes_eq text (codes "true")) refl (subst (λ v. (bytes_eq v (codes "true") || bytes_eq v (codes "false")) ≡ true) (sym same) accepted)
+-- a flag, as `get_flag` reads it
+pub flag_read : (name : Text) (o : Option Text) (r : Bool) → (o ≡ None → r ≡ false) → (o ≡ Some (codes "true") → r ≡ true) → (o ≡ Some (codes "false") → r ≡ false) → IfSome o (IsTaken (filled (flag_rule name))) → r ≡ option_map_or (λ text. bytes_eq text (codes "true")) o false
+flag_read name None r none set other taken = none refl
+flag_read name (Some text) r none set other (value, same, accepted) = go (bytes_eq text (codes "true")) refl (subst (λ v. (bytes_eq v (codes "true") || bytes_eq v (codes "false")) ≡ true) (sym same) accepted)
   where
     go : (b : Bool) → bytes_eq text (codes "true") ≡ b → (bytes_eq text (codes "true") || bytes_eq text (codes "false")) ≡ true → r ≡ bytes_eq text (codes "true")
     go true is either = set (ap (λ t. Some t) ((bytes_eq-Decides text (codes "true")).0 is)) ∙ sym is
@@ -141,23 +141,18 @@ like_other t a differ uncounted =
 
 samples_alike : AllSubsLike (filled sample_rule) (built ddr_app).subs
 unfolding ddr_app is_count
-samples_alike = (
-  (like_same _ _ refl refl refl, (like_other _ _ refl refl, (like_other _ _ refl refl, tt))),
-  (
-    (like_same _ _ refl refl refl, (like_other _ _ refl refl, tt)),
-    ((like_same _ _ refl refl refl, (like_other _ _ refl refl, tt)), ((like_same _ _ refl refl refl, (like_other _ _ refl refl, tt)), ((like_same _ _ refl refl refl, (like_other _ _ refl refl, tt)), tt))),
-  ),
-)
+samples_alike =
+    ((like_same _ _ refl refl refl, (like_other _ _ refl refl, (like_other _ _ refl refl, tt))), ((like_same _ _ refl refl refl, (like_other _ _ refl refl, tt)), ((like_same _ _ refl refl refl, (like_other _ _ refl refl, (like_other _ _ refl refl, tt))), ((like_same _ _ refl refl refl, (like_other _ _ refl refl, tt)), ((like_same _ _ refl refl refl, (like_other _ _ refl refl, tt)), tt)))))
 
 traces_alike : AllSubsLike (filled trace_rule) (built ddr_app).subs
 unfolding ddr_app is_count
-traces_alike = (
-  (like_other _ _ refl refl, (like_same _ _ refl refl refl, (like_other _ _ refl refl, tt))),
-  (
-    (like_other _ _ refl refl, (like_other _ _ refl refl, tt)),
-    ((like_other _ _ refl refl, (like_other _ _ refl refl, tt)), ((like_other _ _ refl refl, (like_other _ _ refl refl, tt)), ((like_other _ _ refl refl, (like_other _ _ refl refl, tt)), tt))),
-  ),
-)
+traces_alike =
+    ((like_other _ _ refl refl, (like_same _ _ refl refl refl, (like_other _ _ refl refl, tt))), ((like_other _ _ refl refl, (like_other _ _ refl refl, tt)), ((like_other _ _ refl refl, (like_other _ _ refl refl, (like_other _ _ refl refl, tt))), ((like_other _ _ refl refl, (like_other _ _ refl refl, tt)), ((like_other _ _ refl refl, (like_other _ _ refl refl, tt)), tt)))))
+
+explains_alike : AllSubsLike (filled explain_rule) (built ddr_app).subs
+unfolding ddr_app is_count
+explains_alike =
+    ((like_other _ _ refl refl, (like_other _ _ refl refl, (like_other _ _ refl refl, tt))), ((like_other _ _ refl refl, (like_other _ _ refl refl, tt)), ((like_other _ _ refl refl, (like_same _ _ refl refl refl, (like_other _ _ refl refl, tt))), ((like_other _ _ refl refl, (like_other _ _ refl refl, tt)), ((like_other _ _ refl refl, (like_other _ _ refl refl, tt)), tt)))))
 
 taken_of : (t : Rule) (words : List Text) (name : Text) (options : List Row) → AllSubsLike t (built ddr_app).subs → fault_of ddr_app words ≡ [] → subcommand_of ddr_app words ≡ Some (name, options) → IfSome (one_of t.id options) (IsTaken t)
 taken_of t words name options alike none met =
@@ -168,4 +163,5 @@ pub met_taken : (words : List Text) (name : Text) (options : List Row) → fault
 met_taken words name options none met = record {
   sample = taken_of (filled sample_rule) words name options samples_alike none met;
   trace = taken_of (filled trace_rule) words name options traces_alike none met;
+  explain = taken_of (filled explain_rule) words name options explains_alike none met;
 }

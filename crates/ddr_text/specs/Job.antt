@@ -13,11 +13,19 @@ use Rattle.clap.specs.declared.builder.value_parser.ValueParser.TheVariants as p
 use Rattle.clap.specs.declared.error.Error.{Error}
 use Rattle.clap.specs.declared.error.kind.ErrorKind.TheVariants.{OutOfMemory}
 use Rattle.ddr_text.specs.declared.command.Job.{Job}
-use Rattle.ddr_text.specs.declared.command.Job.TheVariants.{Sim, Run, Check, Map, Lint}
+use Rattle.ddr_text.specs.declared.command.Job.TheVariants.{Sim, Run, Check, Explain, Map, Lint}
+
+-- a flag of this name
+abbrev pub flag_rule : Text → Rule
+flag_rule name = record (new_rule name) { long = Some name; action = Some SetTrue }
 
 -- the flag `--sample`
 abbrev pub sample_rule : Rule
-sample_rule = record (new_rule (codes "sample")) { long = Some (codes "sample"); action = Some SetTrue }
+sample_rule = flag_rule (codes "sample")
+
+-- the flag `--explain`
+abbrev pub explain_rule : Rule
+explain_rule = flag_rule (codes "explain")
 
 -- the option `--trace`, whose value is below 2^32
 abbrev pub trace_rule : Rule
@@ -31,6 +39,10 @@ trace_rule = record (new_rule (codes "trace")) {
 abbrev pub with_sample : Text → App
 with_sample name = with_rule (new_app name) sample_rule
 
+-- the subcommand `check`, with its own flag behind
+abbrev pub check_app : App
+check_app = with_rule (with_sample (codes "check")) explain_rule
+
 -- the program's name, which a subcommand has to follow
 abbrev pub name_alone : App
 name_alone = let app = new_app (codes "ddr") in
@@ -41,13 +53,16 @@ unfoldable pub ddr_app : App
 ddr_app =
     let sim = with_subcommand name_alone (with_rule (with_sample (codes "sim")) trace_rule).top in
     let run = with_subcommand sim (with_sample (codes "run")).top in
-    let check = with_subcommand run (with_sample (codes "check")).top in
+    let check = with_subcommand run check_app.top in
     let map = with_subcommand check (with_sample (codes "map")).top in
     with_subcommand map (with_sample (codes "lint")).top
 
 -- whether the flag was used
+abbrev pub is_used : Text → List Row → Bool
+is_used flag options = option_map_or (λ text. bytes_eq text (codes "true")) (one_of flag options) false
+
 abbrev pub is_sample : List Row → Bool
-is_sample options = option_map_or (λ text. bytes_eq text (codes "true")) (one_of (codes "sample") options) false
+is_sample = is_used (codes "sample")
 
 -- the channel of the option, if that was used
 abbrev pub channel_of : List Row → Option ℕ
@@ -62,16 +77,21 @@ IsTaken rule text = (value : Text) × (text ≡ read_as (reading_by rule) value)
 pub record AreTaken (options : List Row) : Type 0 where
   pub sample : IfSome (one_of (codes "sample") options) (IsTaken (filled sample_rule))
   pub trace : IfSome (one_of (codes "trace") options) (IsTaken (filled trace_rule))
+  pub explain : IfSome (one_of (codes "explain") options) (IsTaken (filled explain_rule))
 
 abbrev pub is_subcommand : Text → Bool
 is_subcommand name = bytes_eq name (codes "sim") || bytes_eq name (codes "run") || bytes_eq name (codes "check") || bytes_eq name (codes "map") || bytes_eq name (codes "lint")
+
+-- the job of the subcommand `check`
+abbrev pub check_job : List Row → Bool → Job
+check_job options sample = if is_used (codes "explain") options then Explain sample else Check sample
 
 -- the job of a subcommand with these options
 abbrev pub job_with : Text → List Row → Job
 job_with name options =
     if bytes_eq name (codes "sim") then Sim (is_sample options) (channel_of options)
     else if bytes_eq name (codes "run") then Run (is_sample options)
-    else if bytes_eq name (codes "check") then Check (is_sample options)
+    else if bytes_eq name (codes "check") then check_job options (is_sample options)
     else if bytes_eq name (codes "map") then Map (is_sample options)
     else Lint (is_sample options)
 

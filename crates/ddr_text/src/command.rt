@@ -11,6 +11,8 @@ pub enum Job {
     Run { sample: bool },
     /// Checks a trace.
     Check { sample: bool },
+    /// Checks a trace, and says what its first fault rests on.
+    Explain { sample: bool },
     /// Says where addresses lie.
     Map { sample: bool },
     /// Tells what is at fault in a configuration, and what is strange.

@@ -46,7 +46,10 @@ To paste:
 pub const CHECK: &str = "\
 Input: a configuration, a line `---` and a trace; with --sample the trace alone.
   A trace is the text that `ddr sim --trace` writes.
-Output: `legal`, or `fault PLACE RULE`, where PLACE counts the commands from 0.
+Output: `legal`, or `fault PLACE RULE`, where PLACE counts the commands from 0. With
+  --explain a sentence behind it, with the earlier command that the fault is measured
+  from, the distance, and the least distance with its formula. Its lines count the
+  trace's records from 1, the header being 1.
 Status: 0 where the trace is legal; 1 where it is not; 2 for a bad input or command
   line; 3 where the device or the memory fails.
 

@@ -4,7 +4,7 @@
 ghost use Rattle.std.specs.Prelude.{◌≡◌, ◌≤◌, IfOk, IsTrue, None, Ok, codes, false, length, map, true};
 ghost use Rattle.clap.specs.Words.{app_of, found_of, rows_of, rule_of, with_rule, with_subcommand};
 ghost use Rattle.clap.specs.declared.Command.TheViews.{out-Command as settings_of};
-ghost use Rattle.ddr_text.specs.Job.{Answers, AreTaken, channel_of, ddr_app, is_sample, is_subcommand, job_of, job_with, name_alone, trace_rule, with_sample};
+ghost use Rattle.ddr_text.specs.Job.{Answers, AreTaken, channel_of, check_app, check_job, ddr_app, flag_rule, is_subcommand, is_used, job_of, job_with, name_alone, trace_rule, with_sample};
 
 use crate::command::Job;
 use crate::help;
@@ -13,8 +13,8 @@ use std::alloc::{AllocError, Global};
 
 /// The job that the words of a command line state, of which the first is the program's name.
 ///
-/// The subcommands are `sim`, `run`, `check`, `map` and `lint`. Each has the flag `--sample`, and `sim` the option `--trace C` with
-/// the number of a channel, a `u32`. No words, or the name alone, are read as `sim --sample`.
+/// The subcommands are `sim`, `run`, `check`, `map` and `lint`. Each has the flag `--sample`, `sim` the option `--trace C` with
+/// the number of a channel, a `u32`, and `check` the flag `--explain`. No words, or the name alone, are read as `sim --sample`.
 ///
 /// Fails with an error of `clap`, whose `Display` is the text for the user, where the words are of another form,
 /// where they ask for help, and where memory runs out.
@@ -48,17 +48,37 @@ fn job_with(name: &str, options: &ArgMatches<'_>) -> Job
             trace: channel_of(options),
         },
         "run" => Job::Run { sample },
-        "check" => Job::Check { sample },
+        "check" => check_job(options, sample),
         "map" => Job::Map { sample },
         "lint" => Job::Lint { sample },
         _ => unreachable!(),
     }
 }
 
+/// The job of the subcommand `check` with these options.
+fn check_job(options: &ArgMatches<'_>, sample: bool) -> Job
+    requires { AreTaken (rows_of (found_of options.now)) }
+    ensures { result ≡ check_job (rows_of (found_of options.now)) sample }
+{
+    if is_explained(options) {
+        Job::Explain { sample }
+    } else {
+        Job::Check { sample }
+    }
+}
+
+/// Whether the flag `--explain` was used.
+fn is_explained(options: &ArgMatches<'_>) -> bool
+    requires { AreTaken (rows_of (found_of options.now)) }
+    ensures { result ≡ is_used (codes "explain") (rows_of (found_of options.now)) }
+{
+    options.get_flag("explain")
+}
+
 /// Whether the flag `--sample` was used.
 fn is_sample(options: &ArgMatches<'_>) -> bool
     requires { AreTaken (rows_of (found_of options.now)) }
-    ensures { result ≡ is_sample (rows_of (found_of options.now)) }
+    ensures { result ≡ is_used (codes "sample") (rows_of (found_of options.now)) }
 {
     options.get_flag("sample")
 }
@@ -84,13 +104,7 @@ fn command<'a>(alloc: Global) -> Result<Command<'a>, AllocError>
         "Runs a script with a thread for each port and each channel",
         help::RUN,
     )?;
-    let check = with_one(
-        alloc,
-        run,
-        "check",
-        "Checks a trace of commands",
-        help::CHECK,
-    )?;
+    let check = with_check(alloc, run)?;
     let map = with_one(alloc, check, "map", "Says where addresses lie", help::MAP)?;
     with_one(
         alloc,
@@ -127,6 +141,17 @@ fn with_sim<'a>(alloc: Global, command: Command<'a>) -> Result<Command<'a>, Allo
     command.subcommand(sim.arg(trace_option(alloc))?)
 }
 
+/// The command with the subcommand that checks a trace, which has the flag `--explain` too.
+fn with_check<'a>(alloc: Global, command: Command<'a>) -> Result<Command<'a>, AllocError>
+    requires local { (settings_of command).has_globals ≡ false }
+    ensures app { IfOk result (λ all. app_of all ≡ with_subcommand (app_of command.entry) check_app.top) }
+    ensures local { IfOk result (λ all. (settings_of all).has_globals ≡ false) }
+{
+    let check = subcommand(alloc, "check", "Checks a trace of commands", help::CHECK)?;
+    let about = "Says what the first fault rests on, in a sentence behind the verdict";
+    command.subcommand(check.arg(flag(alloc, "explain", about))?)
+}
+
 /// The command with one more subcommand.
 fn with_one<'a>(
     alloc: Global,
@@ -140,6 +165,17 @@ fn with_one<'a>(
     ensures local { IfOk result (λ all. (settings_of all).has_globals ≡ false) }
 {
     command.subcommand(subcommand(alloc, name, about, after_help)?)
+}
+
+/// A flag of this name.
+fn flag<'a>(alloc: Global, name: &'a str, about: &'a str) -> Arg<'a>
+    ensures rule { rule_of result ≡ flag_rule name.entry.now }
+    ensures local { result.global ≡ false }
+{
+    Arg::new(alloc, name)
+        .long(name)
+        .action(ArgAction::SetTrue)
+        .help(about)
 }
 
 /// The option `--trace C`.

@@ -13,5 +13,5 @@ returns c =
     let found = found_of c.args.options.now in
     let rows = one_text-rows found (codes "sample") in
     let read = c.get_flag.ensures in
-    flag_read (one_text found (codes "sample")) c.get_flag.result read.none read.value read.other (subst (λ o. IfSome o (IsTaken (filled sample_rule))) (sym rows) c.requires.sample)
+    flag_read (codes "sample") (one_text found (codes "sample")) c.get_flag.result read.none read.value read.other (subst (λ o. IfSome o (IsTaken (filled sample_rule))) (sym rows) c.requires.sample)
     ∙ ap (λ o. option_map_or (λ text. bytes_eq text (codes "true")) o false) rows
