@@ -1,0 +1,5 @@
+pub mod CountLemmas
+pub mod PlaceLemmas
+pub mod StandLemmas
+pub mod SumLemmas
+pub mod TextLemmas

@@ -1,0 +1,9 @@
+pub mod Counts
+pub mod Noted
+pub mod Stands
+pub mod Sums
+pub mod Tally
+pub mod Text
+pub mod Turns
+pub mod View
+pub mod Visits

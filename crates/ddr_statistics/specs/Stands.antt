@@ -1,0 +1,38 @@
+-- What statistics stand for: a history, whose numbers they are.
+use Rattle.std.specs.Prelude.{◌≡◌, ℕ, ◌<◌, List, length, slice_index_or}
+use Rattle.ddr_timing.specs.declared.units.TheConstants.{GROUP_BANKS, MOST_GROUPS}
+use Rattle.ddr_trace.specs.declared.command.Entry.{Entry}
+use Rattle.ddr_statistics.specs.declared.bank.Bank.{Bank}
+use Rattle.ddr_statistics.specs.declared.rank.Rank.{Rank}
+use Rattle.ddr_statistics.specs.declared.rank.TheConstants.{MOST_BANKS}
+use Rattle.ddr_statistics.specs.declared.statistics.TheConstants.{MOST_RANKS}
+use Rattle.ddr_statistics.specs.declared.turns.Turns.{Turns}
+use Rattle.ddr_statistics.specs.Counts.{counts_of, is_any, is_of_one, is_of_rank}
+use Rattle.ddr_statistics.specs.Noted.{bank_at, new_rank}
+use Rattle.ddr_statistics.specs.Tally.{Tally}
+use Rattle.ddr_statistics.specs.Turns.{last_column, rank_switches, turn_rounds}
+use Rattle.ddr_statistics.specs.Visits.{visit_behind}
+
+abbrev pub rank_at : Tally → ℕ → Rank
+rank_at tally rank = slice_index_or tally.ranks rank new_rank
+
+-- a bank after a history
+abbrev pub bank_of_history : ℕ → ℕ → ℕ → List Entry → Bank
+bank_of_history rank group bank history = record {
+  visit = visit_behind rank group bank history;
+  counts = counts_of (is_of_one rank group bank) history;
+}
+
+pub record KeepsRank (rank : ℕ) (history : List Entry) (kept : Rank) : Type 0 where
+  pub counts : kept.counts ≡ counts_of (is_of_rank rank) history
+  pub size : length kept.banks ≡ MOST_BANKS
+  pub banks : (group bank : ℕ) → group < MOST_GROUPS → bank < GROUP_BANKS → bank_at kept group bank ≡ bank_of_history rank group bank history
+
+abbrev pub turns_of : List Entry → Turns
+turns_of history = record { last = last_column history; turn_rounds = turn_rounds history; rank_switches = rank_switches history }
+
+pub record StandsFor (tally : Tally) (history : List Entry) : Type 0 where
+  pub total : tally.total ≡ counts_of is_any history
+  pub size : length tally.ranks ≡ MOST_RANKS
+  pub ranks : (rank : ℕ) → rank < MOST_RANKS → KeepsRank rank history (rank_at tally rank)
+  pub turns : tally.turns ≡ turns_of history

@@ -1,0 +1,138 @@
+//! The statistics of a trace, whose commands come one by one.
+//!
+//! `rank` and `turns` stand below, and `text` above.
+ghost use Rattle.std.specs.Prelude.{◌≡◌, ◌+◌, ◌-◌, ◌<◌, ◌∷◌, ◌++◌, [], length, List, IsTrue};
+ghost use Rattle.ddr_timing.specs.declared.units.TheConstants.{CLOCK_STOP, GROUP_BANKS};
+ghost use Rattle.ddr_trace.specs.declared.command.Entry.{Entry};
+ghost use Rattle.ddr_trace.specs.Rules.{is_in};
+ghost use Rattle.ddr_statistics.specs.Counts.{counts_of, is_any, is_of_one, is_of_rank};
+ghost use Rattle.ddr_statistics.specs.Noted.{bank_at};
+ghost use Rattle.ddr_statistics.specs.Stands.{StandsFor, rank_at};
+ghost use Rattle.ddr_statistics.specs.Turns.{rank_switches, turn_rounds};
+
+use crate::counts::Counts;
+use crate::rank::Rank;
+use crate::turns::Turns;
+use ddr_timing::bank::BankId;
+use ddr_timing::config::Config;
+use ddr_timing::geometry::Geometry;
+use ddr_trace::command::Entry;
+use std::marker::Model;
+
+/// The most ranks of a channel.
+pub const MOST_RANKS: usize = 2;
+
+/// The statistics of a trace. Contracts speak of every history that it stands for: the commands that were noted, in order.
+///
+/// A history has fewer than 2^62 commands, as a trace has cycles; behind that a number may stop at the last one that it
+/// can hold.
+#[derive(Drop)]
+pub struct Statistics {
+    geometry: Geometry,
+    start: u64,
+    total: Counts,
+    ranks: [Rank; MOST_RANKS],
+    turns: Turns,
+}
+
+impl Model for Statistics {
+    ghost use Rattle.ddr_statistics.specs.Tally.{Tally};
+
+    ghost Value = { Tally };
+
+    ghost use Rattle.ddr_statistics.specs.View.{tally_of};
+
+    ghost view = { tally_of };
+}
+
+impl Statistics {
+    /// Before the first command of a trace that begins in this cycle.
+    pub fn open(config: &Config, start: u64) -> Statistics
+        ensures geometry { result.geometry ≡ config.now.geometry }
+        ensures start { result.start ≡ start }
+        ensures stands { StandsFor result [] }
+    {
+        Statistics {
+            geometry: config.geometry,
+            start,
+            total: Counts::NONE,
+            ranks: [Rank::NEW; MOST_RANKS],
+            turns: Turns::NONE,
+        }
+    }
+
+    /// Counts the next command of the trace.
+    pub fn note(&mut self, entry: &Entry)
+        requires { IsTrue (is_in self.old.geometry entry.now.command) }
+        ensures geometry { self.new.geometry ≡ self.old.geometry }
+        ensures start { self.new.start ≡ self.old.start }
+        ensures stands { (history : List Entry) → StandsFor self.old history → length history + 1 < CLOCK_STOP
+            → StandsFor self.new (history ++ entry.now ∷ []) }
+    {
+        let command = &entry.command;
+        let rank = command.rank() as usize;
+        let found = self.ranks[rank].finding(command);
+        self.total.note(command, found);
+        self.ranks[rank].note(command, found);
+        self.turns.note(command);
+    }
+
+    /// The numbers of the whole channel.
+    pub fn total(&self) -> Counts
+        ensures kept { result ≡ self.now.total }
+        ensures counted { (history : List Entry) → StandsFor self.entry.now history → result ≡ counts_of is_any history }
+    {
+        self.total
+    }
+
+    /// The numbers of a rank.
+    pub fn rank(&self, rank: u32) -> Counts
+        requires { rank < self.now.geometry.ranks }
+        ensures kept { result ≡ (rank_at self.now rank).counts }
+        ensures counted { (history : List Entry) → StandsFor self.entry.now history → result ≡ counts_of (is_of_rank rank) history }
+    {
+        self.ranks[rank as usize].counts
+    }
+
+    /// The numbers of a bank: of the commands that are of this bank alone.
+    pub fn bank(&self, id: &BankId) -> Counts
+        requires rank_in { id.now.rank < self.now.geometry.ranks }
+        requires group_in { id.now.group < self.now.geometry.groups }
+        requires bank_in { id.now.bank < GROUP_BANKS }
+        ensures kept { result ≡ (bank_at (rank_at self.now id.now.rank) id.now.group id.now.bank).counts }
+        ensures counted { (history : List Entry) → StandsFor self.entry.now history
+            → result ≡ counts_of (is_of_one id.now.rank id.now.group id.now.bank) history }
+    {
+        self.ranks[id.rank as usize].bank(id.group, id.bank).counts
+    }
+
+    /// How often the data bus turned round: reads behind a write and writes behind a read, of whatever ranks.
+    pub fn turn_rounds(&self) -> u64
+        ensures kept { result ≡ self.now.turns.turn_rounds }
+        ensures counted { (history : List Entry) → StandsFor self.entry.now history → result ≡ turn_rounds history }
+    {
+        self.turns.turn_rounds
+    }
+
+    /// How often the data bus went to another rank.
+    pub fn rank_switches(&self) -> u64
+        ensures kept { result ≡ self.now.turns.rank_switches }
+        ensures counted { (history : List Entry) → StandsFor self.entry.now history → result ≡ rank_switches history }
+    {
+        self.turns.rank_switches
+    }
+
+    /// The cycles of the trace, where it ends before this one; 0 where that is before its start.
+    pub fn cycles(&self, end: u64) -> u64
+        ensures { result ≡ end - self.now.start }
+    {
+        end.saturating_sub(self.start)
+    }
+
+    /// The shape of the channel.
+    pub fn geometry(&self) -> &Geometry
+        ensures { result.now ≡ self.now.geometry }
+    {
+        &self.geometry
+    }
+}

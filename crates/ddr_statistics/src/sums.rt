@@ -1,0 +1,14 @@
+//! That the numbers of places add up.
+ghost use Rattle.std.specs.Prelude.{ℕ, List};
+ghost use Rattle.ddr_timing.specs.declared.geometry.Geometry.{Geometry};
+ghost use Rattle.ddr_trace.specs.declared.command.Entry.{Entry};
+ghost use Rattle.ddr_statistics.specs.Sums.{ArePlaced, BanksAddUp, RanksAddUp};
+
+/// Of every trace whose commands lie in the geometry, the numbers of the ranks add up, each for itself, to those of the
+/// channel; and those of a rank's banks to those of the rank's commands but for PREA and REF, which are of no bank alone.
+///
+/// A law: it does nothing.
+pub fn places_add_up()
+    ensures ranks { (g : Geometry) (history : List Entry) → ArePlaced g history → RanksAddUp g history }
+    ensures banks { (g : Geometry) (history : List Entry) (rank : ℕ) → ArePlaced g history → BanksAddUp g history rank }
+{}
