@@ -1,7 +1,7 @@
 //! The bounds in cycles that `ddr_bounds` proves of a channel, looked at in each cycle of runs by chance.
 //!
 //! The configurations are by chance too: the refresh interval is the least one that is accepted, or little more. What is
-//! expected is counted here from the commands of the trace alone.
+//! expected is counted here from the commands of the trace alone. `streams` has one run that is worked out by hand.
 ghost use Rattle.std.specs.Prelude.{◌≡◌, ◌<◌, IfOk};
 ghost use Rattle.ddr_channel.specs.Sound.{IsServed};
 
@@ -14,6 +14,8 @@ use ddr_trace::command::Command;
 use std::alloc::Global;
 use std::process::Abort;
 use std::test::Fail;
+
+mod streams;
 
 /// The first cycle of a run.
 const START: u64 = 77;
