@@ -73,7 +73,7 @@ ticks_below a whole clock = subst (All (λ (r : Refreshes). r.ticks < CLOCK_STOP
 -- admission
 
 abbrev pub fields_admitted : Inside → PendingList → ℕ → Inside
-fields_admitted a p now = record a { pending = p; quiet_until = now }
+fields_admitted a p now = record a { pending = p; still_until = now }
 
 whole_with : (a : Inside) (r : Request) (now : ℕ) → IsWhole a → IsServed a.config r.place → now ≡ a.legality.bus.now → IsWhole (fields_admitted a (pending.after_admit r a.legality.bus.now a.pending) now)
 whole_with a r now whole served clock = record {
@@ -86,7 +86,7 @@ whole_with a r now whole served clock = record {
   flight_room = whole.flight_room;
   done_room = whole.done_room;
   agrees = whole.agrees;
-  quiet = awake now a.legality.bus.now (after_admit r (state_of (kept_of a))) (omega (arith, clock));
+  still = awake now (after_admit r (state_of (kept_of a))) (omega (arith, clock));
 }
 
 pub whole_admitted : (a : Inside) (p : PendingList) (r : Request) (now : ℕ) → IsWhole a → IsServed a.config r.place → now ≡ a.legality.bus.now → p ≡ pending.after_admit r now a.pending → IsWhole (fields_admitted a p now)
@@ -131,14 +131,14 @@ fields_open config first spare rows = record {
   done = buffer [] config.limits.done;
   legality = record { bus = bus.opened config first; spare = spare };
   rows = rows;
-  quiet_until = 0;
+  still_until = 0;
 }
 
 pub fields_are_open : (config : Config) (first : ℕ) (p : PendingList) (debts : List Refreshes) (flight done : Buffer Completion) (l : legality.Kept) (rows : Rows) →
     p ≡ pending.opened config.limits.reads config.limits.writes → debts ≡ refreshes.opened config.timing ∷ refreshes.opened config.timing ∷ [] → flight ≡ buffer [] config.limits.done → done ≡ buffer [] config.limits.done → l.bus ≡ bus.opened config first →
-    record { config = config; pending = p; drain = false; debts = debts; flight = flight; done = done; legality = l; rows = rows; quiet_until = 0 } ≡ fields_open config first l.spare rows
+    record { config = config; pending = p; drain = false; debts = debts; flight = flight; done = done; legality = l; rows = rows; still_until = 0 } ≡ fields_open config first l.spare rows
 fields_are_open config first p debts flight done l rows p_is debts_are flight_is done_is bus_are =
-    λ i. record { config = config; pending = p_is i; drain = false; debts = debts_are i; flight = flight_is i; done = done_is i; legality = record { bus = bus_are i; spare = l.spare }; rows = rows; quiet_until = 0 }
+    λ i. record { config = config; pending = p_is i; drain = false; debts = debts_are i; flight = flight_is i; done = done_is i; legality = record { bus = bus_are i; spare = l.spare }; rows = rows; still_until = 0 }
 
 pub state_open : (config : Config) (first spare : ℕ) (rows : Rows) → IsFresh config rows → state_of (kept_of (fields_open config first spare rows)) ≡ opened config first
 state_open config first spare rows fresh =
@@ -173,5 +173,5 @@ whole_open config first spare rows clock fresh =
         lines = fresh.lines;
         opened = λ rank group bank r g b. fresh.idle (bank_number config.geometry rank group bank) ∙ sym (no_command rank group bank);
       };
-      quiet = awake 0 first (state_of (kept_of (fields_open config first spare rows))) (omega arith);
+      still = awake 0 (state_of (kept_of (fields_open config first spare rows))) (omega arith);
     }

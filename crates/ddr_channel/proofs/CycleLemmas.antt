@@ -43,7 +43,7 @@ use Rattle.ddr_channel.specs.Cycle.{at_choice, with_command, recorded, served_by
 use Rattle.ddr_channel.specs.Issue.{bus_with, refreshes_with}
 use Rattle.ddr_channel.specs.Kept.{state_of, line_cells, AgreesWith}
 use Rattle.ddr_channel.specs.Memory.{LineAddress}
-use Rattle.ddr_channel.specs.Quiet.{IsQuiet}
+use Rattle.ddr_channel.specs.Quiet.{IsStillUntil}
 use Rattle.ddr_channel.specs.Served.{IsOpenAt, MayServe, Holds}
 use Rattle.ddr_channel.specs.Sound.{IsServed, IsSound}
 use Rattle.ddr_channel.specs.State.{State}
@@ -178,9 +178,9 @@ may_by_law config s rows (choice.Pre place) law agrees served = tt
 pub chosen_served : (a : Inside) (ch : Choice) (rows : Rows) → IsWhole a → ch ≡ choice_of (choosing a) → AgreesWith a.config a.legality.bus.trace rows → MayServe a.config.geometry ch a.pending.waiting rows
 chosen_served a ch rows whole is agrees = may_by_law a.config (choosing a) rows ch (lawful_where (situation_of (choosing a)) ch is) agrees whole.sound.served
 
--- no cycle is known to be quiet
-pub awake : (end now : ℕ) (s : State) → end ≤ now → IsQuiet (end - now) s
-awake end now s past = let none : 0 ≡ end - now = omega arith in subst (λ n. IsQuiet n s) none tt
+-- of no cycle it is known that nothing is chosen
+pub awake : (end : ℕ) (s : State) → end ≤ s.now → IsStillUntil end s
+awake end s past count before = absurd (omega (arith, past, before))
 
 -- the state after a cycle
 
@@ -190,7 +190,7 @@ same_state config start now pending drain flight done trace cells =
 
 -- the fields that a cycle leaves
 abbrev pub after : Inside → PendingList → Bool → List Refreshes → Buffer Completion → Buffer Completion → legality.Kept → Rows → Inside
-after a pending drain debts flight done legality rows = record { config = a.config; pending = pending; drain = drain; debts = debts; flight = flight; done = done; legality = legality; rows = rows; quiet_until = 0 }
+after a pending drain debts flight done legality rows = record { config = a.config; pending = pending; drain = drain; debts = debts; flight = flight; done = done; legality = legality; rows = rows; still_until = 0 }
 
 -- the same bytes in the rows are the same in their lines
 pub same_cells : (shape : Geometry) (old new : Rows) → ((b r l : ℕ) → cells new b r l ≡ cells old b r l) → (address : LineAddress) → line_cells shape new address ≡ line_cells shape old address
@@ -297,7 +297,7 @@ whole_after a ch o pending drain debts flight done legality rows whole made cloc
   flight_room = flight_room ∙ whole.flight_room;
   done_room = done_room ∙ whole.done_room;
   agrees = agrees;
-  quiet = awake 0 legality.bus.now (state_of (kept_of (after a pending drain debts flight done legality rows))) (omega arith);
+  still = awake 0 (state_of (kept_of (after a pending drain debts flight done legality rows))) (omega arith);
 }
 
 -- at a refusal all stays as it was
@@ -318,6 +318,5 @@ whole_refused a legality rows whole same bytes shape opened = record {
   flight_room = whole.flight_room;
   done_room = whole.done_room;
   agrees = subst (λ (x : Bus). AgreesWith a.config x.trace rows) (sym same) (agrees_ready a.config a.legality.bus.trace a.rows rows whole.agrees shape opened);
-  quiet = subst (λ n. IsQuiet (a.quiet_until - n) (state_of (kept_of (record a { legality = legality; rows = rows })))) (ap (λ (x : Bus). x.now) (sym same))
-      (subst (λ (s : State). IsQuiet (a.quiet_until - a.legality.bus.now) s) (sym (state_refused a legality rows same bytes)) whole.quiet);
+  still = subst (IsStillUntil a.still_until) (sym (state_refused a legality rows same bytes)) whole.still;
 }

@@ -99,30 +99,9 @@ cycles_clock (suc count) s quiet clock =
     let rest = cycles_clock count (idled s) (subst (IsQuiet count) (cycle_idle s idle) quiet.1) (omega (arith, idle.clock)) in
     omega (arith, rest)
 
-cycles_sound : (count : ℕ) (s : State) → IsSound s → IsSound (after_cycles count s)
+pub cycles_sound : (count : ℕ) (s : State) → IsSound s → IsSound (after_cycles count s)
 cycles_sound zero s sound = sound
 cycles_sound (suc count) s sound = cycles_sound count (after_cycle s) (IsSound-after_cycle s sound)
-
--- what is left of a quiet time after some of its cycles
-quiet_rest : (count n : ℕ) (s : State) → IsQuiet n s → IsQuiet (n - count) (after_cycles count s)
-quiet_rest zero n s quiet = let same : n ≡ n - 0 = omega arith in subst (λ m. IsQuiet m s) same quiet
-quiet_rest (suc count) zero s quiet = let none : 0 ≡ 0 - suc count = omega arith in subst (λ m. IsQuiet m (after_cycles count (after_cycle s))) none tt
-quiet_rest (suc count) (suc n) s quiet =
-    let same : n - count ≡ suc n - suc count = omega arith in
-    subst (λ m. IsQuiet m (after_cycles count (after_cycle s))) same (quiet_rest count n (after_cycle s) quiet.1)
-
--- the first cycle of a quiet time
-pub idle_next : (n : ℕ) (s : State) → IsQuiet n s → (n ≡ 0 → ⊥) → IsIdleNext s
-idle_next zero s quiet some = absurd (some refl)
-idle_next (suc n) s quiet some = quiet.0
-
--- before the cycle that is kept the next one is quiet
-pub idle_now : (a : Inside) (now : ℕ) → IsWhole a → now ≡ a.legality.bus.now → now < a.quiet_until → IsIdleNext (state_of (kept_of a))
-idle_now a now whole is before = idle_next (a.quiet_until - a.legality.bus.now) (state_of (kept_of a)) whole.quiet (λ none. omega (arith, none, before, is))
-
--- a quiet cycle issues nothing
-pub idle_issued : (s : State) → IsIdleNext s → None ≡ issued_in s
-idle_issued s idle = sym (ap (issued_by (at_choice s)) idle.issues)
 
 -- the calls
 
@@ -149,7 +128,7 @@ stands_passed (suc count) old new calls stands quiet is =
 abbrev pub fields_passed : Inside → Bool → List Refreshes → legality.Kept → Inside
 fields_passed a drain debts legality = record a { drain = drain; debts = debts; legality = legality }
 
-state_idled : (a : Inside) (count : ℕ) (drain : Bool) (debts : List Refreshes) (legality : legality.Kept) → drain ≡ drain_after count (state_of (kept_of a)) → legality.bus ≡ bus.passed count a.legality.bus →
+pub state_idled : (a : Inside) (count : ℕ) (drain : Bool) (debts : List Refreshes) (legality : legality.Kept) → drain ≡ drain_after count (state_of (kept_of a)) → legality.bus ≡ bus.passed count a.legality.bus →
     state_of (kept_of (fields_passed a drain debts legality)) ≡ idled_for count (state_of (kept_of a))
 state_idled a count drain debts legality drain_is on_bus =
     let s = state_of (kept_of a) in
@@ -160,30 +139,10 @@ pub state_passed : (a : Inside) (count : ℕ) (drain : Bool) (debts : List Refre
 state_passed a count drain debts legality quiet drain_is on_bus =
     state_idled a count drain debts legality drain_is on_bus ∙ sym (cycles_idle count (state_of (kept_of a)) quiet)
 
-debts_passed : (count : ℕ) (s : State) → s.start ≤ s.now → map (after_ticks count) (refreshes_of s 2) ≡ refreshes_of (idled_for count s) 2
+pub debts_passed : (count : ℕ) (s : State) → s.start ≤ s.now → map (after_ticks count) (refreshes_of s 2) ≡ refreshes_of (idled_for count s) 2
 debts_passed count s begun =
     let later : (s.now - s.start) + count ≡ (s.now + count) - s.start = omega (arith, begun) in
     ap (λ n. record (rank_refreshes s 0) { ticks = n } ∷ record (rank_refreshes s 1) { ticks = n } ∷ []) later
-
-pub whole_passed : (a : Inside) (count : ℕ) (drain : Bool) (debts : List Refreshes) (legality : legality.Kept) → IsWhole a → IsQuiet count (state_of (kept_of a)) → drain ≡ drain_after count (state_of (kept_of a)) →
-    debts ≡ map (after_ticks count) a.debts → legality.bus ≡ bus.passed count a.legality.bus → IsWhole (fields_passed a drain debts legality)
-whole_passed a count drain debts legality whole quiet drain_is debts_are on_bus =
-    let s = state_of (kept_of a) in
-    let idled = state_idled a count drain debts legality drain_is on_bus in
-    record {
-      sound = subst IsSound (sym (state_passed a count drain debts legality quiet drain_is on_bus)) (cycles_sound count s whole.sound);
-      of_config = ap (λ (b : Bus). b.config) on_bus ∙ whole.of_config;
-      clock = omega (arith, cycles_clock count s quiet whole.clock, ap (λ (b : Bus). b.now) on_bus);
-      reads = whole.reads;
-      writes = whole.writes;
-      debts = debts_are ∙ ap (map (after_ticks count)) whole.debts ∙ debts_passed count s whole.sound.begun ∙ sym (ap (λ (t : State). refreshes_of t 2) idled);
-      flight_room = whole.flight_room;
-      done_room = whole.done_room;
-      agrees = subst (λ (b : Bus). AgreesWith a.config b.trace a.rows) (sym on_bus) whole.agrees;
-      quiet = (let left : (a.quiet_until - s.now) - count ≡ a.quiet_until - legality.bus.now = omega (arith, ap (λ (b : Bus). b.now) on_bus) in
-          subst (λ n. IsQuiet n (state_of (kept_of (fields_passed a drain debts legality)))) left
-          (subst (IsQuiet ((a.quiet_until - s.now) - count)) (sym (state_passed a count drain debts legality quiet drain_is on_bus)) (quiet_rest count (a.quiet_until - s.now) s whole.quiet)));
-    }
 
 -- no debt has counted so many cycles that these are too many
 pub ticks_left : (a : Inside) (count : ℕ) → IsWhole a → IsQuiet count (state_of (kept_of a)) → All (λ (r : Refreshes). r.ticks + count ≤ CLOCK_STOP) a.debts

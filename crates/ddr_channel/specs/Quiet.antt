@@ -1,8 +1,9 @@
--- Cycles in which a channel completes nothing and issues nothing.
+-- Cycles in which a channel completes nothing and issues nothing, and those in which nothing is chosen.
 use Rattle.std.specs.Prelude.{◌≡◌, ℕ, zero, suc, Bool, ◌<◌, ◌==◌, [], filter}
 use Rattle.ddr_timing.specs.declared.units.TheConstants.{CLOCK_STOP}
 use Rattle.ddr_arbiter.specs.declared.choice.Choice.TheVariants as choice
-use Rattle.ddr_channel.specs.Choice.{choice_of}
+use Rattle.ddr_arbiter.specs.Quiet.{IsQuietUntil}
+use Rattle.ddr_channel.specs.Choice.{choice_of, situation_of}
 use Rattle.ddr_channel.specs.Cycle.{after_cycle, at_choice, drained}
 use Rattle.ddr_channel.specs.State.{State}
 
@@ -26,3 +27,7 @@ IsQuiet (suc count) s = IsIdleNext s × IsQuiet count (after_cycle s)
 abbrev pub drain_after : ℕ → State → Bool
 drain_after zero s = s.drain
 drain_after (suc count) s = (drained s).drain
+
+-- in each cycle from now on that is before this one nothing is chosen, whatever completes in them
+abbrev pub IsStillUntil : ℕ → State → Type 0
+IsStillUntil end s = IsQuietUntil end (situation_of (at_choice s))

@@ -1,11 +1,11 @@
 -- What a channel's fields stand for.
-use Rattle.std.specs.Prelude.{◌≡◌, ◌-◌, ◌≤◌}
+use Rattle.std.specs.Prelude.{◌≡◌, ◌≤◌}
 use Rattle.ddr_timing.specs.declared.units.TheConstants.{CLOCK_STOP}
 use Rattle.ddr_hazards.specs.declared.pending.TheConstants.{RANKS}
 use Rattle.ddr_channel.specs.declared.channel.Channel.TheInside.{Inside}
 use Rattle.ddr_channel.specs.Choice.{refreshes_of}
 use Rattle.ddr_channel.specs.Kept.{Kept, state_of, AgreesWith}
-use Rattle.ddr_channel.specs.Quiet.{IsQuiet}
+use Rattle.ddr_channel.specs.Quiet.{IsStillUntil}
 use Rattle.ddr_channel.specs.Sound.{IsSound}
 
 abbrev pub kept_of : Inside → Kept
@@ -34,5 +34,5 @@ pub record IsWhole (a : Inside) : Type 0 where
   pub flight_room : a.flight.capacity ≡ a.config.limits.done
   pub done_room : a.done.capacity ≡ a.config.limits.done
   pub agrees : AgreesWith a.config a.legality.bus.trace a.rows
-  -- up to the cycle that is kept each is quiet
-  pub quiet : IsQuiet (a.quiet_until - a.legality.bus.now) (state_of (kept_of a))
+  -- before the cycle that is kept nothing is chosen
+  pub still : IsStillUntil a.still_until (state_of (kept_of a))

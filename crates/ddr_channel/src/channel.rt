@@ -1,5 +1,5 @@
 //! One channel: its pending requests, its rows, its trace, and the cycles that it makes.
-ghost use Rattle.std.specs.Prelude.{◌≡◌, ℕ, false, ◌+◌, ◌-◌, ◌<◌, ◌≤◌, ◌↔◌, List, [], ◌∷◌, ◌++◌, map, replicate, IfSome, IsTrue, IsErr, IsOk, IfOk, IfErr, OnOk, OnErr, IsErrOf, option_copied, slice_get};
+ghost use Rattle.std.specs.Prelude.{◌≡◌, ℕ, false, if◌then◌else◌, ◌+◌, ◌-◌, ◌<◌, ◌≤◌, ◌↔◌, List, [], ◌∷◌, ◌++◌, map, replicate, IfSome, IsTrue, IsErr, IsOk, IfOk, IfErr, OnOk, OnErr, IsErrOf, option_copied, slice_get};
 ghost use Rattle.ddr_arbiter.specs.declared.choice.Choice.TheVariants as choice;
 ghost use Rattle.ddr_arbiter.specs.Quiet.{IsQuietUntil};
 ghost use Rattle.ddr_channel.specs.declared.channel.CycleError.TheVariants.{ClockSpent, OutOfMemory};
@@ -15,7 +15,7 @@ ghost use Rattle.ddr_channel.specs.Cycle.{at_choice, drained, after_cycle};
 ghost use Rattle.ddr_channel.specs.History.{Call, Admit, Cycle, Pop, run};
 ghost use Rattle.ddr_channel.specs.Kept.{AgreesWith, state_of};
 ghost use Rattle.ddr_channel.specs.Promise.{StandsFor, IsNextAnswer};
-ghost use Rattle.ddr_channel.specs.Quiet.{IsIdleNext, IsQuiet, after_cycles, drain_after};
+ghost use Rattle.ddr_channel.specs.Quiet.{IsQuiet, IsStillUntil, after_cycles, drain_after};
 ghost use Rattle.ddr_channel.specs.Refresh.{KeepsRefreshes};
 ghost use Rattle.ddr_channel.specs.Room.{KeepsRoom, wants_memory};
 ghost use Rattle.ddr_channel.specs.Sound.{IsServed};
@@ -66,8 +66,9 @@ pub struct Channel {
     done: HeapCircularBuffer<Done>,
     legality: Legality,
     rows: RowArray,
-    // The cycles from the next one on that lie before this one are known to be quiet, unless a call comes between.
-    quiet_until: u64,
+    // In each cycle from the next one on that lies before this one nothing is chosen, as long as nothing is admitted and no
+    // completion is taken where there was no room.
+    still_until: u64,
 }
 
 impl Model for Channel {
@@ -101,7 +102,7 @@ impl Channel {
             done: HeapCircularBuffer::with_capacity(alloc, limits.done as usize)?,
             legality: Legality::open(alloc, config, first_cycle)?,
             rows: RowArray::open(alloc, config)?,
-            quiet_until: 0,
+            still_until: 0,
         })
     }
 
@@ -117,7 +118,7 @@ impl Channel {
     {
         let now = self.legality.now();
         self.pending.admit(request, now)?;
-        self.quiet_until = now;
+        self.still_until = now;
         Ok(())
     }
 
@@ -170,10 +171,9 @@ impl Channel {
         )
     }
 
-    /// A cycle before which each one from the next on is quiet: it comes no later than the first choice, the first
-    /// completion and the end of the clock.
+    /// A cycle before which nothing is chosen, in each cycle from the next one on.
     fn sleep_until(&self) -> u64
-        ensures { IsQuiet (result - self.entry.now.now) (state_of self.entry.now) }
+        ensures { IsStillUntil result (state_of self.entry.now) }
     {
         let now = self.legality.now();
         if now == CLOCK_STOP {
@@ -182,18 +182,14 @@ impl Channel {
         let mut debts = self.debts;
         tick(&mut debts);
         let drain = self.next_drain();
-        let chosen = self.choice_until(&debts, drain).min(CLOCK_STOP);
-        match self.flight.front() {
-            Some(first) => chosen.min(first.due),
-            None => chosen,
-        }
+        self.choice_until(&debts, drain)
     }
 
-    /// Looks how long the channel is quiet from the next cycle on.
+    /// Looks up to which cycle nothing is chosen.
     fn sleep(&mut self)
         ensures { self.new ≡ self.old }
     {
-        self.quiet_until = self.sleep_until();
+        self.still_until = self.sleep_until();
     }
 
     /// Makes the cycle `now`: what is due completes, the refresh debts and the drain mode go on, and the command that
@@ -240,12 +236,12 @@ impl Channel {
             → WasAdmitted self.old.config self.old.start calls v))) }
     {
         let now = self.legality.now();
-        if now < self.quiet_until {
-            self.quiet_cycle();
-            return Ok(None);
-        }
         if now == CLOCK_STOP {
             return Err(CycleError::ClockSpent);
+        }
+        if now < self.still_until {
+            self.still_cycle();
+            return Ok(None);
         }
         match self.make_cycle() {
             Ok(issued) => {
@@ -256,16 +252,21 @@ impl Channel {
         }
     }
 
-    /// Makes a quiet cycle.
-    fn quiet_cycle(&mut self)
-        requires { IsIdleNext (state_of self.old) }
+    /// Makes a cycle in which nothing is chosen: what is due completes, and the refresh debts, the drain mode and the clock
+    /// go on.
+    fn still_cycle(&mut self)
+        requires clock { self.old.now < CLOCK_STOP }
+        requires chosen { choice_of (at_choice (state_of self.old)) ≡ choice.Nothing }
         ensures state { state_of self.new ≡ after_cycle (state_of self.old) }
         ensures trace { self.new.trace ≡ self.old.trace }
         ensures config { self.new.config ≡ self.old.config }
         ensures room { KeepsRoom self.old self.new }
     {
-        self.drain = self.next_drain();
+        let cycle = self.legality.now();
+        let drained = self.next_drain();
+        complete(&mut self.flight, &mut self.done, cycle);
         tick(&mut self.debts);
+        self.drain = drained;
         self.legality.tick();
     }
 
@@ -301,7 +302,7 @@ impl Channel {
         count(&mut debts, command);
         self.drain = drain;
         self.debts = debts;
-        self.quiet_until = 0;
+        self.still_until = 0;
         self.legality.tick();
         Ok(issued_with(now, command, served))
     }
@@ -311,7 +312,12 @@ impl Channel {
     pub fn quiet(&self) -> u64
         ensures { IsQuiet result (state_of self.entry.now) }
     {
-        self.quiet_until.saturating_sub(self.legality.now())
+        let now = self.legality.now();
+        let still = self.still_until.min(CLOCK_STOP);
+        match self.flight.front() {
+            Some(first) => still.min(first.due).saturating_sub(now),
+            None => still.saturating_sub(now),
+        }
     }
 
     /// Makes so many quiet cycles at once.
@@ -359,8 +365,9 @@ impl Channel {
         ensures config { self.new.config ≡ self.old.config }
         ensures stands { (calls : List Call) → StandsFor self.old calls → StandsFor self.new (calls ++ Pop ∷ []) }
     {
+        let had_room = self.flight.len() + self.done.len() < self.config.limits.done as usize;
         let taken = self.done.pop_front()?;
-        self.quiet_until = 0;
+        self.still_until = still_with(had_room, self.still_until);
         Some(taken)
     }
 
@@ -412,7 +419,7 @@ impl Channel {
             done: _,
             legality,
             rows: _,
-            quiet_until: _,
+            still_until: _,
         } = self;
         let start = legality.start();
         let end = legality.now();
@@ -422,6 +429,14 @@ impl Channel {
             entries: legality.into_entries(),
         }
     }
+}
+
+/// The cycle before which nothing is chosen once a completion was taken, where there was room for one more request before or
+/// was none.
+fn still_with(room: bool, until: u64) -> u64
+    ensures { result ≡ (if room then until else 0) }
+{
+    if room { until } else { 0 }
 }
 
 /// The marks by which the channel's scheduler goes.

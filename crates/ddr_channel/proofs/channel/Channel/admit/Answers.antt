@@ -1,11 +1,16 @@
 -- Admission is one call more, whether the queue is full or not.
 use Rattle.std.proofs.Common.{refl, sym, subst}
 use Rattle.std.proofs.lemmas.Bool.{false≢true}
+use Rattle.ddr_hazards.specs.PendingList.{PendingList}
 use Rattle.ddr_channel.specs.Kept.{Kept}
 use Rattle.ddr_channel.specs.Promise.{StandsFor}
 use Rattle.ddr_channel.specs.Sound.{IsServed}
+use Rattle.ddr_channel.specs.View.{IsWhole}
 use Rattle.ddr_channel.proofs.ChannelLemmas.{whole_admitted, stands_with, stands_without}
 use Rattle.ddr_channel.proofs.channel.Channel.admit.Goals as goal
+
+pub invariant_of-self : goal.invariant_of-self
+invariant_of-self c = subst (λ (p : PendingList). IsWhole (record c.self.inside { pending = p })) (sym c.in_err-admit.ensures.err.1) c.self.invariant
 
 pub invariant_of-self-2 : goal.invariant_of-self-2
 invariant_of-self-2 c =

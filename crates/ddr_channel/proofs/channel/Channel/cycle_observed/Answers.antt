@@ -3,13 +3,16 @@ use Rattle.std.proofs.Common.{◌≡◌, List, Option, IfSome, sym, ap, subst, �
 use Rattle.std.specs.Option.{is_some}
 use Rattle.ddr_trace.specs.Commands.{is_column}
 use Rattle.ddr_channel.specs.declared.issued.Issued.{Issued}
+use Rattle.ddr_arbiter.specs.declared.choice.Choice.TheVariants as choice
+use Rattle.ddr_channel.specs.Choice.{choice_of}
+use Rattle.ddr_channel.specs.Cycle.{at_choice}
 use Rattle.ddr_channel.specs.Kept.{Kept, state_of}
 use Rattle.ddr_channel.specs.History.{Call}
 use Rattle.ddr_channel.specs.Promise.{StandsFor}
-use Rattle.ddr_channel.specs.Quiet.{IsIdleNext}
 use Rattle.ddr_channel.specs.State.{State}
 use Rattle.ddr_channel.specs.Told.{with_issued, IsNewest, ComesAsTold, WasAdmitted}
-use Rattle.ddr_channel.proofs.QuietLemmas.{cycle_idle, idle_issued, idle_now}
+use Rattle.ddr_channel.specs.View.{kept_of}
+use Rattle.ddr_channel.proofs.SleepLemmas.{still_issued, still_made, still_now}
 use Rattle.ddr_channel.proofs.StandsLemmas.{stands_after_cycle}
 use Rattle.ddr_channel.proofs.ToldLemmas.{told_traced, told_columns, told_newest, told_comes, told_admitted}
 use Rattle.ddr_channel.proofs.channel.Channel.cycle_observed.Goals as goal
@@ -44,24 +47,24 @@ returns-in-Ok-clause-admitted c =
     subst (λ (o : Option Issued). IfSome o (λ i. IfSome i.served (λ v. (calls : List Call) → StandsFor c.args.self.now calls → WasAdmitted c.args.self.now.config c.args.self.now.start calls v))) (sym c.in-Ok.ensures.issued)
     (told_admitted c.args.self.now (λ spent. c.if-now-eq-CLOCK_STOP.false (c.now-now.ensures.value ∙ ap (λ (k : Kept). k.now) c.self.view_is ∙ spent)))
 
-pub quiet_cycle-requires : goal.quiet_cycle-requires
-quiet_cycle-requires c = subst (λ (k : Kept). IsIdleNext (state_of k)) c.self.view_is (idle_now c.self.inside c.now-now.result c.self.invariant c.now-now.ensures.value c.if-now-self.true)
-
-pub returns-then-now-self-clause-spent : goal.returns-then-now-self-clause-spent
-returns-then-now-self-clause-spent c =
-    let idle = subst (λ (k : Kept). IsIdleNext (state_of k)) c.self.view_is (idle_now c.self.inside c.now-now.result c.self.invariant c.now-now.ensures.value c.if-now-self.true) in
-    (λ spent. absurd (cc), λ stop. absurd (omega (arith, idle.clock, stop)))
+pub still_cycle-requires-clause-chosen : goal.still_cycle-requires-clause-chosen
+still_cycle-requires-clause-chosen c =
+    subst (λ (k : Kept). choice_of (at_choice (state_of k)) ≡ choice.Nothing) c.self.view_is
+    (still_now c.self.inside.still_until (state_of (kept_of c.self.inside)) c.self.invariant.still (omega (arith, c.if-now-self.true, c.now-now.ensures.value)))
 
 pub returns-then-now-self-clause-clock : goal.returns-then-now-self-clause-clock
 returns-then-now-self-clause-clock c =
-    let idle = subst (λ (k : Kept). IsIdleNext (state_of k)) c.self.view_is (idle_now c.self.inside c.now-now.result c.self.invariant c.now-now.ensures.value c.if-now-self.true) in
-    ap (λ (s : State). s.now) (c.quiet_cycle.ensures.state ∙ cycle_idle (state_of c.args.self.now) idle)
+    let chosen = subst (λ (k : Kept). choice_of (at_choice (state_of k)) ≡ choice.Nothing) c.self.view_is
+    (still_now c.self.inside.still_until (state_of (kept_of c.self.inside)) c.self.invariant.still (omega (arith, c.if-now-self.true, c.now-now.ensures.value))) in
+    ap (λ (s : State). s.now) (c.still_cycle.ensures.state ∙ still_made (state_of c.args.self.now) chosen)
 
 pub returns-then-now-self-clause-stands : goal.returns-then-now-self-clause-stands
 returns-then-now-self-clause-stands c = λ calls stands.
-    let idle = subst (λ (k : Kept). IsIdleNext (state_of k)) c.self.view_is (idle_now c.self.inside c.now-now.result c.self.invariant c.now-now.ensures.value c.if-now-self.true) in
-    stands_after_cycle c.args.self.now c.quiet_cycle.new.self calls stands (λ spent. omega (arith, idle.clock, spent)) c.quiet_cycle.ensures.state
+    stands_after_cycle c.args.self.now c.still_cycle.new.self calls stands
+    (λ spent. c.if-now-eq-CLOCK_STOP.false (c.now-now.ensures.value ∙ ap (λ (k : Kept). k.now) c.self.view_is ∙ spent)) c.still_cycle.ensures.state
 
 pub returns-then-now-self-clause-issued : goal.returns-then-now-self-clause-issued
 returns-then-now-self-clause-issued c =
-    idle_issued (state_of c.args.self.now) (subst (λ (k : Kept). IsIdleNext (state_of k)) c.self.view_is (idle_now c.self.inside c.now-now.result c.self.invariant c.now-now.ensures.value c.if-now-self.true))
+    still_issued (state_of c.args.self.now)
+    (subst (λ (k : Kept). choice_of (at_choice (state_of k)) ≡ choice.Nothing) c.self.view_is
+    (still_now c.self.inside.still_until (state_of (kept_of c.self.inside)) c.self.invariant.still (omega (arith, c.if-now-self.true, c.now-now.ensures.value))))

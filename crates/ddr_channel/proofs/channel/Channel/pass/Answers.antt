@@ -3,7 +3,8 @@ use Rattle.std.proofs.Common.{sym, ap, subst, ◌∙◌}
 use Rattle.ddr_channel.specs.Kept.{Kept, state_of}
 use Rattle.ddr_channel.specs.Quiet.{IsQuiet, after_cycles, drain_after}
 use Rattle.ddr_channel.specs.View.{kept_of}
-use Rattle.ddr_channel.proofs.QuietLemmas.{cycles_clock, fields_passed, stands_passed, state_passed, ticks_left, whole_passed}
+use Rattle.ddr_channel.proofs.QuietLemmas.{cycles_clock, fields_passed, stands_passed, state_passed, ticks_left}
+use Rattle.ddr_channel.proofs.SleepLemmas.{whole_passed}
 use Rattle.ddr_channel.proofs.channel.Channel.pass.Goals as goal
 
 pub pass-requires : goal.pass-requires

@@ -1,13 +1,22 @@
 -- What is done first is the right answer to the next owner.
-use Rattle.std.proofs.Common.{sym, ap, ◌∙◌}
+use Rattle.std.proofs.Common.{◌+◌, ltb, sym, ap, ap₂, ◌∙◌}
 use Rattle.std.specs.List.{slice_get}
 use Rattle.circular_buffer.specs.Buffer.{Buffer}
 use Rattle.ddr_address_map.specs.Requests.{Completion}
 use Rattle.ddr_channel.specs.Kept.{Kept, state_of}
 use Rattle.ddr_channel.specs.State.{after_pop}
 use Rattle.ddr_channel.specs.View.{kept_of}
+use Rattle.ddr_channel.proofs.SleepLemmas.{still_taken, whole_popped}
 use Rattle.ddr_channel.proofs.StandsLemmas.{next_answer, stands_popped}
 use Rattle.ddr_channel.proofs.channel.Channel.pop_done.Goals as goal
+
+pub invariant_of-self-2 : goal.invariant_of-self-2
+invariant_of-self-2 c =
+    let a = c.self.inside in
+    let room = a.config.limits.done in
+    whole_popped a c.pop_front.new.self c.still_with-self-inside.result c.self.invariant c.pop_front.ensures.items
+    (still_taken (ltb (c.len.result + c.len-2.result) room) a.still_until c.still_with-self-inside.result (state_of (kept_of a))
+    (ap₂ (λ m n. ltb (m + n) room) c.len.ensures.len c.len-2.ensures.len) c.still_with-self-inside.ensures c.self.invariant.still)
 
 pub returns-clause-right : goal.returns-clause-right
 returns-clause-right c = λ calls stands.

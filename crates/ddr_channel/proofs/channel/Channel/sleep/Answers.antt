@@ -1,11 +1,11 @@
--- The quiet time was looked up.
-use Rattle.std.proofs.Common.{◌-◌, sym, subst}
+-- The cycle was looked up.
+use Rattle.std.proofs.Common.{sym, subst}
 use Rattle.ddr_channel.specs.Kept.{Kept, state_of}
-use Rattle.ddr_channel.specs.Quiet.{IsQuiet}
+use Rattle.ddr_channel.specs.Quiet.{IsStillUntil}
 use Rattle.ddr_channel.proofs.SleepLemmas.{whole_asleep}
 use Rattle.ddr_channel.proofs.channel.Channel.sleep.Goals as goal
 
 pub invariant_of-self : goal.invariant_of-self
 invariant_of-self c =
     whole_asleep c.self.inside c.sleep_until-self-inside.result c.self.invariant
-    (subst (λ (k : Kept). IsQuiet (c.sleep_until-self-inside.result - k.now) (state_of k)) (sym c.self.view_is) c.sleep_until-self-inside.ensures)
+    (subst (λ (k : Kept). IsStillUntil c.sleep_until-self-inside.result (state_of k)) (sym c.self.view_is) c.sleep_until-self-inside.ensures)
