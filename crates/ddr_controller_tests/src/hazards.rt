@@ -1,4 +1,4 @@
-//! A list of pending requests that is filled and emptied, with what it holds told by hand.
+//! A list of pending requests that is filled and emptied, with what it holds told by hand; in `chance` by a plain list.
 ghost use Rattle.std.specs.Prelude.{◌<◌, IfOk};
 ghost use Rattle.ddr_hazards.specs.declared.pending.TheConstants.{RANK_GROUPS};
 ghost use Rattle.ddr_hazards.specs.PendingList.{IsInRank};
@@ -10,14 +10,11 @@ use std::alloc::{AllocError, Global};
 use std::process::Abort;
 use std::test::Fail;
 
-/// A request to a byte of one row, which differs from others in its line and its offset alone.
-fn request(
-    alloc: Global,
-    kind: Kind,
-    number: u64,
-    line: u32,
-    offset: u32,
-) -> Result<Req, AllocError>
+mod chance;
+
+/// A request to a byte.
+fn request_at(alloc: Global, kind: Kind, number: u64, place: Place) -> Result<Req, AllocError>
+    requires { IsInRank place }
     ensures { IfOk result (λ r. IsInRank r.place) }
 {
     Ok(Req {
@@ -28,18 +25,32 @@ fn request(
             addr: 0,
             len: 1,
         },
-        place: Place {
-            channel: 0,
-            rank: 0,
-            group: 1,
-            bank: 2,
-            row: 3,
-            line,
-            offset,
-        },
+        place,
         mask: 0,
         line: Box::new(alloc, [0; 64])?,
     })
+}
+
+/// A request to a byte of one row, which differs from others in its line and its offset alone.
+fn request(
+    alloc: Global,
+    kind: Kind,
+    number: u64,
+    line: u32,
+    offset: u32,
+) -> Result<Req, AllocError>
+    ensures { IfOk result (λ r. IsInRank r.place) }
+{
+    let place = Place {
+        channel: 0,
+        rank: 0,
+        group: 1,
+        bank: 2,
+        row: 3,
+        line,
+        offset,
+    };
+    request_at(alloc, kind, number, place)
 }
 
 /// A request that is to be admitted: its kind, its number, its line and its offset, and the cycle.
@@ -275,26 +286,16 @@ fn read_of_group(alloc: Global, number: u64, group: u32) -> Result<Req, AllocErr
     requires { group < RANK_GROUPS }
     ensures { IfOk result (λ r. IsInRank r.place) }
 {
-    Ok(Req {
-        port: 0,
-        number,
-        echo: Echo {
-            kind: Kind::Read,
-            addr: 0,
-            len: 1,
-        },
-        place: Place {
-            channel: 0,
-            rank: 0,
-            group,
-            bank: 0,
-            row: 0,
-            line: 0,
-            offset: 0,
-        },
-        mask: 0,
-        line: Box::new(alloc, [0; 64])?,
-    })
+    let place = Place {
+        channel: 0,
+        rank: 0,
+        group,
+        bank: 0,
+        row: 0,
+        line: 0,
+        offset: 0,
+    };
+    request_at(alloc, Kind::Read, number, place)
 }
 
 /// How many older requests each one waits for, the oldest first.
