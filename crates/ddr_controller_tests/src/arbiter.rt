@@ -1,6 +1,9 @@
 //! The choices of cycles in profile S, worked out by hand. `drain` is off and there is room, and the marks and
 //! the cap are the profile's, where a test says nothing else.
-ghost use Rattle.std.specs.Prelude.{◌≡◌, ◌≤◌, nat_le, All, IsTrue};
+//!
+//! `ranks` has those on two ranks. `chance` compares the choices of many states with `reference`, a plain program.
+ghost use Rattle.std.specs.Prelude.{◌≡◌, ◌≤◌, nat_le, All, IfOk, IsTrue};
+ghost use Rattle.ddr_hazards.specs.PendingList.{IsInRank};
 ghost use Rattle.ddr_arbiter.specs.Choice.{passes_at};
 
 use crate::refresh::tick_times;
@@ -21,7 +24,9 @@ use std::alloc::Global;
 use std::process::Abort;
 use std::test::Fail;
 
+mod chance;
 mod ranks;
+mod reference;
 
 const PROFILE_POLICY: Policy = Policy {
     cap: 1000,
@@ -65,21 +70,7 @@ impl Scene {
 
     /// Admits a request to a line, in cycle 0.
     fn admit(&mut self, alloc: Global, kind: Kind, place: Place) -> Result<(), Fail> {
-        if place.rank >= 2 || place.group >= 4 || place.bank >= 4 {
-            return Err("no such bank".into());
-        }
-        let request = Req {
-            port: 0,
-            number: 0,
-            echo: Echo {
-                kind,
-                addr: 0,
-                len: 1,
-            },
-            place,
-            mask: 0,
-            line: Box::new(alloc, [0; 64])?,
-        };
+        let request = request_to(alloc, kind, place)?;
         match self.pending.admit(request, 0) {
             Ok(()) => Ok(()),
             Err(_) => Err("the queue is full".into()),
@@ -150,6 +141,27 @@ fn is_admitted(pending: &Pending, place: usize, now: u64) -> bool
         Some((_, admitted)) => admitted <= now,
         None => false,
     }
+}
+
+/// A request to a line.
+fn request_to(alloc: Global, kind: Kind, place: Place) -> Result<Req, Fail>
+    ensures { IfOk result (λ r. IsInRank r.place) }
+{
+    if place.rank >= 2 || place.group >= 4 || place.bank >= 4 {
+        return Err("no such bank".into());
+    }
+    Ok(Req {
+        port: 0,
+        number: 0,
+        echo: Echo {
+            kind,
+            addr: 0,
+            len: 1,
+        },
+        place,
+        mask: 0,
+        line: Box::new(alloc, [0; 64])?,
+    })
 }
 
 /// The first byte of a line of a rank.

@@ -45,7 +45,7 @@ fn pay(debt: &mut Debt, times: u32) {
 }
 
 /// The debt of a rank in a cycle, where so many refreshes were issued.
-fn debt_in(config: &Config, cycle: u32, issued: u32) -> Debt {
+pub fn debt_in(config: &Config, cycle: u32, issued: u32) -> Debt {
     let mut debt = Debt::open(config);
     tick_times(&mut debt, u64::from(cycle) + 1);
     pay(&mut debt, issued);
