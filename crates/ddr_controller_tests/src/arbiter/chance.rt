@@ -14,7 +14,7 @@ use ddr_samples::sample::with_lines;
 use ddr_timing::profile::PROFILE_S2;
 
 /// How often a run admits requests, chooses and issues a command.
-const TURNS: u32 = 500;
+const TURNS: u32 = 300;
 
 /// How many choices are compared in each turn.
 const CHOICES: u32 = 4;
@@ -442,7 +442,7 @@ impl Run {
 fn check(rt: &impl Abort, alloc: Global, case: &Case) -> Result<(), Fail> {
     let mut run = Run::open(alloc, case)?;
     run.turns(rt, false)?;
-    assert!(rt; run.met.least() >= 10, "{:?}", run.met);
+    assert!(rt; run.met.least() >= 3, "{:?}", run.met);
     run.turns(rt, true)?;
     assert!(rt; run.met.columns_auto >= 20, "{:?}", run.met);
     Ok(())
