@@ -1,6 +1,6 @@
 //! What a broken rule of a trace rests on: the earlier command that is to blame, and the numbers.
 //!
-//! Below stand `ddr_timing` and `ddr_trace`, which define the rules; nothing stands above yet. `evidence` has the types, and
+//! Below stand `ddr_timing` and `ddr_trace`, which define the rules; `ddr_explain` above tells it. `evidence` has the types, and
 //! `find` finds the evidence of any rule, over one module for each kind of rule: `pair` has those that an earlier entry breaks
 //! together with the present one, `state` those on the state of banks, by what `bank` sees of a bank's history, `bounds` those
 //! on an entry's own numbers, and `refresh` the one on when a REF is due. `kind` says which kind of command a rule speaks of.
