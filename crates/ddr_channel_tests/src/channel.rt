@@ -1,4 +1,4 @@
-//! Runs of a channel. Those of `rows`, `closed`, `ranks`, `refreshes`, `drain`, `refusals` and `told` are worked out by
+//! Runs of a channel. Those of `rows`, `closed`, `ranks`, `refreshes`, `drain`, `refusals`, `quiet` and `told` are worked out by
 //! hand, their cycles and their bytes, and what each cycle tells; those of `chance` are compared with a flat map of
 //! bytes and with the checkers of a whole trace.
 ghost use Rattle.std.specs.Prelude.{◌≡◌, ◌≤◌, IfOk};
@@ -21,6 +21,7 @@ use std::test::Fail;
 mod chance;
 mod closed;
 mod drain;
+mod quiet;
 mod ranks;
 mod refreshes;
 mod refusals;
