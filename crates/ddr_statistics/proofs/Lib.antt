@@ -1,4 +1,5 @@
 pub mod CountLemmas
+pub mod FindingLemmas
 pub mod PlaceLemmas
 pub mod StandLemmas
 pub mod SumLemmas

@@ -4,11 +4,13 @@
 //! what is counted here is proved to be that number. Below stand `ddr_timing` and `ddr_trace`; nothing stands above yet.
 //! `statistics` is what takes a trace's commands one by one; it stands on `rank`, what is kept of a rank, that on `bank`,
 //! and both on `counts`, the numbers of one place. `turns` has the numbers of the data bus as a whole, `kind` says which
-//! commands move data, `text` prints all numbers, and `sums` is the law that the numbers of places add up.
+//! commands move data, and `text` prints all numbers. `findings` and `sums` are laws: how a read or a write finds its bank is
+//! told by looking back, and the numbers of places add up.
 #![tactic(auto)]
 
 mod bank;
 pub mod counts;
+pub mod findings;
 mod kind;
 mod rank;
 pub mod statistics;
