@@ -36,6 +36,11 @@ const JOBS: &[(&str, Job)] = &[
     ("ddr run --sample", Job::Run { sample: true }),
     ("ddr check", Job::Check { sample: false }),
     ("ddr check --sample", Job::Check { sample: true }),
+    ("ddr check --explain", Job::Explain { sample: false }),
+    (
+        "ddr check --explain --sample",
+        Job::Explain { sample: true },
+    ),
     ("ddr map", Job::Map { sample: false }),
     ("ddr map --sample", Job::Map { sample: true }),
     ("ddr lint", Job::Lint { sample: false }),
