@@ -106,6 +106,29 @@ fn the_end_of_another_system_is_foreign(rt: HostRuntime) -> Result<(), Fail> {
     Ok(())
 }
 
+/// No port and no channel stands twice, and none is missing.
+#[test]
+fn the_ports_of_another_system_are_foreign(rt: HostRuntime) -> Result<(), Fail> {
+    let alloc = rt.alloc();
+    let (first, second, _, _) = run_silent(&rt, alloc, 8)?;
+    let (_, _, first_work, second_work) = run_silent(&rt, alloc, 7)?;
+    let ports = vec![in alloc; first, second]?;
+    let workers = vec![in alloc; first_work, second_work]?;
+    assert_eq!(rt; cause_of(&rt, alloc, ports, workers), Some(Cause::Foreign));
+    Ok(())
+}
+
+#[test]
+fn the_workers_of_another_system_are_foreign(rt: HostRuntime) -> Result<(), Fail> {
+    let alloc = rt.alloc();
+    let (first, second, _, _) = run_silent(&rt, alloc, 7)?;
+    let (_, _, first_work, second_work) = run_silent(&rt, alloc, 8)?;
+    let ports = vec![in alloc; first, second]?;
+    let workers = vec![in alloc; first_work, second_work]?;
+    assert_eq!(rt; cause_of(&rt, alloc, ports, workers), Some(Cause::Foreign));
+    Ok(())
+}
+
 #[test]
 fn foreign_comes_before_missing(rt: HostRuntime) -> Result<(), Fail> {
     let alloc = rt.alloc();
