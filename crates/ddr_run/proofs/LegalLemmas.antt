@@ -76,4 +76,4 @@ closed_legal config ports workers port_ends ended left text legal system matched
     let each : All (λ (e : WorkerEnded). e.config ≡ config) ended = each_of (λ (e : WorkerEnded). e.config ≡ config) ended (ends_config config workers ended own matched) in
     let ordered : All (λ (e : WorkerEnded). e.config ≡ config) is_closed.by_channel = All-permutation (λ (e : WorkerEnded). e.config ≡ config) ended is_closed.by_channel is_closed.workers_are each in
     all_legal config 0 left.traces text legal
-        (λ c t is. traces_are_right config is_closed.by_channel ordered is_closed.emptied.work c t (ap (λ (ts : List Recorded). slice_get ts c) (sym is_closed.emptied.traces) ∙ is)) verdicts
+    (λ c t is. traces_are_right config is_closed.by_channel ordered is_closed.emptied.work c t (ap (λ (ts : List Recorded). slice_get ts c) (sym is_closed.emptied.traces) ∙ is)) verdicts
