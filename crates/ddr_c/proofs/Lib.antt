@@ -1,0 +1,2 @@
+pub mod FewerLemmas
+pub mod Values
