@@ -1,2 +1,0 @@
-pub mod FewerLemmas
-pub mod Values
