@@ -25,7 +25,7 @@ use Rattle.ddr_rank.specs.Ready.{LAST_CYCLE, after}
 use Rattle.ddr_rank.specs.Stands.{StandsFor, lowest_on_rank}
 
 module _ (y : ℕ) (below : y < LAST_CYCLE) where
-  within_told : (clocks : ℕ) (o : Option ℕ) → nat_lt y (behind clocks o) ≡ is_within clocks y o
+  pub within_told : (clocks : ℕ) (o : Option ℕ) → nat_lt y (behind clocks o) ≡ is_within clocks y o
   within_told clocks None = grind (arith, nat_tests)
   within_told clocks (Some at) = grind (arith, nat_tests)
 

@@ -1,19 +1,31 @@
 -- The commands that may come in a cycle, by the first cycles and the state of banks.
-use Rattle.std.specs.Prelude.{ℕ, Bool, not, ◌&&◌, nat_le}
+use Rattle.std.specs.Prelude.{ℕ, Bool, true, false, not, ◌&&◌, nat_le, Option, Some, None}
+use Rattle.ddr_timing.specs.declared.timing.Timing.{Timing}
+use Rattle.ddr_trace.specs.declared.bank.OpenBank.{OpenBank}
 use Rattle.ddr_trace.specs.declared.command.Command.{Command}
 use Rattle.ddr_trace.specs.declared.command.Command.TheVariants.{Act, Rd, Wr, RdAuto, WrAuto, Pre, PreAll, Refresh}
-use Rattle.ddr_trace.specs.Banks.{is_active, is_auto_within, is_row, ready_row}
+use Rattle.ddr_trace.specs.declared.command.Entry.{Entry}
+use Rattle.ddr_trace.specs.Banks.{is_row, ready_row}
 use Rattle.ddr_rank.specs.Breaks.{any_active, any_auto_within}
-use Rattle.ddr_rank.specs.Latest.{is_within}
+use Rattle.ddr_rank.specs.First.{behind, behind_start}
 use Rattle.ddr_rank.specs.Readiness.{Readiness, bank_at, fourth_activate, ready_at}
 
--- an ACT finds its bank idle, RP behind an auto-precharge, and a window with room for it
+-- the bank was closed by an auto-precharge, and RP is over since its start
+abbrev pub is_closed : Timing → ℕ → OpenBank → Option Entry → Bool
+is_closed t cycle bank None = false
+is_closed t cycle bank (Some auto) = nat_le (behind_start t bank (Some auto)) cycle
+
+-- the bank was never opened, or is closed
+abbrev pub is_idle : Timing → ℕ → Option OpenBank → Bool
+is_idle t cycle None = true
+is_idle t cycle (Some bank) = is_closed t cycle bank bank.auto
+
+-- an ACT finds a window with room for it, and its bank idle
 abbrev pub may_activate : Readiness → ℕ → ℕ → ℕ → Bool
 may_activate r cycle group bank =
     nat_le (ready_at r group bank).activate cycle
-    && not (is_active r.config.timing cycle (bank_at r group bank).opened)
-    && not (is_auto_within r.config.timing r.config.timing.rp cycle (bank_at r group bank).opened)
-    && not (is_within r.config.timing.faw cycle (fourth_activate r))
+    && nat_le (behind r.config.timing.faw (fourth_activate r)) cycle
+    && is_idle r.config.timing cycle (bank_at r group bank).opened
 
 -- a read or a write finds its row
 abbrev pub finds_row : Readiness → ℕ → ℕ → ℕ → Bool

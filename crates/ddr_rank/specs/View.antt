@@ -1,7 +1,8 @@
 -- What a rank's fields stand for.
 use Rattle.std.specs.Prelude.{◌≡◌}
 use Rattle.ddr_rank.specs.declared.rank.Rank.TheInside.{Inside}
-use Rattle.ddr_rank.specs.Readiness.{IsWhole, Readiness}
+use Rattle.ddr_rank.specs.First.{behind}
+use Rattle.ddr_rank.specs.Readiness.{IsWhole, Readiness, fourth_activate}
 
 abbrev pub readiness_of : Inside → Readiness
 readiness_of a = record {
@@ -18,3 +19,4 @@ pub record IsSound (a : Inside) : Type 0 where
   pub whole : IsWhole (readiness_of a)
   -- the window has room for four ACTs
   pub four : a.activates.capacity ≡ 4
+  pub window : a.window ≡ behind a.config.timing.faw (fourth_activate (readiness_of a))

@@ -2,6 +2,7 @@
 ghost use Rattle.std.specs.Prelude.{◌≡◌, Some};
 ghost use Rattle.ddr_trace.specs.Banks.{is_auto_within, open_row, ready_row, recovery};
 ghost use Rattle.ddr_rank.specs.First.{behind_auto, behind_start};
+ghost use Rattle.ddr_rank.specs.May.{is_idle};
 ghost use Rattle.ddr_rank.specs.Noted.{bank_noted};
 
 use crate::cycles::after;
@@ -68,6 +69,20 @@ impl Bank {
         match &self.opened {
             Some(bank) => bank.is_auto_within(cycle, timing),
             None => false,
+        }
+    }
+
+    /// Whether nothing holds an ACT of the bank up: it has no open row, and RP is over since the start of an auto-precharge.
+    /// In the last cycle that a `u64` counts it may be so though RP isn't over.
+    pub fn is_idle(&self, cycle: u64, timing: &Timing) -> bool
+        ensures { result ≡ is_idle timing.now cycle self.now.opened }
+    {
+        match &self.opened {
+            Some(bank) => match &bank.auto {
+                Some(auto) => behind_start(bank, auto, timing) <= cycle,
+                None => false,
+            },
+            None => true,
         }
     }
 

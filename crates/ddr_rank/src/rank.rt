@@ -1,5 +1,5 @@
 //! One rank: what was issued to it, as far as a later command can break a rule by it.
-ghost use Rattle.std.specs.Prelude.{◌≡◌, ℕ, ◌+◌, ◌*◌, ◌<◌, ◌≤◌, ◌&&◌, nat_le, List, [], ◌∷◌, ◌++◌, IsTrue, IsOk, IfOk};
+ghost use Rattle.std.specs.Prelude.{◌≡◌, ℕ, ◌+◌, ◌*◌, ◌<◌, ◌≤◌, ◌==◌, ◌&&◌, if◌then◌else◌, nat_le, List, [], ◌∷◌, ◌++◌, length, slice_get, None, IsTrue, IsOk, IfOk};
 ghost use Rattle.std.specs.Option.{is_none};
 ghost use Rattle.ddr_timing.specs.declared.units.TheConstants.{GROUP_BANKS};
 ghost use Rattle.ddr_trace.specs.declared.command.Entry.{Entry};
@@ -16,6 +16,7 @@ ghost use Rattle.ddr_rank.specs.Ready.{LAST_CYCLE};
 ghost use Rattle.ddr_rank.specs.Stands.{IsAfter, StandsFor, lowest_on_rank};
 
 use crate::bank::Bank;
+use crate::cycles::behind;
 use crate::last::Last;
 use crate::ready::{Asks, Ready, ReadyAll};
 use circular_buffer::HeapCircularBuffer;
@@ -45,6 +46,8 @@ pub struct Rank {
     refresh: Option<u64>,
     // The last four ACTs, the oldest first.
     activates: HeapCircularBuffer<u64>,
+    // The first cycle in which the window of four ACTs has room for the next one.
+    window: u64,
     // Of bank b of group g, at g * GROUP_BANKS + b, the first cycles of its next commands.
     ready: Vec<Ready>,
     ready_all: ReadyAll,
@@ -75,6 +78,7 @@ impl Rank {
             groups: vec![in alloc; Last::NEVER; groups]?,
             refresh: None,
             activates: HeapCircularBuffer::with_capacity(alloc, WINDOW)?,
+            window: 0,
             ready: vec![in alloc; Ready::FREE; groups * GROUP_BANKS as usize]?,
             ready_all: ReadyAll::FREE,
         })
@@ -103,7 +107,19 @@ impl Rank {
             // A first cycle that is kept as the last one may be a later one.
             return self.lowest(cycle, &command).is_none();
         }
-        self.may_now(cycle, &command)
+        self.is_ready(cycle, &command)
+    }
+
+    /// Whether the command breaks none of these rules in this cycle, which is not the last one that a `u64` counts. It
+    /// costs less than `may`.
+    #[inline(always)]
+    pub fn is_ready(&self, cycle: u64, command: &Command) -> bool
+        requires below { cycle < LAST_CYCLE }
+        requires placed { IsTrue (is_in self.now.config.geometry command.now) }
+        ensures { (history : List Entry) → StandsFor self.entry.now (rank_of command.now) history → IsAfter history cycle
+            → result ≡ is_none (lowest_on_rank self.entry.now.config history (entry cycle command.now)) }
+    {
+        self.may_now(cycle, command)
     }
 
     /// The first cycle from this one on in which the command keeps every distance, whatever the state of its banks. It
@@ -203,6 +219,7 @@ impl Rank {
     {
         self.note_at(entry, group, bank);
         let _ = self.activates.push_back(entry.cycle);
+        self.window = behind(self.config.timing.faw, fourth_of(&self.activates));
     }
 
     /// Keeps a command of one bank.
@@ -258,5 +275,17 @@ impl Rank {
         ensures { result.now ≡ group_at self.now group }
     {
         &self.groups[group as usize]
+    }
+}
+
+/// The first one of four, where there are four.
+fn fourth_of(activates: &HeapCircularBuffer<u64>) -> Option<u64>
+    requires { activates.now.capacity ≡ 4 }
+    ensures { result ≡ (if length activates.now.items == 4 then slice_get activates.now.items 0 else None) }
+{
+    if activates.is_full() {
+        activates.front().copied()
+    } else {
+        None
     }
 }

@@ -7,8 +7,8 @@ ghost use Rattle.ddr_rank.specs.First.{behind_autos, first_activate, first_cycle
 ghost use Rattle.ddr_rank.specs.May.{may_activate, may_now, may_refresh};
 ghost use Rattle.ddr_rank.specs.Readiness.{fourth_activate};
 
-use super::Rank;
-use crate::cycles::{behind, is_within, later};
+use super::{Rank, fourth_of};
+use crate::cycles::{is_within, later};
 use crate::last::Kind;
 use ddr_timing::units::{BURST_CLOCKS, GROUP_BANKS};
 use ddr_trace::command::Command;
@@ -53,7 +53,7 @@ impl Rank {
     }
 
     /// Whether the command breaks no rule, by the first cycles and the state of banks.
-    #[inline]
+    #[inline(always)]
     pub(super) fn may_now(&self, cycle: u64, command: &Command) -> bool
         requires { IsTrue (is_in self.now.config.geometry command.now) }
         ensures { result ≡ may_now self.now cycle command.now }
@@ -105,17 +105,15 @@ impl Rank {
             && !self.is_some_auto_within(cycle)
     }
 
+    #[inline]
     fn may_activate(&self, cycle: u64, group: u32, bank: u32) -> bool
         requires group_in { group < self.now.config.geometry.groups }
         requires bank_in { bank < GROUP_BANKS }
         ensures { result ≡ may_activate self.now cycle group bank }
     {
-        let t = &self.config.timing;
-        let kept = self.bank(group, bank);
         self.ready(group, bank).activate <= cycle
-            && kept.open_row(cycle, t).is_none()
-            && !kept.is_auto_within(cycle, t)
-            && !is_within(t.faw, cycle, self.fourth_activate())
+            && self.window <= cycle
+            && self.bank(group, bank).is_idle(cycle, &self.config.timing)
     }
 
     /// The first cycle in which the command keeps every distance.
@@ -142,10 +140,8 @@ impl Rank {
         requires bank_in { bank < GROUP_BANKS }
         ensures { result ≡ first_activate self.now group bank }
     {
-        let t = &self.config.timing;
-        let window = behind(t.faw, self.fourth_activate());
-        let idle = self.bank(group, bank).behind_auto(t);
-        self.ready(group, bank).activate.max(idle.max(window))
+        let idle = self.bank(group, bank).behind_auto(&self.config.timing);
+        self.ready(group, bank).activate.max(idle.max(self.window))
     }
 
     /// RP behind the start of each bank's auto-precharge.
@@ -340,10 +336,6 @@ impl Rank {
     fn fourth_activate(&self) -> Option<u64>
         ensures { result ≡ fourth_activate self.now }
     {
-        if self.activates.is_full() {
-            self.activates.front().copied()
-        } else {
-            None
-        }
+        fourth_of(&self.activates)
     }
 }

@@ -1,12 +1,10 @@
--- The first cycles tell, and the walk over the rules in the last cycle.
-use Rattle.std.proofs.Common.{◌≡◌, ◌<◌, Bool, true, false, not, Option, Some, None, is_none, refl, ap, arith, ◌∙◌}
+-- In the last cycle the walk over the rules tells.
+use Rattle.std.proofs.Common.{◌≡◌, Bool, true, false, not, Option, Some, None, is_none, refl, ap, ◌∙◌}
 use Rattle.std.specs.Option.{is_some}
 use Rattle.ddr_trace.proofs.LowestLemmas.{lowest_rule-alike}
 use Rattle.ddr_trace.specs.declared.rule.Rule.{Rule}
-use Rattle.ddr_rank.proofs.MayLemmas.{may_told}
 use Rattle.ddr_rank.proofs.RuleLemmas.{law}
 use Rattle.ddr_rank.proofs.rank.Rank.may.Goals as goal
-use Rattle.ddr_rank.specs.Ready.{LAST_CYCLE}
 
 none_is : (o : Option Rule) (b : Bool) → is_some o ≡ not b → b ≡ is_none o
 none_is None true is = refl
@@ -18,8 +16,3 @@ pub returns-then-cycle-eq18446744073709551615 : goal.returns-then-cycle-eq184467
 returns-then-cycle-eq18446744073709551615 c = λ history stands after.
     none_is _ _ c.is_none.ensures
     ∙ ap (λ (o : Option Rule). is_none o) (c.lowest.ensures ∙ lowest_rule-alike _ _ (law c.args.self.now history c.args.cycle c.args.command stands c.requires))
-
-pub returns : goal.returns
-returns c = λ history stands after.
-    let below : c.args.cycle < LAST_CYCLE = omega arith in
-    c.may_now.ensures ∙ may_told c.args.self.now history c.args.cycle c.args.command below stands c.requires
