@@ -116,6 +116,12 @@ module _ (y : ℕ) (below : y < LAST_CYCLE) where
           ∙ ap (λ w. is_switched_soon t columns.read (entry y c) || w) (switch_first t columns.write c)
       by_kind false is = grind (arith, nat_tests)
 
+  pub switch_left : (t : Timing) (columns : Columns) (c : Command) → nat_le (behind_columns t columns c) y ≡ not (switches_soon t columns (entry y c))
+  switch_left t columns c = at_or_above (behind_columns t columns c) ∙ ap not (columns_first t columns c)
+    where
+      at_or_above : (n : ℕ) → nat_le n y ≡ not (nat_lt y n)
+      at_or_above n = grind (arith, nat_tests)
+
   last_first : (last : Option ℕ) → nat_le (behind_last last) y ≡ is_later last y
   last_first None = grind (arith, nat_tests)
   last_first (Some last) = grind (arith, nat_tests)

@@ -2,6 +2,7 @@
 use Rattle.std.specs.Prelude.{◌≡◌, ℕ, ◌+◌, Bool, true, false, ◌&&◌, ◌||◌, nat_lt, max, if◌then◌else◌, List, Option, Some, None, option_map}
 use Rattle.ddr_timing.specs.declared.timing.Timing.{Timing}
 use Rattle.ddr_trace.specs.declared.command.Command.{Command}
+use Rattle.ddr_trace.specs.declared.command.Command.TheVariants.{Rd, Wr}
 use Rattle.ddr_trace.specs.declared.command.Entry.{Entry}
 use Rattle.ddr_trace.specs.Commands.{is_column, is_read, is_write}
 use Rattle.ddr_trace.specs.Rules.{rank_switch}
@@ -9,6 +10,7 @@ use Rattle.ddr_rank.specs.Latest.{latest}
 use Rattle.ddr_rank.specs.Ready.{after}
 use Rattle.ddr_rank.specs.Stands.{is_of_rank}
 use Rattle.ddr_legality.specs.declared.columns.Columns.{Columns}
+use Rattle.ddr_legality.specs.declared.columns.Switch.{Switch}
 
 -- the entry, of another rank, stands too close behind this one
 abbrev pub is_switched_soon : Timing → Option Entry → Entry → Bool
@@ -28,6 +30,13 @@ behind_switch t (Some a) c = after a.cycle (rank_switch t a.command c)
 abbrev pub behind_columns : Timing → Columns → Command → ℕ
 behind_columns t columns c =
     if is_column c then max (behind_switch t columns.read c) (behind_switch t columns.write c) else 0
+
+-- the first cycles of reads and of writes, of whatever place
+abbrev pub switch_behind : Timing → Columns → Switch
+switch_behind t columns = record {
+  read = behind_columns t columns (Rd 0 0 0 0 0);
+  write = behind_columns t columns (Wr 0 0 0 0 0);
+}
 
 -- after a command of the rank
 abbrev pub columns_noted : Entry → Columns → Columns

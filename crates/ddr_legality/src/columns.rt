@@ -1,7 +1,8 @@
-//! The last read and the last write of a rank, as much as the rule on two ranks asks of them.
+//! The last read and the last write of a rank, as much as the rule on two ranks asks of them, and the first cycles that
+//! they leave the other rank.
 ghost use Rattle.std.specs.Prelude.{◌≡◌};
 ghost use Rattle.ddr_trace.specs.Commands.{is_column};
-ghost use Rattle.ddr_legality.specs.Columns.{behind_columns, behind_switch, columns_noted, is_switched_soon, switches_soon};
+ghost use Rattle.ddr_legality.specs.Columns.{behind_columns, behind_switch, columns_noted, is_switched_soon, switch_behind, switches_soon};
 
 use ddr_timing::timing::Timing;
 use ddr_trace::command::{Command, Entry, is_before};
@@ -44,8 +45,18 @@ impl Columns {
                 || is_switched_soon(&self.write, entry, timing))
     }
 
+    /// The first cycles in which reads and writes of another rank are not too close behind these two.
+    pub fn switch(&self, timing: &Timing) -> Switch
+        ensures { result ≡ switch_behind timing.now self.now }
+    {
+        Switch {
+            read: self.allowed_at(&READ, timing),
+            write: self.allowed_at(&WRITE, timing),
+        }
+    }
+
     /// The first cycle in which a command of another rank is not too close behind these two.
-    pub fn allowed_at(&self, command: &Command, timing: &Timing) -> u64
+    fn allowed_at(&self, command: &Command, timing: &Timing) -> u64
         ensures { result ≡ behind_columns timing.now self.now command.now }
     {
         if !is_column(command) {
@@ -55,6 +66,35 @@ impl Columns {
         read.max(behind_switch(&self.write, command, timing))
     }
 }
+
+/// Of a rank, the first cycles of its reads and writes that those of the other rank leave. 0 where nothing holds them up.
+#[derive(Clone, Copy)]
+pub(crate) struct Switch {
+    pub read: u64,
+    pub write: u64,
+}
+
+impl Switch {
+    /// Before the first command.
+    pub const FREE: Switch = Switch { read: 0, write: 0 };
+}
+
+/// A read and a write, of whatever place.
+const READ: Command = Command::Rd {
+    rank: 0,
+    group: 0,
+    bank: 0,
+    row: 0,
+    line: 0,
+};
+
+const WRITE: Command = Command::Wr {
+    rank: 0,
+    group: 0,
+    bank: 0,
+    row: 0,
+    line: 0,
+};
 
 /// The first cycle that leaves the least distance of a command of another rank behind this one.
 fn behind_switch(last: &Option<Entry>, command: &Command, timing: &Timing) -> u64

@@ -8,10 +8,11 @@ ghost use Rattle.ddr_trace.specs.Commands.{entry, rank_of};
 ghost use Rattle.ddr_trace.specs.Rules.{breaks, breaks_rtrs, is_in, is_on_commands};
 ghost use Rattle.ddr_trace.specs.Legality.{lowest_broken};
 ghost use Rattle.ddr_rank.specs.Distances.{keeps_distances, no_distance};
-ghost use Rattle.ddr_rank.specs.Ready.{LAST_CYCLE};
+ghost use Rattle.ddr_rank.specs.Ready.{LAST_CYCLE, after};
 ghost use Rattle.ddr_rank.specs.Stands.{IsAfter, lowest_on_rank};
+ghost use Rattle.ddr_legality.specs.Columns.{columns_noted, switch_behind};
 
-use crate::columns::Columns;
+use crate::columns::{Columns, Switch};
 use ddr_rank::rank::Rank;
 use ddr_timing::config::Config;
 use ddr_trace::command::{Command, Entry};
@@ -26,18 +27,23 @@ pub(crate) struct Issued {
     /// The first cycle in which a command may stand.
     pub start: u64,
     last: Option<u64>,
+    /// The first cycle behind the last command.
+    free: u64,
     /// Rank 0.
     first: Rank,
     /// Rank 1. Where the geometry has one rank no command is of this one.
     second: Rank,
     first_columns: Columns,
     second_columns: Columns,
+    /// The first cycles that rank 1 leaves the reads and writes of rank 0.
+    first_switch: Switch,
+    second_switch: Switch,
     ghost first_config: { first.config ≡ config },
     ghost second_config: { second.config ≡ config },
 }
 
 impl Issued {
-    ghost use Rattle.ddr_legality.specs.Issued.{HasIssued, behind_last, is_in_order, is_later, other_columns};
+    ghost use Rattle.ddr_legality.specs.Issued.{HasIssued, behind_other, is_in_order, is_later, other_columns, switch_of};
 
     /// Nothing was issued.
     pub fn open(alloc: Global, config: &Config, start: u64) -> Result<Issued, AllocError>
@@ -49,10 +55,13 @@ impl Issued {
             config: *config,
             start,
             last: None,
+            free: 0,
             first: Rank::open(alloc, config)?,
             second: Rank::open(alloc, config)?,
             first_columns: Columns::NONE,
             second_columns: Columns::NONE,
+            first_switch: Switch::FREE,
+            second_switch: Switch::FREE,
         })
     }
 
@@ -76,39 +85,95 @@ impl Issued {
         None
     }
 
-    /// Whether the entry breaks no rule on commands, in a trace that ends at `end`.
-    pub fn is_legal(&self, entry: &Entry, end: u64) -> bool
+    /// Whether the command breaks no rule on commands in this cycle, with which the trace ends.
+    #[inline]
+    pub fn is_legal(&self, cycle: u64, command: &Command) -> bool
+        requires begun { self.now.start ≤ cycle }
+        requires below { cycle < LAST_CYCLE }
         ensures { (history : List Entry) → HasIssued self.now history
-            → result ≡ is_none (lowest_broken self.now.config self.now.start end history entry.now) }
+            → result ≡ is_none (lowest_broken self.now.config self.now.start (cycle + 1) history (entry cycle command.now)) }
     {
-        if !self.is_in_order(entry.cycle, end) {
+        match command {
+            Command::Rd { rank, .. } | Command::RdAuto { rank, .. } => {
+                self.is_kept(cycle, command, self.switch_of(*rank).read)
+            }
+            Command::Wr { rank, .. } | Command::WrAuto { rank, .. } => {
+                self.is_kept(cycle, command, self.switch_of(*rank).write)
+            }
+            Command::Act { .. } => self.is_kept(cycle, command, 0),
+            Command::Pre { .. } => self.is_kept(cycle, command, 0),
+            Command::PreAll { .. } | Command::Refresh { .. } => self.is_kept(cycle, command, 0),
+        }
+    }
+
+    /// As `is_legal`, where the other rank leaves the command the cycles from `switched` on. It is built into each of its
+    /// callers, where the kind of the command is known.
+    #[inline(always)]
+    fn is_kept(&self, cycle: u64, command: &Command, switched: u64) -> bool
+        requires begun { self.now.start ≤ cycle }
+        requires below { cycle < LAST_CYCLE }
+        ensures { (history : List Entry) → HasIssued self.now history → switched ≡ behind_other self.now command.now
+            → result ≡ is_none (lowest_broken self.now.config self.now.start (cycle + 1) history (entry cycle command.now)) }
+    {
+        if cycle < self.free {
             return false;
         }
-        if !entry.command.is_in(&self.config.geometry) {
+        if !command.is_in(&self.config.geometry) {
             return false;
         }
-        if !self.may(entry) {
+        if !self.is_ready(cycle, command) {
             return false;
         }
-        !self.is_switched_too_soon(entry)
+        switched <= cycle
     }
 
     /// The first cycle from this one on in which the command keeps every distance, whatever the state of its banks. For a
     /// command outside the geometry, and where there is none, the last cycle that a `u64` counts.
+    #[inline]
     pub fn allowed_at(&self, from: u64, command: &Command) -> u64
         requires { self.now.start ≤ from }
         ensures from { from ≤ result }
         ensures first { (history : List Entry) (cycle : ℕ) → HasIssued self.now history → from ≤ cycle → cycle < LAST_CYCLE
             → no_distance (λ r. is_on_commands r && breaks self.now.config self.now.start (cycle + 1) r history (entry cycle command.now)) ≡ nat_le result cycle }
     {
+        match command {
+            Command::Rd { rank, .. } | Command::RdAuto { rank, .. } => {
+                self.allowed_behind(from, command, self.switch_of(*rank).read)
+            }
+            Command::Wr { rank, .. } | Command::WrAuto { rank, .. } => {
+                self.allowed_behind(from, command, self.switch_of(*rank).write)
+            }
+            Command::Act { .. } => self.allowed_behind(from, command, 0),
+            Command::Pre { .. } => self.allowed_behind(from, command, 0),
+            Command::PreAll { .. } | Command::Refresh { .. } => {
+                self.allowed_behind(from, command, 0)
+            }
+        }
+    }
+
+    /// As `allowed_at`, where the other rank leaves the command the cycles from `switched` on.
+    #[inline(always)]
+    fn allowed_behind(&self, from: u64, command: &Command, switched: u64) -> u64
+        requires { self.now.start ≤ from }
+        ensures from { from ≤ result }
+        ensures first { (history : List Entry) (cycle : ℕ) → HasIssued self.now history → switched ≡ behind_other self.now command.now → from ≤ cycle → cycle < LAST_CYCLE
+            → no_distance (λ r. is_on_commands r && breaks self.now.config self.now.start (cycle + 1) r history (entry cycle command.now)) ≡ nat_le result cycle }
+    {
         if !command.is_in(&self.config.geometry) {
             return u64::MAX;
         }
-        let switched = self
-            .other_columns(command)
-            .allowed_at(command, &self.config.timing);
-        let free = from.max(self.behind_last());
+        let free = from.max(self.free);
         self.allowed_on_rank(free.max(switched), command)
+    }
+
+    /// The first cycles that the other rank leaves the reads and writes of this one.
+    fn switch_of(&self, rank: u32) -> &Switch
+        ensures { result.now ≡ switch_of self.now rank }
+    {
+        match rank {
+            0 => &self.first_switch,
+            _ => &self.second_switch,
+        }
     }
 
     /// The first cycle from this one on in which the command keeps every distance on its rank.
@@ -121,16 +186,6 @@ impl Issued {
         match command.rank() {
             0 => self.first.allowed_at(from, *command),
             _ => self.second.allowed_at(from, *command),
-        }
-    }
-
-    /// The cycle behind the last command.
-    fn behind_last(&self) -> u64
-        ensures { result ≡ behind_last self.now.last }
-    {
-        match self.last {
-            Some(last) => last.saturating_add(1),
-            None => 0,
         }
     }
 
@@ -164,14 +219,16 @@ impl Issued {
     }
 
     /// Whether a command would break no rule on its rank behind the last one.
-    fn may(&self, entry: &Entry) -> bool
-        requires { IsTrue (is_in self.now.config.geometry entry.now.command) }
-        ensures { (history : List Entry) → HasIssued self.now history → IsAfter history entry.now.cycle
-            → result ≡ is_none (lowest_on_rank self.now.config history entry.now) }
+    #[inline(always)]
+    fn is_ready(&self, cycle: u64, command: &Command) -> bool
+        requires below { cycle < LAST_CYCLE }
+        requires placed { IsTrue (is_in self.now.config.geometry command.now) }
+        ensures { (history : List Entry) → HasIssued self.now history → IsAfter history cycle
+            → result ≡ is_none (lowest_on_rank self.now.config history (entry cycle command.now)) }
     {
-        match entry.command.rank() {
-            0 => self.first.may(entry.cycle, entry.command),
-            _ => self.second.may(entry.cycle, entry.command),
+        match command.rank() {
+            0 => self.first.is_ready(cycle, command),
+            _ => self.second.is_ready(cycle, command),
         }
     }
 
@@ -204,16 +261,28 @@ impl Issued {
             → HasIssued self.new (history ++ entry.now ∷ []) }
     {
         self.last = Some(entry.cycle);
+        self.free = cycle_behind(entry.cycle);
         match entry.command.rank() {
             0 => {
-                self.first.issue(entry.cycle, entry.command);
+                self.second_switch = self.switch_behind(&self.first_columns, entry);
                 self.first_columns.note(entry);
+                self.first.issue(entry.cycle, entry.command);
             }
             _ => {
-                self.second.issue(entry.cycle, entry.command);
+                self.first_switch = self.switch_behind(&self.second_columns, entry);
                 self.second_columns.note(entry);
+                self.second.issue(entry.cycle, entry.command);
             }
         }
+    }
+
+    /// The first cycles that a rank's last read and write leave the other rank, with this entry of it.
+    fn switch_behind(&self, columns: &Columns, entry: &Entry) -> Switch
+        ensures { result ≡ switch_behind self.now.config.timing (columns_noted entry.now columns.now) }
+    {
+        let mut noted = *columns;
+        noted.note(entry);
+        noted.switch(&self.config.timing)
     }
 
     /// The open row of a bank in this cycle, if it is active then. `None` also outside the geometry.
@@ -238,4 +307,11 @@ impl Issued {
             _ => None,
         }
     }
+}
+
+/// The next cycle, as far as a clock counts.
+fn cycle_behind(cycle: u64) -> u64
+    ensures { result ≡ after cycle 1 }
+{
+    cycle.saturating_add(1)
 }

@@ -73,6 +73,22 @@ impl Legality {
         ensures longer { let b = self.entry.now.bus in
             IsOk result ↔ IsLegal b.config b.start (b.now + 1) (b.trace ++ entry b.now command ∷ []) }
     {
+        if self.issued.is_legal(self.now, &command) {
+            return Ok(());
+        }
+        self.rule(command)
+    }
+
+    /// As `may`, by a walk over the rules.
+    #[cold]
+    #[inline(never)]
+    fn rule(&self, command: Command) -> Result<(), Rule>
+        ensures lowest { MatchResult result
+            (λ _. broken_now self.entry.now.bus command ≡ None)
+            (λ rule. broken_now self.entry.now.bus command ≡ Some rule) }
+        ensures longer { let b = self.entry.now.bus in
+            IsOk result ↔ IsLegal b.config b.start (b.now + 1) (b.trace ++ entry b.now command ∷ []) }
+    {
         let entry = Entry {
             cycle: self.now,
             command,
@@ -84,20 +100,18 @@ impl Legality {
     }
 
     /// Whether the command is legal now. It costs less than `may`, which names the rule.
+    #[inline]
     pub fn is_legal(&self, command: Command) -> bool
         ensures { result ≡ is_legal_now self.entry.now.bus command }
     {
-        let entry = Entry {
-            cycle: self.now,
-            command,
-        };
-        self.issued.is_legal(&entry, self.now + 1)
+        self.issued.is_legal(self.now, &command)
     }
 
     /// The first cycle from now on in which the command keeps every rule on commands but those on the state of banks: the
     /// bus is free, and every distance is kept. So from it on, as long as nothing is issued, the command is legal exactly in
     /// the cycles in which its bank is in the state that it wants. For a command outside the geometry it is the last cycle
     /// that a `u64` counts, which no bus reaches.
+    #[inline]
     pub fn allowed_at(&self, command: Command) -> u64
         ensures from { self.entry.now.bus.now ≤ result }
         ensures first { let b = self.entry.now.bus in (cycle : ℕ) → b.now ≤ cycle → cycle < LAST_CYCLE

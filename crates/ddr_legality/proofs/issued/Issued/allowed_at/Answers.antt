@@ -1,25 +1,25 @@
--- ORDER, PLACE and RTRS are told beside the distances on the command's rank.
-use Rattle.std.proofs.Common.{◌+◌, max, sym, ap, ◌∙◌}
-use Rattle.ddr_trace.specs.Commands.{entry}
-use Rattle.ddr_legality.specs.declared.columns.Columns.{Columns}
-use Rattle.ddr_legality.specs.Columns.{behind_columns}
-use Rattle.ddr_legality.specs.Issued.{behind_last}
-use Rattle.ddr_legality.proofs.AllowedLemmas.{allowed_told, never_outside}
+-- A read and a write wait for the other rank, and no other command does.
+use Rattle.std.proofs.Common.{refl, ap, ◌∙◌}
+use Rattle.ddr_legality.specs.declared.columns.Switch.{Switch}
+use Rattle.ddr_legality.proofs.IssuedLemmas.{all_left, no_column, read_told, write_told}
 use Rattle.ddr_legality.proofs.issued.Issued.allowed_at.Goals as goal
 
-pub returns-then-not-is_in-clause-first : goal.returns-then-not-is_in-clause-first
-returns-then-not-is_in-clause-first c = λ history cycle issued begun below.
-    let i = c.args.self.now in
-    never_outside i.config i.start (cycle + 1) history (entry cycle c.args.command.now) cycle below (sym c.if-not-is_in.ensures)
+pub returns-in-Act-clause-first : goal.returns-in-Act-clause-first
+returns-in-Act-clause-first c = λ history cycle issued begun below.
+    c.allowed_behind.ensures.first history cycle issued (all_left c.args.self.now c.args.command.now (rw c.in-Act.is refl)) begun below
 
-pub returns-clause-first : goal.returns-clause-first
-returns-clause-first c = λ history cycle issued begun below.
-    let i = c.args.self.now in
-    let t = i.config.timing in
-    let command = c.args.command.now in
-    allowed_told i history command c.args.from cycle _ _ issued (sym c.if-not-is_in.ensures) below c.requires begun
-    (c.max.ensures
-    ∙ ap (λ n. max n c.allowed_at-switched.result) (c.max-free.ensures ∙ ap (λ n. max c.args.from n) c.behind_last.ensures)
-    ∙ ap (λ n. max (max c.args.from (behind_last i.last)) n) (c.allowed_at-switched.ensures ∙ ap (λ (k : Columns). behind_columns t k command) c.other_columns.ensures))
-    c.allowed_on_rank.ensures.from
-    (λ reached. c.allowed_on_rank.ensures.first history cycle issued reached below)
+pub returns-in-Rd-clause-first : goal.returns-in-Rd-clause-first
+returns-in-Rd-clause-first c = λ history cycle issued begun below.
+    c.allowed_behind-in-Rd.ensures.first history cycle issued (ap (λ (s : Switch). s.read) c.switch_of-in-Rd.ensures ∙ read_told c.args.self.now history issued c.in-Rd.rank c.args.command.now c.in-Rd.is) begun below
+
+pub returns-in-Wr-clause-first : goal.returns-in-Wr-clause-first
+returns-in-Wr-clause-first c = λ history cycle issued begun below.
+    c.allowed_behind-in-Wr.ensures.first history cycle issued (ap (λ (s : Switch). s.write) c.switch_of.ensures ∙ write_told c.args.self.now history issued c.in-Wr.rank c.args.command.now c.in-Wr.is) begun below
+
+pub returns-in-Pre-clause-first : goal.returns-in-Pre-clause-first
+returns-in-Pre-clause-first c = λ history cycle issued begun below.
+    c.allowed_behind-in-Pre.ensures.first history cycle issued (all_left c.args.self.now c.args.command.now (rw c.in-Pre.is refl)) begun below
+
+pub returns-in-PreAll-clause-first : goal.returns-in-PreAll-clause-first
+returns-in-PreAll-clause-first c = λ history cycle issued begun below.
+    c.allowed_behind-in-PreAll.ensures.first history cycle issued (all_left c.args.self.now c.args.command.now (no_column c.args.command.now c.in-PreAll.is)) begun below

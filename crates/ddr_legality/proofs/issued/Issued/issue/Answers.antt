@@ -20,6 +20,9 @@ returns-in-0-clause-issued c = λ history issued after.
       second = stands_other i.second 1 history issued.second e.cycle e.command after (rw i.second_config c.requires) (rw own refl);
       first_columns = rw c.note.ensures (columns_more 0 history i.first_columns e below (rw own refl) issued.first_columns);
       second_columns = columns_same 1 history i.second_columns e below (rw own refl) issued.second_columns;
+      free = c.cycle_behind-self.ensures;
+      first_switch = issued.first_switch;
+      second_switch = rw c.note.ensures c.switch_behind-self.ensures;
     }
 
 pub returns-in_default-clause-issued : goal.returns-in_default-clause-issued
@@ -35,4 +38,7 @@ returns-in_default-clause-issued c = λ history issued after.
       second = subst (λ n. StandsFor c.issue-in_default.new.self n (history ++ e ∷ [])) own (c.issue-in_default.ensures.stands history (subst (λ n. StandsFor i.second n history) (sym own) issued.second) after);
       first_columns = columns_same 0 history i.first_columns e below (rw own refl) issued.first_columns;
       second_columns = rw c.note-in_default.ensures (columns_more 1 history i.second_columns e below (rw own refl) issued.second_columns);
+      free = c.cycle_behind-self.ensures;
+      first_switch = rw c.note-in_default.ensures c.switch_behind-self-in_default.ensures;
+      second_switch = issued.second_switch;
     }

@@ -10,4 +10,7 @@ returns-clause-issued c = record {
   second = c.in_ok-open-2.ensures.stands 1;
   first_columns = no_columns 0;
   second_columns = no_columns 1;
+  free = refl;
+  first_switch = refl;
+  second_switch = refl;
 }

@@ -1,0 +1,10 @@
+-- Nothing was issued, and no REF was counted.
+use Rattle.std.proofs.Common.{rules}
+use Rattle.ddr_legality.proofs.checker.SoFar.open.Goals as goal
+
+pub returns-clause-passed : goal.returns-clause-passed
+returns-clause-passed c = record {
+  issued = c.in_ok-open.ensures.issued;
+  first = search rules;
+  second = search rules;
+}
