@@ -86,7 +86,7 @@ impl Issued {
     }
 
     /// Whether the command breaks no rule on commands in this cycle, with which the trace ends.
-    #[inline]
+    #[inline(always)]
     pub fn is_legal(&self, cycle: u64, command: &Command) -> bool
         requires begun { self.now.start ≤ cycle }
         requires below { cycle < LAST_CYCLE }
@@ -129,7 +129,7 @@ impl Issued {
 
     /// The first cycle from this one on in which the command keeps every distance, whatever the state of its banks. For a
     /// command outside the geometry, and where there is none, the last cycle that a `u64` counts.
-    #[inline]
+    #[inline(always)]
     pub fn allowed_at(&self, from: u64, command: &Command) -> u64
         requires { self.now.start ≤ from }
         ensures from { from ≤ result }

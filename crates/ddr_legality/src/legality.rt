@@ -100,7 +100,7 @@ impl Legality {
     }
 
     /// Whether the command is legal now. It costs less than `may`, which names the rule.
-    #[inline]
+    #[inline(always)]
     pub fn is_legal(&self, command: Command) -> bool
         ensures { result ≡ is_legal_now self.entry.now.bus command }
     {
@@ -111,7 +111,7 @@ impl Legality {
     /// bus is free, and every distance is kept. So from it on, as long as nothing is issued, the command is legal exactly in
     /// the cycles in which its bank is in the state that it wants. For a command outside the geometry it is the last cycle
     /// that a `u64` counts, which no bus reaches.
-    #[inline]
+    #[inline(always)]
     pub fn allowed_at(&self, command: Command) -> u64
         ensures from { self.entry.now.bus.now ≤ result }
         ensures first { let b = self.entry.now.bus in (cycle : ℕ) → b.now ≤ cycle → cycle < LAST_CYCLE

@@ -124,6 +124,7 @@ impl Rank {
 
     /// The first cycle from this one on in which the command keeps every distance, whatever the state of its banks. It
     /// stands until the next command of the rank is issued. The last cycle that a `u64` counts where there is none below.
+    #[inline(always)]
     pub fn allowed_at(&self, from: u64, command: Command) -> u64
         requires { IsTrue (is_in self.now.config.geometry command) }
         ensures from { from ≤ result }

@@ -117,6 +117,7 @@ impl Rank {
     }
 
     /// The first cycle in which the command keeps every distance.
+    #[inline(always)]
     pub(super) fn first_cycle(&self, command: &Command) -> u64
         requires { IsTrue (is_in self.now.config.geometry command.now) }
         ensures { result ≡ first_cycle self.now command.now }
@@ -135,6 +136,7 @@ impl Rank {
         }
     }
 
+    #[inline]
     fn first_activate(&self, group: u32, bank: u32) -> u64
         requires group_in { group < self.now.config.geometry.groups }
         requires bank_in { bank < GROUP_BANKS }
@@ -145,6 +147,7 @@ impl Rank {
     }
 
     /// RP behind the start of each bank's auto-precharge.
+    #[inline(never)]
     fn behind_autos(&self) -> u64
         ensures { result ≡ behind_autos self.now.config.timing self.now.banks }
     {
