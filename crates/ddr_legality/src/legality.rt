@@ -66,6 +66,7 @@ impl Legality {
     }
 
     /// Whether the command is legal now, or else the lowest rule on commands that it would break.
+    #[inline(always)]
     pub fn may(&self, command: Command) -> Result<(), Rule>
         ensures lowest { MatchResult result
             (λ _. broken_now self.entry.now.bus command ≡ None)

@@ -60,10 +60,15 @@ impl Ready {
     fn raise(&mut self, to: &Ready)
         ensures { self.new ≡ raised to.now self.old }
     {
-        self.activate = self.activate.max(to.activate);
         self.read = self.read.max(to.read);
         self.write = self.write.max(to.write);
-        self.precharge = self.precharge.max(to.precharge);
+        // A read or a write asks nothing of the next ACT, nor, elsewhere than in its own bank, of the next precharge.
+        if to.activate > 0 {
+            self.activate = self.activate.max(to.activate);
+        }
+        if to.precharge > 0 {
+            self.precharge = self.precharge.max(to.precharge);
+        }
     }
 }
 
