@@ -177,6 +177,7 @@ impl Issued {
     }
 
     /// The first cycle from this one on in which the command keeps every distance on its rank.
+    #[inline(always)]
     fn allowed_on_rank(&self, from: u64, command: &Command) -> u64
         requires { IsTrue (is_in self.now.config.geometry command.now) }
         ensures from { from ≤ result }
