@@ -5,3 +5,4 @@ mod Lines
 mod Order
 mod SlotLemmas
 mod Soundness
+mod BusyLemmas
