@@ -10,3 +10,5 @@ pub mod QuietLemmas
 pub mod RefreshLemmas
 pub mod RowLemmas
 pub mod StuckLemmas
+mod FirstLemmas
+mod BankFirstLemmas

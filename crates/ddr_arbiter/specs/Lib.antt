@@ -8,3 +8,4 @@ pub mod Quiet
 pub mod Served
 pub mod Situation
 pub mod Until
+pub mod Firsts

@@ -1,11 +1,9 @@
 -- Until when nothing changes of what the scheduler looks at, and until when nothing can be chosen for a request, as long
 -- as no command is issued.
-use Rattle.std.specs.Prelude.{◌≡◌, ℕ, ◌+◌, ◌<◌, true, false, Bool, List, All, Option, Some, slice_get}
+use Rattle.std.specs.Prelude.{◌≡◌, ℕ, ◌+◌, ◌<◌, true, false, Bool, List, All, Some, slice_get}
 use Rattle.ddr_legality.specs.Bus.{Bus, is_legal_now, passed}
 use Rattle.ddr_address_map.specs.declared.place.Place.{Place}
 use Rattle.ddr_hazards.specs.declared.waiting.Waiting.{Waiting}
-use Rattle.ddr_hazards.specs.Banks.{bank_number}
-use Rattle.ddr_hazards.specs.PendingList.{IsInRank}
 use Rattle.ddr_refresh.specs.Refreshes.{Refreshes, after_ticks, debt_of}
 use Rattle.ddr_arbiter.specs.declared.candidates.Served.{Served}
 use Rattle.ddr_arbiter.specs.Choice.{is_oldest_capped}
@@ -39,11 +37,3 @@ pub record IsCandidate (c : Served) (waiting : List Waiting) (place : ℕ) (w : 
 abbrev pub IsBankStuckUntil : ℕ → Bus → Served → List Waiting → Bool → Place → Type 0
 IsBankStuckUntil end b c waiting room p =
     (place : ℕ) (w : Waiting) → IsCandidate c waiting place w → AreInOneBank p w.request.place → IsStuckUntil end b c waiting room w.request.place
-
--- what the mark of a place's bank says
-abbrev pub MarkTellsUntil : ℕ → Bus → Served → List Waiting → Bool → Place → Option Bool → Type 0
-MarkTellsUntil end b c waiting room p (Some true) = IsBankStuckUntil end b c waiting room p
-MarkTellsUntil end b c waiting room p _ = Unit {0}
-
-abbrev pub AreStuckUntil : ℕ → Bus → Served → List Waiting → Bool → List Bool → Type 0
-AreStuckUntil end b c waiting room marks = (p : Place) → IsInRank p → MarkTellsUntil end b c waiting room p (slice_get marks (bank_number p))

@@ -13,11 +13,12 @@ ghost use Rattle.ddr_arbiter.specs.declared.candidates.Served.{Served};
 ghost use Rattle.ddr_arbiter.specs.Commands as commands;
 ghost use Rattle.ddr_arbiter.specs.Quiet.{IsQuietUntil};
 ghost use Rattle.ddr_arbiter.specs.Situation.{situation};
-ghost use Rattle.ddr_arbiter.specs.Until.{AreSteadyUntil, AreStuckUntil, IsAgeSteadyUntil, IsBankStuckUntil, IsCandidate, IsStuckUntil};
+ghost use Rattle.ddr_arbiter.specs.Until.{AreSteadyUntil, IsAgeSteadyUntil, IsBankStuckUntil, IsCandidate, IsStuckUntil};
 
-use crate::banks::{BANKS, bank_number};
-use crate::candidates::{Served, candidates, is_free, is_same_kind};
+use crate::banks::{bank_place, lowest, without};
+use crate::candidates::{Served, candidates};
 use crate::commands::{activate_at, column_at, precharge_at};
+use crate::firsts::{Ask, first_in_bank};
 use crate::policy::Policy;
 use crate::refresh::forced_ranks;
 use crate::rows::is_wanted;
@@ -28,9 +29,6 @@ use ddr_refresh::debt::Debt;
 
 /// A cycle that no clock reaches.
 const NEVER: u64 = u64::MAX;
-
-/// Of each bank that a channel may have, whether it was asked until when nothing can be chosen for its candidates.
-type Asked = [bool; BANKS];
 
 /// A cycle before which nothing is chosen, in each cycle from the next one of the command bus on, as long as nothing is
 /// admitted, served or completed and the drain mode stays. It is no promise that something is chosen then. The parameters
@@ -103,54 +101,37 @@ fn stuck_until(
         → IsStuckUntil result legality.entry.now.bus candidates.now pending.now.waiting room w.request.place }
 {
     let now = legality.now();
-    let mut asked = [false; BANKS];
     let mut until = end;
-    for place in 0..candidates.count {
+    let mut left = pending.busy_banks();
+    'banks: while left != 0 {
         if until <= now {
             return until;
         }
-        until = place_until(
-            pending, legality, candidates, room, &mut asked, until, place,
-        );
+        let number = lowest(left);
+        let here = candidates_until(pending, legality, candidates, room, bank_place(number));
+        until = until.min(here);
+        left = without(left, number);
     }
     until
 }
 
-/// A cycle, no later than `until`, before which nothing can be chosen for the request at the place, if it is a candidate.
-fn place_until(
+/// A cycle before which nothing can be chosen for any candidate of the place's bank, which may have none.
+fn candidates_until(
     pending: &Pending,
     legality: &Legality,
     candidates: &Served,
     room: bool,
-    asked: &mut Asked,
-    until: u64,
-    place: usize,
+    at: Place,
 ) -> u64
     requires inside { All (λ w. IsInRank w.request.place) pending.now.waiting }
     requires count { candidates.now.count ≤ length pending.now.waiting }
-    requires place { place < candidates.now.count }
-    requires asked { AreStuckUntil until legality.now.bus candidates.now pending.now.waiting room asked.old }
-    ensures until { result ≤ until }
-    ensures stuck { (w : Waiting) → IsCandidate candidates.now pending.now.waiting place w
-        → IsStuckUntil result legality.entry.now.bus candidates.now pending.now.waiting room w.request.place }
-    ensures asked { AreStuckUntil result legality.entry.now.bus candidates.now pending.now.waiting room asked.new }
+    requires at { IsInRank at }
+    ensures { IsBankStuckUntil result legality.entry.now.bus candidates.now pending.now.waiting room at }
 {
-    let Some((request, _)) = pending.get(place) else {
-        return until;
-    };
-    let at = request.place;
-    if !is_same_kind(candidates.kind, request.echo.kind) {
-        return until;
+    match first_in_bank(pending, legality, candidates, at, Ask::Any) {
+        Some(_) => bank_until(pending, legality, candidates, room, at),
+        None => NEVER,
     }
-    let number = bank_number(at);
-    if asked[number] {
-        return until;
-    }
-    if !is_free(&candidates.forced, pending, place) {
-        return until;
-    }
-    asked[number] = true;
-    until.min(bank_until(pending, legality, candidates, room, at))
 }
 
 /// A cycle before which nothing can be chosen for any candidate of the place's bank. A row for reads and writes stays open:
