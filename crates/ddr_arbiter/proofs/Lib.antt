@@ -12,3 +12,4 @@ pub mod RowLemmas
 pub mod StuckLemmas
 mod FirstLemmas
 mod BankFirstLemmas
+mod PutOffLemmas

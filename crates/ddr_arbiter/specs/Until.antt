@@ -5,8 +5,10 @@ use Rattle.ddr_legality.specs.Bus.{Bus, is_legal_now, passed}
 use Rattle.ddr_address_map.specs.declared.place.Place.{Place}
 use Rattle.ddr_hazards.specs.declared.waiting.Waiting.{Waiting}
 use Rattle.ddr_refresh.specs.Refreshes.{Refreshes, after_ticks, debt_of}
+use Rattle.ddr_hazards.specs.declared.pending.TheConstants.{RANKS}
 use Rattle.ddr_arbiter.specs.declared.candidates.Served.{Served}
-use Rattle.ddr_arbiter.specs.Choice.{is_oldest_capped}
+use Rattle.ddr_arbiter.specs.declared.choice.Choice.TheVariants as choice
+use Rattle.ddr_arbiter.specs.Choice.{is_oldest_capped, refresh_choice_at}
 use Rattle.ddr_arbiter.specs.Commands.{column_at}
 use Rattle.ddr_arbiter.specs.Known.{AreInOneBank, HasNoStep}
 use Rattle.ddr_arbiter.specs.Served.{is_candidate, places_of}
@@ -37,3 +39,11 @@ pub record IsCandidate (c : Served) (waiting : List Waiting) (place : ℕ) (w : 
 abbrev pub IsBankStuckUntil : ℕ → Bus → Served → List Waiting → Bool → Place → Type 0
 IsBankStuckUntil end b c waiting room p =
     (place : ℕ) (w : Waiting) → IsCandidate c waiting place w → AreInOneBank p w.request.place → IsStuckUntil end b c waiting room w.request.place
+
+-- in each of them neither REF nor PREA is chosen for the rank
+abbrev pub IsPutOffUntil : ℕ → Bus → ℕ → Type 0
+IsPutOffUntil end b rank = (count : ℕ) → b.now + count < end → refresh_choice_at (passed count b) rank ≡ choice.Nothing
+
+-- so for each rank that is marked
+abbrev pub ArePutOffUntil : ℕ → Bus → List Bool → Type 0
+ArePutOffUntil end b marks = (rank : ℕ) → rank < RANKS → slice_get marks rank ≡ Some true → IsPutOffUntil end b rank

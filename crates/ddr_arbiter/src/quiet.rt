@@ -2,7 +2,8 @@
 //!
 //! Where no command is issued, what it looks at changes by itself in four ways: a refresh falls due, the oldest request
 //! reaches the cap, an auto-precharge closes a bank, and a distance to an earlier command is kept. The first two end what is
-//! known of the candidates. Of the others the legality tells the first cycle of each command, once for each bank.
+//! known of the candidates. Of the others the legality tells the first cycle of each command, once for each bank. A rank that
+//! has to be refreshed and whose banks are idle waits for its REF.
 ghost use Rattle.std.specs.Prelude.{◌≡◌, ℕ, ◌<◌, ◌≤◌, None, Bool, List, All, length};
 ghost use Rattle.ddr_timing.specs.declared.units.TheConstants.{CLOCK_STOP};
 ghost use Rattle.ddr_trace.specs.Banks.{bank_behind, ready_row};
@@ -13,19 +14,21 @@ ghost use Rattle.ddr_arbiter.specs.declared.candidates.Served.{Served};
 ghost use Rattle.ddr_arbiter.specs.Commands as commands;
 ghost use Rattle.ddr_arbiter.specs.Quiet.{IsQuietUntil};
 ghost use Rattle.ddr_arbiter.specs.Situation.{situation};
-ghost use Rattle.ddr_arbiter.specs.Until.{AreSteadyUntil, IsAgeSteadyUntil, IsBankStuckUntil, IsCandidate, IsStuckUntil};
+ghost use Rattle.ddr_arbiter.specs.Until.{ArePutOffUntil, AreSteadyUntil, IsPutOffUntil, IsAgeSteadyUntil, IsBankStuckUntil, IsCandidate, IsStuckUntil};
 
 use crate::banks::{bank_place, lowest, without};
 use crate::candidates::{Served, candidates};
 use crate::commands::{activate_at, column_at, precharge_at};
 use crate::firsts::{Ask, first_in_bank};
 use crate::policy::Policy;
-use crate::refresh::forced_ranks;
+use crate::refresh::{Forced, forced_ranks};
 use crate::rows::is_wanted;
 use ddr_address_map::place::Place;
 use ddr_hazards::pending::Pending;
 use ddr_legality::legality::Legality;
 use ddr_refresh::debt::Debt;
+use ddr_trace::command::Command;
+use ddr_trace::rule::Rule;
 
 /// A cycle that no clock reaches.
 const NEVER: u64 = u64::MAX;
@@ -47,16 +50,44 @@ pub fn quiet_until(
 {
     let now = legality.now();
     let forced = forced_ranks(pending, debts);
-    if forced[0] || forced[1] {
-        return now;
-    }
-    let steady = steady_until(now, debts);
+    let steady = steady_until(now, debts).min(forced_until(legality, &forced));
     if pending.len() == 0 {
         return steady;
     }
     let end = steady.min(age_steady_until(pending, now, policy.cap));
     let candidates = candidates(pending, now, policy.cap, drain, &forced);
     stuck_until(pending, legality, &candidates, room, end)
+}
+
+/// A cycle before which neither a REF nor a PREA is chosen for a rank that is forced.
+fn forced_until(legality: &Legality, forced: &Forced) -> u64
+    ensures { ArePutOffUntil result legality.entry.now.bus forced.now }
+{
+    let first = if forced[0] {
+        refresh_until(legality, 0)
+    } else {
+        NEVER
+    };
+    let second = if forced[1] {
+        refresh_until(legality, 1)
+    } else {
+        NEVER
+    };
+    first.min(second)
+}
+
+/// A cycle before which neither a REF nor a PREA is chosen for the rank. Where all its banks are idle they stay so, and it
+/// waits for a REF; else nothing is known of it.
+fn refresh_until(legality: &Legality, rank: u32) -> u64
+    ensures { IsPutOffUntil result legality.entry.now.bus rank }
+{
+    match legality.may(Command::Refresh { rank }) {
+        Ok(()) => legality.now(),
+        Err(rule) => match rule {
+            Rule::Order | Rule::Place | Rule::State => legality.now(),
+            _ => legality.allowed_at(Command::Refresh { rank }),
+        },
+    }
 }
 
 /// A cycle before which no further refresh falls due.
