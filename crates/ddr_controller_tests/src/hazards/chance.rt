@@ -224,7 +224,11 @@ impl Run {
             Some(place) => self.list.get(place).map(|listed| listed.place.row),
             None => None,
         };
-        assert_eq!(rt; self.pending.row_in_bank(rank, group, bank, k), row, "{k} of bank {bank} of {group} of {rank}");
+        assert_eq!(rt;
+            self.pending.row_in_bank(rank, group, bank, k),
+            row,
+            "{k} of bank {bank} of {group} of {rank}"
+        );
         let is_busy = place_in_bank(&self.list, rank, group, bank, 0).is_some();
         let bit = self.pending.busy_banks() >> (16 * rank + 4 * group + bank) & 1;
         assert_eq!(rt; bit == 1, is_busy, "bank {bank} of {group} of {rank}");
