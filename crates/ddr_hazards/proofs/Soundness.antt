@@ -1,8 +1,8 @@
 -- What the fields keep, and what admission and removal leave of it.
-use Rattle.std.proofs.Common.{◌≡◌, ◌≢◌, ℕ, suc, ◌+◌, ◌*◌, ◌-◌, ◌<◌, ◌≤◌, Bool, true, false, cond, eqb, ltb, List, [], ◌∷◌, ◌++◌, length, map, get_or, set, All, Option, Some, None, refl, sym, ap, ◌∙◌, inl, inr, arith, take, drop, get_or-set_other, get_or-set_same}
+use Rattle.std.proofs.Common.{◌≡◌, ◌≢◌, ℕ, suc, ◌+◌, ◌-◌, ◌<◌, ◌≤◌, Bool, true, false, cond, eqb, ltb, List, [], ◌∷◌, ◌++◌, length, get_or, set, All, Option, Some, None, refl, sym, ap, ◌∙◌, inl, inr, arith, take, drop, get_or-set_other, get_or-set_same}
 use Rattle.std.specs.List.{filter, count_by, position_or_len, remove, slice_get}
 use Rattle.std.specs.Option.{option_and_then, option_map, option_map_or}
-use Rattle.std.proofs.lemmas.Bool.{cases_Bool, cond-true, cond-false, leb-false, ltb-true, ltb-false, eqb-true, eq-eqb, and_parts, false≢true}
+use Rattle.std.proofs.lemmas.Bool.{cases_Bool, cond-true, cond-false, leb-false, ltb-true, ltb-false, eqb-true, eq-eqb, false≢true}
 use Rattle.std.proofs.lemmas.List.{length-set, length-append, append-nil}
 use Rattle.std.proofs.lemmas.List.Elements.{All-append, All-take, All-drop, All-push, All-filter, filter-append}
 use Rattle.std.proofs.lemmas.List.Sums.{length-filter, count_by-le-length}
@@ -14,7 +14,7 @@ use Rattle.ddr_address_map.specs.declared.request.Kind.TheVariants.{Read, Write}
 use Rattle.ddr_hazards.specs.declared.banks.TheConstants.{BANKS}
 use Rattle.ddr_hazards.specs.declared.counts.Counts.{Counts}
 use Rattle.ddr_hazards.specs.declared.pending.Pending.TheInside.{Inside}
-use Rattle.ddr_hazards.specs.declared.pending.TheConstants.{KIND_CAPACITY, RANK_GROUPS}
+use Rattle.ddr_hazards.specs.declared.pending.TheConstants.{RANK_GROUPS}
 use Rattle.ddr_hazards.specs.declared.slots.TheConstants.{CAPACITY}
 use Rattle.ddr_hazards.specs.declared.waiting.Waiting.{Waiting}
 use Rattle.ddr_timing.specs.declared.units.TheConstants.{GROUP_BANKS}
@@ -29,7 +29,7 @@ use Rattle.ddr_hazards.proofs.CountLemmas.{one_of-same, both_kinds, pending_coun
 use Rattle.ddr_hazards.proofs.HazardLemmas.{hazard_count-front, hazard_count-last, hazard_count-remove_below, hazard_count-remove_from, get_or-count_less, slice_get-front, slice_get-last}
 use Rattle.ddr_hazards.proofs.Lines.{same_line, same_line-comm, SameLine}
 use Rattle.ddr_hazards.proofs.Order.{taken_apart, stands}
-use Rattle.ddr_hazards.proofs.SlotLemmas.{Holds, held_at, none_held, filter-same, filter-remove_out, without, Without, slice_get-remove_below, slice_get-remove_from, count_behind, count_before, count-filter, count-within, count-held, length-held, length-holds}
+use Rattle.ddr_hazards.proofs.SlotLemmas.{Holds, held_at, filter-same, filter-remove_out, without, slice_get-remove_below, slice_get-remove_from, count_behind, count_before, count-filter, count-within, count-held, length-held, length-holds}
 
 pub within_limits : (a : Inside) → IsSound a → IsWithinLimits (pending_list a)
 within_limits a sound =

@@ -1,7 +1,6 @@
-use Rattle.std.proofs.Common.{ℕ, ◌≡◌, ◌+◌, ◌*◌, ◌<◌, Some, None, sym, ap, ◌∙◌, arith}
-use Rattle.std.specs.List.{slice_get}
+use Rattle.std.proofs.Common.{◌<◌, ap, ◌∙◌, arith}
 use Rattle.ddr_hazards.specs.declared.banks.TheConstants.{BANKS}
-use Rattle.ddr_hazards.specs.Banks.{bank_slots, number}
+use Rattle.ddr_hazards.specs.Banks.{number}
 use Rattle.ddr_hazards.proofs.BusyLemmas.{busy_is}
 use Rattle.ddr_hazards.proofs.pending.Pending.busy_banks.Goals as goal
 
