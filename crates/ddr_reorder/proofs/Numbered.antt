@@ -1,13 +1,14 @@
 -- The outstanding list, as the ring's slots under their numbers.
 use Rattle.std.proofs.Common.{◌≡◌, ℕ, zero, suc, ◌+◌, ◌<◌, Bool, true, false, ◌||◌, nat_eq, List, [], ◌∷◌, ◌++◌, length, map, take, drop, set, Option, Some, None, is_some, is_none, refl, ap, arith}
 use Rattle.std.specs.List.{list_any, prefix_len, range_with_len, slice_get}
-use Rattle.std.specs.Global.{Box}
 use Rattle.std.proofs.lemmas.Bool.Decides.{nat_tests}
 use Rattle.std.specs.Option.{option_map, option_map_or}
 use Rattle.ddr_address_map.specs.declared.request.Echo.{Echo}
 use Rattle.ddr_reorder.specs.Replies.{is_filled}
 use Rattle.ddr_reorder.specs.State.{Outstanding, is_awaited, filled}
 use Rattle.ddr_reorder.specs.View.{has_line, waits_for, outstanding_of, numbered}
+use Rattle.ddr_reorder.specs.declared.reply.Service.{Service}
+use Rattle.ddr_reorder.specs.declared.slot.Returned.{Returned}
 use Rattle.ddr_reorder.specs.declared.slot.Slot.{Slot}
 
 pub length-numbered : (f : ℕ) (slots : List Slot) → length (numbered f slots) ≡ length slots
@@ -38,7 +39,7 @@ drop-numbered (suc k) f n [] e = refl
 drop-numbered (suc k) f n (slot ∷ slots) e = drop-numbered k (f + 1) n slots (omega arith)
 
 is_filled-outstanding_of : (n : ℕ) (slot : Slot) → is_filled (outstanding_of n slot) ≡ has_line slot
-is_filled-outstanding_of n slot = elim slot.line as (λ l. is_some (option_map (λ b. b.value) l) ≡ is_some l) [ Some b ↦ refl | None ↦ refl ]
+is_filled-outstanding_of n slot = elim slot.returned as (λ l. is_some (option_map (λ b. b.line.value) l) ≡ is_some l) [ Some b ↦ refl | None ↦ refl ]
 
 pub prefix_len-numbered : (f : ℕ) (slots : List Slot) → prefix_len is_filled (numbered f slots) ≡ prefix_len has_line slots
 prefix_len-numbered f [] = refl
@@ -50,38 +51,38 @@ same_number m n e = grind (arith, nat_tests)
 other_number : (m n : ℕ) → n < m → nat_eq m n ≡ false
 other_number m n h = grind (arith, nat_tests)
 
-filled-other : (number : ℕ) (line : List ℕ) (o : Outstanding) → nat_eq o.number number ≡ false → filled number line o ≡ o
-filled-other number line o e = rw e refl
+filled-other : (number : ℕ) (service : Service) (line : List ℕ) (o : Outstanding) → nat_eq o.number number ≡ false → filled number service line o ≡ o
+filled-other number service line o e = rw e refl
 
-filled-same : (number : ℕ) (line : List ℕ) (o : Outstanding) → nat_eq o.number number ≡ true → filled number line o ≡ record o { line = Some line }
-filled-same number line o e = rw e refl
+filled-same : (number : ℕ) (service : Service) (line : List ℕ) (o : Outstanding) → nat_eq o.number number ≡ true → filled number service line o ≡ record o { line = Some line; service = Some service }
+filled-same number service line o e = rw e refl
 
 -- no slot has a number below the first
-map-filled_below : (number : ℕ) (line : List ℕ) (f : ℕ) (slots : List Slot) → number < f → map (filled number line) (numbered f slots) ≡ numbered f slots
-map-filled_below number line f [] below = refl
-map-filled_below number line f (slot ∷ slots) below =
-    let here = filled-other number line (outstanding_of f slot) (other_number f number below) in
-    let rest = map-filled_below number line (f + 1) slots (omega arith) in
+map-filled_below : (number : ℕ) (service : Service) (line : List ℕ) (f : ℕ) (slots : List Slot) → number < f → map (filled number service line) (numbered f slots) ≡ numbered f slots
+map-filled_below number service line f [] below = refl
+map-filled_below number service line f (slot ∷ slots) below =
+    let here = filled-other number service line (outstanding_of f slot) (other_number f number below) in
+    let rest = map-filled_below number service line (f + 1) slots (omega arith) in
     rw (here, rest) refl
 
 -- a line that has come back stands in its slot
-pub numbered-set : (number f : ℕ) (slots : List Slot) (i : ℕ) (old : Slot) (line : Box (List ℕ)) → f + i ≡ number → slice_get slots i ≡ Some old → numbered f (set slots i (record { echo = old.echo; line = Some line })) ≡ map (filled number line.value) (numbered f slots)
-numbered-set number f [] i old line e at = refl
-numbered-set number f (slot ∷ slots) zero old line e at =
+pub numbered-set : (number f : ℕ) (slots : List Slot) (i : ℕ) (old : Slot) (back : Returned) → f + i ≡ number → slice_get slots i ≡ Some old → numbered f (set slots i (record { echo = old.echo; returned = Some back })) ≡ map (filled number back.service back.line.value) (numbered f slots)
+numbered-set number f [] i old back e at = refl
+numbered-set number f (slot ∷ slots) zero old back e at =
     let same : slot ≡ old = cc in
-    let here = filled-same number line.value (outstanding_of f slot) (same_number f number (omega arith)) in
-    let rest = map-filled_below number line.value (f + 1) slots (omega arith) in
+    let here = filled-same number back.service back.line.value (outstanding_of f slot) (same_number f number (omega arith)) in
+    let rest = map-filled_below number back.service back.line.value (f + 1) slots (omega arith) in
     rw (here, rest, same) refl
-numbered-set number f (slot ∷ slots) (suc i) old line e at =
-    let here = filled-other number line.value (outstanding_of f slot) (grind (arith, nat_tests)) in
-    let rest = numbered-set number (f + 1) slots i old line (omega arith) at in
+numbered-set number f (slot ∷ slots) (suc i) old back e at =
+    let here = filled-other number back.service back.line.value (outstanding_of f slot) (grind (arith, nat_tests)) in
+    let rest = numbered-set number (f + 1) slots i old back (omega arith) at in
     rw (here, rest) refl
 
 or_false : (b : Bool) → (b || false) ≡ b
 or_false true = refl
 or_false false = refl
 
-is_none-option_map : (o : Option (Box (List ℕ))) → is_none (option_map (λ b. b.value) o) ≡ is_none o
+is_none-option_map : (o : Option Returned) → is_none (option_map (λ b. b.line.value) o) ≡ is_none o
 is_none-option_map (Some b) = refl
 is_none-option_map None = refl
 
@@ -95,7 +96,7 @@ awaited_below number echo f (slot ∷ slots) below =
 pub awaited_at : (number : ℕ) (echo : Echo) (f : ℕ) (slots : List Slot) (i : ℕ) → f + i ≡ number → list_any (is_awaited number echo) (numbered f slots) ≡ option_map_or (waits_for echo) (slice_get slots i) false
 awaited_at number echo f [] i e = refl
 awaited_at number echo f (slot ∷ slots) zero e =
-    rw (same_number f number (omega arith), awaited_below number echo (f + 1) slots (omega arith), is_none-option_map slot.line) (or_false _)
+    rw (same_number f number (omega arith), awaited_below number echo (f + 1) slots (omega arith), is_none-option_map slot.returned) (or_false _)
 awaited_at number echo f (slot ∷ slots) (suc i) e =
     let off : nat_eq f number ≡ false = grind (arith, nat_tests) in
     rw off (awaited_at number echo (f + 1) slots i (omega arith))

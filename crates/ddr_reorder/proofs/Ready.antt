@@ -1,15 +1,15 @@
 -- What stands ready in a reorder buffer, by its slots.
 use Rattle.std.proofs.Common.{◌≡◌, ℕ, zero, suc, ◌+◌, ◌-◌, ◌<◌, ◌≤◌, List, [], ◌∷◌, length, take, Option, Some, None, refl, sym, ap, subst, ◌∙◌, arith}
-use Rattle.std.specs.Global.{Box}
 use Rattle.std.specs.List.{AllByRecursion, prefix_len, slice_get}
 use Rattle.std.specs.Option.{option_and_then, option_map}
 use Rattle.std.proofs.lemmas.List.{length-take-le}
 use Rattle.std.proofs.lemmas.List.Sums.{prefix_len-le-length}
 use Rattle.std.proofs.lemmas.Option.{slice_get_past}
-use Rattle.ddr_reorder.specs.Replies.{Answer, answer_of, front_number, is_filled, lent_bytes, nth_answer, ready_count}
-use Rattle.ddr_reorder.specs.State.{ReorderState}
+use Rattle.ddr_reorder.specs.Replies.{Answer, answer_of, filled_prefix, front_number, is_filled, nth_answer, nth_service, ready_count}
+use Rattle.ddr_reorder.specs.State.{Outstanding, ReorderState}
 use Rattle.ddr_reorder.specs.View.{outstanding_of, state_of, IsWithin, IsWhole}
 use Rattle.ddr_reorder.specs.declared.reorder.Reorder.TheInside.{Inside}
+use Rattle.ddr_reorder.specs.declared.slot.Returned.{Returned}
 use Rattle.ddr_reorder.specs.declared.slot.Slot.{Slot}
 use Rattle.ddr_reorder.proofs.Numbered.{length-numbered, prefix_len-numbered, slice_get-numbered}
 use Rattle.ddr_reorder.proofs.Prefix.{slice_get-take}
@@ -26,35 +26,43 @@ ready_whole a whole =
     let os = (state_of a).outstanding in
     sym (ready_prefix a whole) ∙ sym (length-take-le (prefix_len is_filled os) os (prefix_len-le-length is_filled os))
 
--- past what is ready there is no answer
-pub nth_past : (a : Inside) (k : ℕ) → IsWhole a → a.ready ≤ k → nth_answer (state_of a) k ≡ None
-nth_past a k whole past =
+-- past what is ready there is nothing
+past_ready : {Y : Type 0} (f : Outstanding → Option Y) (a : Inside) (k : ℕ) → IsWhole a → a.ready ≤ k → option_and_then f (slice_get (filled_prefix (state_of a)) k) ≡ None
+past_ready f a k whole past =
     let os = (state_of a).outstanding in
-    ap (option_and_then answer_of) (slice_get_past (take (prefix_len is_filled os) os) k (omega (arith, ready_whole a whole)))
+    ap (option_and_then f) (slice_get_past (take (prefix_len is_filled os) os) k (omega (arith, ready_whole a whole)))
+
+pub nth_past : (a : Inside) (k : ℕ) → IsWhole a → a.ready ≤ k → nth_answer (state_of a) k ≡ None
+nth_past a k whole past = past_ready answer_of a k whole past
+
+pub service_past : (a : Inside) (k : ℕ) → IsWhole a → a.ready ≤ k → nth_service (state_of a) k ≡ None
+service_past a k whole past = past_ready (λ o. o.service) a k whole past
 
 and_then-map : {X Y Z : Type 0} (f : Y → Option Z) (g : X → Y) (o : Option X) → option_and_then f (option_map g o) ≡ option_and_then (λ x. f (g x)) o
 and_then-map f g (Some x) = refl
 and_then-map f g None = refl
 
--- within it the answer is that of a slot
-pub nth_ready : (a : Inside) (k : ℕ) → IsWhole a → k < a.ready → nth_answer (state_of a) k ≡ option_and_then (λ slot. answer_of (outstanding_of (first_of a + k) slot)) (slice_get a.slots.items k)
-nth_ready a k whole within =
+-- within it there is what the slot has
+within_ready : {Y : Type 0} (f : Outstanding → Option Y) (a : Inside) (k n : ℕ) (o : Option Slot) → IsWhole a → k < a.ready → n ≡ first_of a → slice_get a.slots.items k ≡ o
+    → option_and_then f (slice_get (filled_prefix (state_of a)) k) ≡ option_and_then (λ slot. f (outstanding_of (n + k) slot)) o
+within_ready f a k n o whole within first at =
     let os = (state_of a).outstanding in
     let taken = slice_get-take (prefix_len is_filled os) os k (omega (arith, ready_prefix a whole)) in
-    ap (option_and_then answer_of) (taken ∙ slice_get-numbered (first_of a) (first_of a + k) a.slots.items k refl)
-    ∙ and_then-map answer_of (outstanding_of (first_of a + k)) (slice_get a.slots.items k)
+    let number : first_of a + k ≡ n + k = omega arith in
+    ap (option_and_then f) (taken ∙ slice_get-numbered (first_of a) (first_of a + k) a.slots.items k refl)
+    ∙ and_then-map f (outstanding_of (first_of a + k)) (slice_get a.slots.items k)
+    ∙ ap (option_and_then (λ slot. f (outstanding_of (first_of a + k) slot))) at
+    ∙ ap (λ m. option_and_then (λ slot. f (outstanding_of m slot)) o) number
 
--- a slot's answer, with these bytes
-abbrev pub answer_with : ℕ → Slot → List ℕ → Answer
-answer_with n slot bytes = record { number = n; echo = slot.echo; bytes = bytes }
+-- the answer of a slot that is ready, if there is one
+pub nth_slot : (a : Inside) (k n : ℕ) (o : Option Slot) → IsWhole a → k < a.ready → n ≡ first_of a → slice_get a.slots.items k ≡ o
+    → nth_answer (state_of a) k ≡ option_and_then (λ slot. answer_of (outstanding_of (n + k) slot)) o
+nth_slot a k n o whole within first at = within_ready answer_of a k n o whole within first at
 
--- a slot's answer, by what is lent of its line
-pub answer_lent : (n : ℕ) (slot : Slot) (lent : Option (List ℕ)) → lent ≡ option_map (λ line. lent_bytes slot.echo line.value) slot.line → answer_of (outstanding_of n slot) ≡ option_map (answer_with n slot) lent
-answer_lent n slot lent e = by_line slot.line ∙ ap (option_map (answer_with n slot)) (sym e)
-  where
-    by_line : (o : Option (Box (List ℕ))) → option_map (λ line. answer_with n slot (lent_bytes slot.echo line)) (option_map (λ b. b.value) o) ≡ option_map (answer_with n slot) (option_map (λ line. lent_bytes slot.echo line.value) o)
-    by_line (Some b) = refl
-    by_line None = refl
+-- and when it was served
+pub service_slot : (a : Inside) (k n : ℕ) (o : Option Slot) → IsWhole a → k < a.ready → n ≡ first_of a → slice_get a.slots.items k ≡ o
+    → nth_service (state_of a) k ≡ option_and_then (λ slot. (outstanding_of (n + k) slot).service) o
+service_slot a k n o whole within first at = within_ready (λ o. o.service) a k n o whole within first at
 
 -- the oldest number, as it was told
 pub first_is : (a : Inside) (s : ReorderState) (n : ℕ) → IsWhole a → state_of a ≡ s → n + length s.outstanding ≡ s.next → n ≡ first_of a
@@ -63,13 +71,6 @@ first_is a s n whole is told =
     let next = ap (λ (r : ReorderState). r.next) is in
     omega (arith, count, next, told, length-numbered (first_of a) a.slots.items, whole.begun)
 
--- the answer of a slot that is ready
-pub nth_slot : (a : Inside) (k n : ℕ) (slot : Slot) → IsWhole a → k < a.ready → n ≡ first_of a → slice_get a.slots.items k ≡ Some slot → nth_answer (state_of a) k ≡ answer_of (outstanding_of (n + k) slot)
-nth_slot a k n slot whole within first at =
-    nth_ready a k whole within
-    ∙ ap (option_and_then (λ s. answer_of (outstanding_of (first_of a + k) s))) at
-    ∙ ap (λ m. answer_of (outstanding_of (m + k) slot)) (sym first)
-
 -- what a slot of the ring keeps
 pub within_at : (slots : List Slot) (k : ℕ) (slot : Slot) → AllByRecursion IsWithin slots → slice_get slots k ≡ Some slot → IsWithin slot
 within_at [] k slot all at = absurd (cc)
@@ -77,10 +78,10 @@ within_at (first ∷ slots) zero slot all at = let same : first ≡ slot = cc in
 within_at (first ∷ slots) (suc k) slot all at = within_at slots k slot all.1 at
 
 -- the number of the oldest slot, which is ready
-pub front_ready : (a : Inside) (n : ℕ) (slot : Slot) (line : Box (List ℕ)) → IsWhole a → 0 < a.ready → n ≡ first_of a → slice_get a.slots.items 0 ≡ Some slot → slot.line ≡ Some line → Some n ≡ front_number (state_of a)
-front_ready a n slot line whole some first at filled =
-    let answer = nth_slot a 0 n slot whole some first at in
+pub front_ready : (a : Inside) (n : ℕ) (slot : Slot) (back : Returned) → IsWhole a → 0 < a.ready → n ≡ first_of a → slice_get a.slots.items 0 ≡ Some slot → slot.returned ≡ Some back → Some n ≡ front_number (state_of a)
+front_ready a n slot back whole some first at filled =
+    let answer = nth_slot a 0 n (Some slot) whole some first at in
     let number : n ≡ n + 0 = omega arith in
     ap Some number
-    ∙ sym (ap (λ l. option_map (λ o. o.number) (option_map (λ bytes. answer_with (n + 0) slot (lent_bytes slot.echo bytes)) (option_map (λ (b : Box (List ℕ)). b.value) l))) filled)
+    ∙ sym (ap (λ r. option_map (λ (o : Answer). o.number) (answer_of (outstanding_of (n + 0) (record { echo = slot.echo; returned = r })))) filled)
     ∙ ap (option_map (λ (o : Answer). o.number)) (sym answer)

@@ -1,6 +1,5 @@
 -- What the fields of a reorder buffer keep, and what every state has of it.
 use Rattle.std.proofs.Common.{◌≡◌, Bool, cond, nat_eq, ℕ, zero, suc, ◌+◌, ◌-◌, ◌<◌, ◌≤◌, List, [], ◌∷◌, ◌++◌, length, take, drop, Option, Some, None, is_some, IsSomeAnd, vec_len, vec_capacity, refl, sym, ap, subst, ◌∙◌, arith}
-use Rattle.std.specs.Global.{Box}
 use Rattle.std.specs.List.{AllByRecursion, prefix_len, slice_get}
 use Rattle.std.specs.Option.{option_map}
 use Rattle.std.proofs.lemmas.Bool.{ne_eqb}
@@ -17,6 +16,7 @@ use Rattle.ddr_reorder.specs.declared.refusal.ReorderError.TheVariants.{WindowFu
 use Rattle.ddr_reorder.specs.State.{Outstanding, ReorderState, IsWithinLine, IsRecallable, issue_refusal, after_issue, newest, after_recall, after_release}
 use Rattle.ddr_reorder.specs.View.{has_line, outstanding_of, numbered, state_of, IsWithin, IsWhole}
 use Rattle.ddr_reorder.specs.declared.reorder.Reorder.TheInside.{Inside}
+use Rattle.ddr_reorder.specs.declared.slot.Returned.{Returned}
 use Rattle.ddr_reorder.specs.declared.slot.Slot.{Slot}
 use Rattle.ddr_reorder.proofs.Numbered.{length-numbered, map-numbered, numbered-append, slice_get-numbered, take-numbered, drop-numbered}
 use Rattle.ddr_reorder.proofs.Prefix.{prefix_len-push, prefix_len-drop, split_last}
@@ -63,7 +63,7 @@ within_push (first ∷ slots) slot all fit = (all.0, within_push slots slot all.
 
 -- a slot for a number that was just issued
 abbrev pub issued_slot : Echo → Slot
-issued_slot echo = record { echo = echo; line = None }
+issued_slot echo = record { echo = echo; returned = None }
 
 -- one more slot, and one box less
 pub whole_issued : (a b : Inside) (echo : Echo) → IsWhole a → a.next < CLOCK_STOP → IsWithinLine echo → b.next ≡ a.next + 1 → b.ready ≡ a.ready → b.slots ≡ buffer (a.slots.items ++ issued_slot echo ∷ []) a.slots.capacity → vec_len b.spares + 1 ≡ vec_len a.spares → vec_capacity b.spares ≡ vec_capacity a.spares → IsWhole b
@@ -99,10 +99,10 @@ refusal_whole a full left is_full =
 pub record IsLast (a : Inside) (number : ℕ) (slot : Slot) : Type 0 where
   pub some : length a.slots.items ≡ (length a.slots.items - 1) + 1
   pub there : slice_get a.slots.items (length a.slots.items - 1) ≡ Some slot
-  pub unfilled : slot.line ≡ None
+  pub unfilled : slot.returned ≡ None
   pub numbered : number + 1 ≡ a.next
 
-no_line : (o : Option (Box (List ℕ))) → option_map (λ b. b.value) o ≡ None → o ≡ None
+no_line : (o : Option Returned) → option_map (λ b. b.line.value) o ≡ None → o ≡ None
 no_line (Some b) e = absurd (cc)
 no_line None e = refl
 
@@ -119,7 +119,7 @@ last_slot a number whole h =
     by_slot None e h = absurd h
     by_slot (Some slot) e h =
         let within = slice_get_within a.slots.items (length a.slots.items - 1) slot e in
-        (slot, record { some = omega arith; there = e; unfilled = no_line slot.line h.1; numbered = omega (arith, h.0, whole.begun) })
+        (slot, record { some = omega arith; there = e; unfilled = no_line slot.returned h.1; numbered = omega (arith, h.0, whole.begun) })
 
 within_take : (k : ℕ) (slots : List Slot) → AllByRecursion IsWithin slots → AllByRecursion IsWithin (take k slots)
 within_take zero slots all = tt
@@ -159,7 +159,7 @@ state_recalled a b slot whole last slots =
 -- a number that was just issued is the newest
 recallable-issue : (s : ReorderState) (echo : Echo) → IsRecallable (after_issue echo s) s.next
 recallable-issue s echo =
-    let last : Outstanding = record { number = s.next; echo = echo; line = None } in
+    let last : Outstanding = record { number = s.next; echo = echo; line = None; service = None } in
     let one : length (s.outstanding ++ last ∷ []) - 1 ≡ length s.outstanding + 0 = omega (arith, length_push s.outstanding last) in
     let at = slice_get-append_right s.outstanding (last ∷ []) (length (s.outstanding ++ last ∷ []) - 1) 0 one in
     rw at (refl, refl)
@@ -170,7 +170,7 @@ recallable_issued s t echo number after is = rw (after, is) (recallable-issue s 
 -- to take the newest number back undoes its issue
 pub recall-issue : (s : ReorderState) (echo : Echo) → after_recall (after_issue echo s) ≡ s
 recall-issue s echo =
-    let newest : Outstanding = record { number = s.next; echo = echo; line = None } in
+    let newest : Outstanding = record { number = s.next; echo = echo; line = None; service = None } in
     let next : s.next + 1 - 1 ≡ s.next = omega arith in
     let one : length (s.outstanding ++ newest ∷ []) - 1 ≡ length s.outstanding = omega (arith, length_push s.outstanding newest) in
     let rest = take_at s.outstanding (newest ∷ []) (length s.outstanding) refl in

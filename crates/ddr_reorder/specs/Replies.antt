@@ -7,6 +7,7 @@ use Rattle.ddr_address_map.specs.declared.request.Echo.{Echo}
 use Rattle.ddr_address_map.specs.declared.request.Kind.{Kind}
 use Rattle.ddr_address_map.specs.declared.request.Kind.TheVariants.{Read, Write}
 use Rattle.ddr_reorder.specs.declared.reply.Reply.{Reply}
+use Rattle.ddr_reorder.specs.declared.reply.Service.{Service}
 use Rattle.ddr_reorder.specs.State.{Outstanding, ReorderState}
 
 -- a reply: the request's number and echo, and for a read its bytes
@@ -18,6 +19,10 @@ pub record Answer : Type 0 where
 -- what a lent reply says
 abbrev pub said : Reply → Answer
 said r = record { number = r.number; echo = r.echo; bytes = r.bytes.now }
+
+-- when its request was served, as the lent reply tells
+abbrev pub lent_service : Reply → Service
+lent_service r = record { issued = r.issued; due = r.due }
 
 -- the bytes asked for of a line, from this offset on: for a write none
 abbrev pub asked_bytes : Kind → ℕ → ℕ → List ℕ → List ℕ
@@ -53,6 +58,10 @@ ready_count s = length (filled_prefix s)
 -- the k-th of the replies that stand ready, from 0
 abbrev pub nth_answer : ReorderState → ℕ → Option Answer
 nth_answer s k = option_and_then answer_of (slice_get (filled_prefix s) k)
+
+-- when its request was served
+abbrev pub nth_service : ReorderState → ℕ → Option Service
+nth_service s k = option_and_then (λ o. o.service) (slice_get (filled_prefix s) k)
 
 -- the number of the oldest reply, where it stands ready
 abbrev pub front_number : ReorderState → Option ℕ

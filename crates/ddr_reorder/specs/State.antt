@@ -7,12 +7,15 @@ use Rattle.ddr_address_map.specs.declared.request.Kind.{Kind}
 use Rattle.ddr_address_map.specs.declared.request.Kind.TheVariants.{Read, Write}
 use Rattle.ddr_reorder.specs.declared.refusal.ReorderError.{ReorderError}
 use Rattle.ddr_reorder.specs.declared.refusal.ReorderError.TheVariants.{Spent, WindowFull}
+use Rattle.ddr_reorder.specs.declared.reply.Service.{Service}
 
--- a number from its issue to its release: what its request asked for, and its line once that has come back
+-- a number from its issue to its release: what its request asked for, and once it has come back its line, and the cycles in
+-- which it was served
 pub record Outstanding : Type 0 where
   pub number : ℕ
   pub echo : Echo
   pub line : Option (List ℕ)
+  pub service : Option Service
 
 pub record ReorderState : Type 0 where
   -- the most numbers that may be outstanding at a time
@@ -41,7 +44,7 @@ issue_refusal s =
 abbrev pub after_issue : Echo → ReorderState → ReorderState
 after_issue echo s = record s {
   next = s.next + 1;
-  outstanding = s.outstanding ++ record { number = s.next; echo = echo; line = None } ∷ [];
+  outstanding = s.outstanding ++ record { number = s.next; echo = echo; line = None; service = None } ∷ [];
 }
 
 -- the number that was issued last, if it is outstanding
@@ -75,13 +78,13 @@ is_awaited number echo o = o.number == number && is_same_echo o.echo echo && is_
 abbrev pub awaits : ReorderState → ℕ → Echo → Bool
 awaits s number echo = list_any (is_awaited number echo) s.outstanding
 
--- the outstanding number, with its line if it is this one
-abbrev pub filled : ℕ → List ℕ → Outstanding → Outstanding
-filled number line o = if o.number == number then record o { line = Some line } else o
+-- the outstanding number, with its line and the cycles in which it was served if it is this one
+abbrev pub filled : ℕ → Service → List ℕ → Outstanding → Outstanding
+filled number service line o = if o.number == number then record o { line = Some line; service = Some service } else o
 
 -- after the line of a number has come back
-abbrev pub after_fill : ℕ → List ℕ → ReorderState → ReorderState
-after_fill number line s = record s { outstanding = map (filled number line) s.outstanding }
+abbrev pub after_fill : ℕ → Service → List ℕ → ReorderState → ReorderState
+after_fill number service line s = record s { outstanding = map (filled number service line) s.outstanding }
 
 -- after the oldest number was given up
 abbrev pub after_release : ReorderState → ReorderState

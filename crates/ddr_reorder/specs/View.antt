@@ -10,11 +10,11 @@ use Rattle.ddr_reorder.specs.State.{Outstanding, ReorderState, IsWithinLine, is_
 
 -- the slot's line has come back
 abbrev pub has_line : Slot → Bool
-has_line slot = is_some slot.line
+has_line slot = is_some slot.returned
 
 -- the line for this echo has yet to come back
 abbrev pub waits_for : Echo → Slot → Bool
-waits_for echo slot = is_same_echo slot.echo echo && is_none slot.line
+waits_for echo slot = is_same_echo slot.echo echo && is_none slot.returned
 
 -- what the slot is asked for lies in one line
 abbrev pub IsWithin : Slot → Type 0
@@ -22,7 +22,12 @@ IsWithin slot = IsWithinLine slot.echo
 
 -- a slot, under its number
 abbrev pub outstanding_of : ℕ → Slot → Outstanding
-outstanding_of number slot = record { number = number; echo = slot.echo; line = option_map (λ line. line.value) slot.line }
+outstanding_of number slot = record {
+  number = number;
+  echo = slot.echo;
+  line = option_map (λ r. r.line.value) slot.returned;
+  service = option_map (λ r. r.service) slot.returned;
+}
 
 -- the slots under the numbers from this one on
 abbrev pub numbered : ℕ → List Slot → List Outstanding

@@ -2,13 +2,13 @@
 ghost use Rattle.std.specs.Prelude.{◌≡◌, ◌+◌, ◌≤◌, IfSome, is_ok, IfErr, IfOk, OnErr, OnOk, OnSome, IfNone, length};
 ghost use Rattle.std.specs.Option.{option_map};
 ghost use Rattle.std.specs.Result.{result_err};
-ghost use Rattle.ddr_reorder.specs.Replies.{front_number, lent_count, nth_answer, ready_count, said};
+ghost use Rattle.ddr_reorder.specs.Replies.{front_number, lent_count, lent_service, nth_answer, nth_service, ready_count, said};
 ghost use Rattle.ddr_reorder.specs.Sound.{IsSound};
 ghost use Rattle.ddr_reorder.specs.State.{ReorderState, IsWithinLine, opened, issue_refusal, after_issue, IsRecallable, after_recall, awaits, after_fill, after_release};
 
 use crate::refusal::{ReorderError, Stray};
-use crate::reply::Reply;
-use crate::slot::{Slot, filled_prefix, pop_newest, push, put_line};
+use crate::reply::{Reply, Service};
+use crate::slot::{Returned, Slot, filled_prefix, pop_newest, push, put_line};
 use circular_buffer::HeapCircularBuffer;
 use ddr_address_map::request::{Echo, Line};
 use ddr_timing::units::{CLOCK_STOP, LINE_BYTES};
@@ -21,7 +21,7 @@ pub const WIDEST_WINDOW: usize = 64;
 /// The outstanding numbers of one port, each from its `issue` to its `release`.
 ///
 /// Contracts see the window, the next number and the outstanding list: each number with its echo and,
-/// once it has come back, its line. All boxes are made at `open`, and no other call takes memory.
+/// once it has come back, its line and the cycles in which it was served. All boxes are made at `open`, and no other call takes memory.
 #[derive(Drop)]
 pub struct Reorder {
     next: u64,
@@ -110,34 +110,37 @@ impl Reorder {
         self.next = number;
     }
 
-    /// Puts the line of an outstanding number in its place. The line is handed back where no
-    /// outstanding number with this echo waits for it.
+    /// Puts the line of an outstanding number in its place, with the cycles in which it was served. The line is
+    /// handed back where no outstanding number with this echo waits for it.
     pub fn fill(
         &mut self,
         number: u64,
         echo: Echo,
+        service: Service,
         line: Box<Line>,
     ) -> Result<(), (Box<Line>, Stray)>
         ensures awaited { is_ok result ≡ awaits self.old number echo }
-        ensures ok { OnOk result (self.new ≡ after_fill number line.value self.old) }
+        ensures ok { OnOk result (self.new ≡ after_fill number service line.value self.old) }
         ensures err { IfErr result (λ back. (back.0 ≡ line) × (self.new ≡ self.old)) }
         ensures sound { IsSound self.new }
     {
         let Some(index) = number.checked_sub(self.first()) else {
             return Err((line, Stray));
         };
-        match put_line(&mut self.slots, index as usize, echo, line) {
+        let returned = Returned { service, line };
+        match put_line(&mut self.slots, index as usize, echo, returned) {
             Ok(()) => {
                 self.ready = filled_prefix(&self.slots, self.ready);
                 Ok(())
             }
-            Err(line) => Err((line, Stray)),
+            Err(back) => Err((back.line, Stray)),
         }
     }
 
     /// The oldest reply, where it is ready.
     pub fn front(&self) -> Option<Reply<'_>>
         ensures answer { option_map said result ≡ nth_answer self.now 0 }
+        ensures service { option_map lent_service result ≡ nth_service self.now 0 }
         ensures oldest { IfSome result (λ reply. reply.number + length self.now.outstanding ≡ self.now.next) }
         ensures count { IfSome result (λ reply. length reply.bytes.now ≡ lent_count reply.echo) }
         ensures sound { IsSound self.now }
@@ -148,6 +151,7 @@ impl Reorder {
     /// The reply with so many older ones. It is there exactly where it and all older ones are ready.
     pub fn nth(&self, k: usize) -> Option<Reply<'_>>
         ensures answer { option_map said result ≡ nth_answer self.now k }
+        ensures service { option_map lent_service result ≡ nth_service self.now k }
         ensures place { IfSome result (λ reply. reply.number + length self.now.outstanding ≡ self.now.next + k) }
         ensures count { IfSome result (λ reply. length reply.bytes.now ≡ lent_count reply.echo) }
         ensures sound { IsSound self.now }
@@ -155,12 +159,9 @@ impl Reorder {
         if k >= self.ready {
             return None;
         }
+        let number = self.first() + k as u64;
         let slot = self.slots.get(k)?;
-        Some(Reply {
-            number: self.first() + k as u64,
-            echo: slot.echo,
-            bytes: slot.bytes()?,
-        })
+        slot.reply(number)
     }
 
     /// How many replies are ready: the oldest numbers, up to the first whose line has not come back.
@@ -184,7 +185,7 @@ impl Reorder {
         }
         let number = self.first();
         let slot = self.slots.pop_front().unwrap();
-        self.spares.push(slot.line.unwrap()).unwrap();
+        self.spares.push(slot.returned.unwrap().line).unwrap();
         self.ready -= 1;
         Some(number)
     }

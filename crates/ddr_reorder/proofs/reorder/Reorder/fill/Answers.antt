@@ -22,14 +22,14 @@ returns-in_default-clause-sound c = subst IsSound c.self.view_is (sound_whole c.
 pub filled_prefix-self-inside-requires : goal.filled_prefix-self-inside-requires
 filled_prefix-self-inside-requires c =
     let a = c.self.inside in
-    let more = prefix_len-set has_line a.slots.items c.in-Some.index (filled_slot c.args.echo c.args.line) refl in
+    let more = prefix_len-set has_line a.slots.items c.in-Some.index (filled_slot c.args.echo (record { service = c.args.service; line = c.args.line })) refl in
     rw c.in-Ok.ensures.ok (omega (arith, c.self.invariant.ready))
 
 pub invariant_of-self : goal.invariant_of-self
 invariant_of-self c =
     let a = c.self.inside in
     let waiting = waiting_slot a c.in-Some.index c.args.echo c.in-Ok.ensures.waited in
-    whole_filled a _ c.in-Some.index c.args.echo waiting.0 c.args.line c.self.invariant waiting.1 refl c.in-Ok.ensures.ok c.filled_prefix-self-inside.ensures refl
+    whole_filled a _ c.in-Some.index c.args.echo waiting.0 (record { service = c.args.service; line = c.args.line }) c.self.invariant waiting.1 refl c.in-Ok.ensures.ok c.filled_prefix-self-inside.ensures refl
 
 pub returns-in-Ok-clause-awaited : goal.returns-in-Ok-clause-awaited
 returns-in-Ok-clause-awaited c =
@@ -46,8 +46,8 @@ returns-in-Ok-clause-ok c =
     let at : first_of a + c.in-Some.index ≡ c.args.number = omega (arith, c.in-Some.ensures) in
     let waiting = waiting_slot a c.in-Some.index c.args.echo c.in-Ok.ensures.waited in
     let b = record a { slots = c.put_line.new.slots; ready = c.filled_prefix-self-inside.result } in
-    state_filled a b c.args.number c.in-Some.index c.args.echo waiting.0 c.args.line waiting.1 at refl c.in-Ok.ensures.ok
-    ∙ ap (after_fill c.args.number c.args.line.value) c.self.view_is
+    state_filled a b c.args.number c.in-Some.index c.args.echo waiting.0 (record { service = c.args.service; line = c.args.line }) waiting.1 at refl c.in-Ok.ensures.ok
+    ∙ ap (after_fill c.args.number c.args.service c.args.line.value) c.self.view_is
 
 pub returns-in-Ok-clause-sound : goal.returns-in-Ok-clause-sound
 returns-in-Ok-clause-sound c = sound_whole _ (invariant_of-self c)
