@@ -119,13 +119,25 @@ fn take_back(port: &mut PortCore, asked: Asked) -> bool {
 
 /// A completion with this number, this echo and this line.
 fn done(alloc: Global, number: u64, echo: Echoed, line: &Line) -> Result<Done, AllocError> {
+    done_in(alloc, number, echo, line, (4, 12))
+}
+
+/// A completion of a request that was served in these cycles.
+fn done_in(
+    alloc: Global,
+    number: u64,
+    echo: Echoed,
+    line: &Line,
+    cycles: (u64, u64),
+) -> Result<Done, AllocError> {
     let (kind, addr, len) = echo;
+    let (issued, due) = cycles;
     Ok(Done {
         port: 0,
         number,
         echo: Echo { kind, addr, len },
-        issued: 4,
-        due: 12,
+        issued,
+        due,
         line: Box::new(alloc, *line)?,
     })
 }
@@ -265,6 +277,36 @@ fn gives_no_number_from_the_last_on(rt: HostRuntime) -> Result<(), Fail> {
 }
 
 const NINES: Line = [9; 64];
+
+/// The cycles of a write at address 0 and of a read behind it: WR in cycle 4, RD in cycle 15.
+const WRITTEN: (u64, u64) = (4, 11);
+
+const READ_BACK: (u64, u64) = (15, 23);
+
+/// The cycles in which the request of the reply with so many older ones was served.
+fn cycles_of(port: &PortCore, k: usize) -> Option<(u64, u64)> {
+    let reply = port.nth(k)?;
+    Some((reply.issued, reply.due))
+}
+
+/// Whether a write and a read of byte 0 get numbers, and both their completions are waited for, that of the read first.
+fn write_and_read(alloc: Global, port: &mut PortCore) -> Result<bool, AllocError> {
+    let asked = ask(port, Write(0, &[9])) == Ok(0) && ask(port, BYTE) == Ok(1);
+    let read = port.fill(done_in(alloc, 1, BYTE_ECHO, &NINES, READ_BACK)?);
+    let written = port.fill(done_in(alloc, 0, (Kind::Write, 0, 1), &NINES, WRITTEN)?);
+    Ok(asked && read.is_ok() && written.is_ok())
+}
+
+#[test]
+fn tells_in_which_cycles_a_request_was_served(rt: HostRuntime) -> Result<(), Fail> {
+    let mut port = open(rt.alloc(), 2, 0)?;
+    assert!(rt; write_and_read(rt.alloc(), &mut port)?);
+    assert_eq!(rt; cycles_of(&port, 0), Some(WRITTEN));
+    assert_eq!(rt; cycles_of(&port, 1), Some(READ_BACK));
+    let front = port.front().ok_or("no reply")?;
+    assert_eq!(rt; (front.issued, front.due), WRITTEN);
+    Ok(())
+}
 
 /// Only the completion that is waited for is taken, and only once.
 const STRAYS: &[Step] = &[

@@ -4,6 +4,7 @@ ghost use Rattle.ddr_reorder.specs.State.{IsWithinLine};
 use ddr_address_map::request::{Echo, Kind};
 use ddr_reorder::refusal::{ReorderError, Stray};
 use ddr_reorder::reorder::Reorder;
+use ddr_reorder::reply::{Reply, Service};
 use ddr_timing::units::CLOCK_STOP;
 use std::test::Fail;
 
@@ -29,6 +30,23 @@ fn write() -> Echo
     }
 }
 
+/// The cycles of a write at address 0 and of a read behind it, by profile S: WR in cycle 4, RD in cycle 15.
+const FIRST: Service = Service { issued: 4, due: 11 };
+
+const SECOND: Service = Service {
+    issued: 15,
+    due: 23,
+};
+
+/// The cycles in which the request of a reply was served.
+fn service(reply: Option<Reply<'_>>) -> Option<Service> {
+    let reply = reply?;
+    Some(Service {
+        issued: reply.issued,
+        due: reply.due,
+    })
+}
+
 #[test]
 fn lends_replies_in_the_order_of_their_numbers(rt: HostRuntime) -> Result<(), Fail> {
     let mut reorder = Reorder::open(rt.alloc(), 2, 40)?;
@@ -39,11 +57,13 @@ fn lends_replies_in_the_order_of_their_numbers(rt: HostRuntime) -> Result<(), Fa
     for (place, byte) in line.iter_mut().enumerate() {
         *byte = place as u8;
     }
-    assert!(rt; reorder.fill(41, write(), other).is_ok());
+    assert!(rt; reorder.fill(41, write(), FIRST, other).is_ok());
     assert_eq!(rt; (reorder.ready(), reorder.outstanding()), (0, 2));
     assert!(rt; reorder.front().is_none() && reorder.nth(1).is_none());
-    assert!(rt; reorder.fill(40, read(), line).is_ok());
+    assert!(rt; reorder.fill(40, read(), SECOND, line).is_ok());
     assert_eq!(rt; reorder.ready(), 2);
+    assert_eq!(rt; service(reorder.front()), Some(SECOND));
+    assert_eq!(rt; service(reorder.nth(1)), Some(FIRST));
     let reply = reorder.front().ok_or("no reply")?;
     assert_eq!(rt; (reply.number, reply.echo), (40, read()));
     assert_eq!(rt; reply.bytes, [3, 4, 5, 6, 7, 8, 9].as_slice());
@@ -66,10 +86,11 @@ fn takes_back_the_newest_number_and_no_stray_line(rt: HostRuntime) -> Result<(),
     assert_eq!(rt; reorder.outstanding(), 0);
     let (number, line) = reorder.issue(write()).ok().ok_or("no number")?;
     assert_eq!(rt; number, CLOCK_STOP - 1);
-    let (line, stray) = reorder.fill(number, read(), line).err().ok_or("filled")?;
+    let (line, stray) = reorder.fill(number, read(), FIRST, line).err().ok_or("filled")?;
     assert_eq!(rt; stray, Stray);
-    let (line, _) = reorder.fill(0, write(), line).err().ok_or("filled")?;
-    assert!(rt; reorder.fill(number, write(), line).is_ok());
+    let (line, _) = reorder.fill(0, write(), FIRST, line).err().ok_or("filled")?;
+    assert!(rt; reorder.fill(number, write(), SECOND, line).is_ok());
+    assert_eq!(rt; service(reorder.front()), Some(SECOND));
     assert_eq!(rt; reorder.release(), Some(number));
     assert_eq!(rt; reorder.issue(read()).err(), Some(ReorderError::Spent));
     Ok(())

@@ -6,6 +6,7 @@ use Rattle.ddr_timing.specs.declared.geometry.Geometry.{Geometry}
 use Rattle.ddr_address_map.specs.declared.place.Place.{Place}
 use Rattle.ddr_address_map.specs.Map.{place_of}
 use Rattle.ddr_address_map.specs.Requests.{Request, Completion}
+use Rattle.ddr_reorder.specs.declared.reply.Service.{Service}
 use Rattle.ddr_reorder.specs.State as reorder
 use Rattle.ddr_reorder.specs.State.{ReorderState, issue_refusal, after_issue, after_recall}
 use Rattle.ddr_ports.specs.Asked.{Asked, echo_of, first_address, len_of, is_within_line, mask_of, line_of}
@@ -63,9 +64,13 @@ after_prepare s asked = record s { reorder = after_issue (echo_of asked) s.reord
 abbrev pub after_retract : PortState → PortState
 after_retract s = record s { reorder = after_recall s.reorder }
 
+-- when a completed request was served
+abbrev pub service_of : Completion → Service
+service_of done = record { issued = done.issued; due = done.due }
+
 -- after a completed request has come back
 abbrev pub after_fill : Completion → PortState → PortState
-after_fill done s = record s { reorder = reorder.after_fill done.number done.line s.reorder }
+after_fill done s = record s { reorder = reorder.after_fill done.number (service_of done) done.line s.reorder }
 
 -- after the oldest reply was given up
 abbrev pub after_release : PortState → PortState

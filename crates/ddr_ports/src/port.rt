@@ -3,7 +3,7 @@ ghost use Rattle.std.specs.Prelude.{◌≡◌, ◌+◌, ◌≤◌, ◌==◌, is_
 ghost use Rattle.std.specs.Option.{option_map};
 ghost use Rattle.std.specs.Result.{result_err};
 ghost use Rattle.ddr_address_map.specs.Map.{in_range};
-ghost use Rattle.ddr_reorder.specs.Replies.{front_number, lent_count, nth_answer, ready_count, said};
+ghost use Rattle.ddr_reorder.specs.Replies.{front_number, lent_count, lent_service, nth_answer, nth_service, ready_count, said};
 ghost use Rattle.ddr_reorder.specs.Sound.{IsSound};
 ghost use Rattle.ddr_reorder.specs.State.{IsRecallable, awaits};
 ghost use Rattle.ddr_ports.specs.Asked.{Asked, asked_of};
@@ -15,7 +15,7 @@ use ddr_address_map::map::Map;
 use ddr_address_map::request::{Done, Echo, Req};
 use ddr_reorder::refusal::Stray;
 use ddr_reorder::reorder::Reorder;
-use ddr_reorder::reply::Reply;
+use ddr_reorder::reply::{Reply, Service};
 use ddr_timing::config::Config;
 use ddr_timing::units::{CLOCK_STOP, LINE_BYTES};
 use std::alloc::{AllocError, Global};
@@ -123,8 +123,8 @@ impl PortCore {
         self.reorder.recall(number, line);
     }
 
-    /// Puts the line of a completed request in its place. Where no outstanding number with its echo
-    /// waits for it, the line is dropped and nothing changes.
+    /// Puts the line of a completed request in its place, with the cycles in which it was served. Where no
+    /// outstanding number with its echo waits for it, the line is dropped and nothing changes.
     pub fn fill(&mut self, done: Done) -> Result<(), Stray>
         ensures awaited { is_ok result ≡ awaits self.old.reorder done.number done.echo }
         ensures ok { OnOk result (self.new ≡ after_fill done self.old) }
@@ -135,11 +135,12 @@ impl PortCore {
             port: _,
             number,
             echo,
-            issued: _,
-            due: _,
+            issued,
+            due,
             line,
         } = done;
-        match self.reorder.fill(number, echo, line) {
+        let service = Service { issued, due };
+        match self.reorder.fill(number, echo, service, line) {
             Ok(()) => Ok(()),
             Err((_, stray)) => Err(stray),
         }
@@ -148,6 +149,7 @@ impl PortCore {
     /// The oldest reply, where it is ready.
     pub fn front(&self) -> Option<Reply<'_>>
         ensures answer { option_map said result ≡ nth_answer self.now.reorder 0 }
+        ensures service { option_map lent_service result ≡ nth_service self.now.reorder 0 }
         ensures oldest { IfSome result (λ reply. reply.number + length self.now.reorder.outstanding ≡ self.now.reorder.next) }
         ensures count { IfSome result (λ reply. length reply.bytes.now ≡ lent_count reply.echo) }
         ensures sound { IsSound self.now.reorder }
@@ -158,6 +160,7 @@ impl PortCore {
     /// The reply with so many older ones. It is there exactly where it and all older ones are ready.
     pub fn nth(&self, k: usize) -> Option<Reply<'_>>
         ensures answer { option_map said result ≡ nth_answer self.now.reorder k }
+        ensures service { option_map lent_service result ≡ nth_service self.now.reorder k }
         ensures place { IfSome result (λ reply. reply.number + length self.now.reorder.outstanding ≡ self.now.reorder.next + k) }
         ensures count { IfSome result (λ reply. length reply.bytes.now ≡ lent_count reply.echo) }
         ensures sound { IsSound self.now.reorder }
