@@ -4,6 +4,7 @@ use Rattle.std.specs.List.{sum_by, range_with_len, slice_get}
 use Rattle.std.proofs.lemmas.Bool.{ne_eqb, eqb-true, eq-eqb}
 use Rattle.std.proofs.lemmas.List.Sums.{sum_by-cons}
 use Rattle.ddr_address_map.specs.Requests.{Request}
+use Rattle.ddr_reorder.specs.declared.reply.Service.{Service}
 use Rattle.ddr_reorder.specs.State.{Outstanding, filled}
 use Rattle.ddr_world.specs.declared.item.Item.{Item}
 use Rattle.ddr_world.specs.declared.item.Item.TheVariants as item
@@ -36,36 +37,36 @@ number_at a (x ∷ xs) zero e numbers is =
     ap (λ (y : Outstanding). y.number) (sym same) ∙ parts.0 ∙ omega arith
 number_at a (x ∷ xs) (suc j) e numbers is = number_at (a + 1) xs j e (numbers_tail a x xs numbers).1 is ∙ omega arith
 
-other_filled : (n : ℕ) (line : List ℕ) (x : Outstanding) → x.number ≢ n → filled n line x ≡ x
-other_filled n line x other = ap (λ b. cond b (record x { line = Some line }) x) (ne_eqb x.number n other)
+other_filled : (n : ℕ) (service : Service) (line : List ℕ) (x : Outstanding) → x.number ≢ n → filled n service line x ≡ x
+other_filled n service line x other = ap (λ b. cond b (record x { line = Some line; service = Some service }) x) (ne_eqb x.number n other)
 
-past_filled : (n : ℕ) (line : List ℕ) (a : ℕ) (xs : List Outstanding) → map (λ (x : Outstanding). x.number) xs ≡ range_with_len a (length xs) → n < a → map (filled n line) xs ≡ xs
-past_filled n line a [] numbers past = refl
-past_filled n line a (x ∷ xs) numbers past =
+past_filled : (n : ℕ) (service : Service) (line : List ℕ) (a : ℕ) (xs : List Outstanding) → map (λ (x : Outstanding). x.number) xs ≡ range_with_len a (length xs) → n < a → map (filled n service line) xs ≡ xs
+past_filled n service line a [] numbers past = refl
+past_filled n service line a (x ∷ xs) numbers past =
     let parts = numbers_tail a x xs numbers in
-    ap₂ ◌∷◌ (other_filled n line x (λ same. absurd (omega (arith, past, parts.0, same)))) (past_filled n line (a + 1) xs parts.1 (omega (arith, past)))
+    ap₂ ◌∷◌ (other_filled n service line x (λ same. absurd (omega (arith, past, parts.0, same)))) (past_filled n service line (a + 1) xs parts.1 (omega (arith, past)))
 
-same_filled : (n : ℕ) (line : List ℕ) (x : Outstanding) → x.number ≡ n → filled n line x ≡ record x { line = Some line }
-same_filled n line x same = ap (λ b. cond b (record x { line = Some line }) x) (eq-eqb x.number n same)
+same_filled : (n : ℕ) (service : Service) (line : List ℕ) (x : Outstanding) → x.number ≡ n → filled n service line x ≡ record x { line = Some line; service = Some service }
+same_filled n service line x same = ap (λ b. cond b (record x { line = Some line; service = Some service }) x) (eq-eqb x.number n same)
 
 -- a line that comes back takes its number from those that wait
-pub sum_filled : (f : ℕ → ℕ) (n : ℕ) (line : List ℕ) (a : ℕ) (xs : List Outstanding) (j : ℕ) (e : Outstanding) → map (λ (x : Outstanding). x.number) xs ≡ range_with_len a (length xs) → slice_get xs j ≡ Some e
-    → e.number ≡ n → e.line ≡ None → sum_by (weigh_waiting f) (map (filled n line) xs) + f n ≡ sum_by (weigh_waiting f) xs
-sum_filled f n line a [] j e numbers is number none = cc
-sum_filled f n line a (x ∷ xs) zero e numbers is number none =
+pub sum_filled : (f : ℕ → ℕ) (n : ℕ) (service : Service) (line : List ℕ) (a : ℕ) (xs : List Outstanding) (j : ℕ) (e : Outstanding) → map (λ (x : Outstanding). x.number) xs ≡ range_with_len a (length xs) → slice_get xs j ≡ Some e
+    → e.number ≡ n → e.line ≡ None → sum_by (weigh_waiting f) (map (filled n service line) xs) + f n ≡ sum_by (weigh_waiting f) xs
+sum_filled f n service line a [] j e numbers is number none = cc
+sum_filled f n service line a (x ∷ xs) zero e numbers is number none =
     let same : x ≡ e = cc in
     let parts = numbers_tail a x xs numbers in
     let its : x.number ≡ n = ap (λ (y : Outstanding). y.number) same ∙ number in
     let unfilled : x.line ≡ None = ap (λ (y : Outstanding). y.line) same ∙ none in
-    let list : map (filled n line) (x ∷ xs) ≡ record x { line = Some line } ∷ xs = ap₂ ◌∷◌ (same_filled n line x its) (past_filled n line (a + 1) xs parts.1 (omega (arith, parts.0, its))) in
+    let list : map (filled n service line) (x ∷ xs) ≡ record x { line = Some line; service = Some service } ∷ xs = ap₂ ◌∷◌ (same_filled n service line x its) (past_filled n service line (a + 1) xs parts.1 (omega (arith, parts.0, its))) in
     let weighs : weigh_waiting f x ≡ f n = ap₂ (λ (l : Option (List ℕ)) (m : ℕ). cond (is_none l) (f m) 0) unfilled its in
-    omega (arith, ap (sum_by (weigh_waiting f)) list, sum_by-cons (weigh_waiting f) (record x { line = Some line }) xs, sum_by-cons (weigh_waiting f) x xs, weighs)
-sum_filled f n line a (x ∷ xs) (suc j) e numbers is number none =
+    omega (arith, ap (sum_by (weigh_waiting f)) list, sum_by-cons (weigh_waiting f) (record x { line = Some line; service = Some service }) xs, sum_by-cons (weigh_waiting f) x xs, weighs)
+sum_filled f n service line a (x ∷ xs) (suc j) e numbers is number none =
     let parts = numbers_tail a x xs numbers in
     let far = number_at (a + 1) xs j e parts.1 is in
-    let kept = other_filled n line x (λ same. absurd (omega (arith, far, number, parts.0, same))) in
-    let rest = sum_filled f n line (a + 1) xs j e parts.1 is number none in
-    omega (arith, ap (λ (y : Outstanding). sum_by (weigh_waiting f) (y ∷ map (filled n line) xs)) kept, sum_by-cons (weigh_waiting f) x (map (filled n line) xs), sum_by-cons (weigh_waiting f) x xs, rest)
+    let kept = other_filled n service line x (λ same. absurd (omega (arith, far, number, parts.0, same))) in
+    let rest = sum_filled f n service line (a + 1) xs j e parts.1 is number none in
+    omega (arith, ap (λ (y : Outstanding). sum_by (weigh_waiting f) (y ∷ map (filled n service line) xs)) kept, sum_by-cons (weigh_waiting f) x (map (filled n service line) xs), sum_by-cons (weigh_waiting f) x xs, rest)
 
 -- a number that waits is there
 

@@ -1,5 +1,5 @@
 -- Events that change one channel alone, or one port alone.
-use Rattle.std.proofs.Common.{◌≡◌, ◌≢◌, ℕ, zero, suc, ◌+◌, ◌≤◌, ◌⊎◌, Bool, true, false, cond, eqb, List, [], ◌∷◌, ◌++◌, Some, map, take, drop, length, set, refl, sym, ap, ap₂, subst, ◌∙◌, inl, inr, arith}
+use Rattle.std.proofs.Common.{◌≡◌, ◌≢◌, ℕ, zero, suc, ◌+◌, ◌≤◌, ◌⊎◌, Bool, true, false, cond, eqb, List, [], ◌∷◌, ◌++◌, Option, Some, None, map, take, drop, length, set, refl, sym, ap, ap₂, subst, ◌∙◌, inl, inr, arith}
 use Rattle.std.specs.List.{sum_by, slice_get}
 use Rattle.std.proofs.lemmas.Bool.{ne_eqb, eq-eqb, eqb-true, eqb-false}
 use Rattle.std.proofs.lemmas.List.{length-set, append_assoc}
@@ -21,13 +21,18 @@ use Rattle.ddr_channel.specs.State.{after_admit, after_pop, is_queue_full}
 use Rattle.ddr_channel.proofs.HeldLemmas.{weigh_request, held_cycle, sum_replaced}
 use Rattle.ddr_channel.proofs.ListLemmas.{All-last}
 use Rattle.ddr_channel.proofs.StandsLemmas.{cycle_accepted}
+use Rattle.ddr_channel.proofs.ToldLemmas.{told_traced}
+use Rattle.ddr_channel.specs.declared.issued.Issued.{Issued}
+use Rattle.ddr_channel.specs.Told.{issued_in, with_issued}
+use Rattle.ddr_trace.specs.declared.command.Entry.{Entry}
 use Rattle.ddr_world.specs.declared.item.Item.{Item}
 use Rattle.ddr_world.specs.declared.item.Item.TheVariants as item
 use Rattle.ddr_world.specs.History.{Opening, Whereabouts, History, with_next}
-use Rattle.ddr_world.specs.Promise.{replies_of_port}
+use Rattle.ddr_world.specs.Promise.{replies_of_port, trace_at}
 use Rattle.ddr_world.specs.State.{PortSide, ChannelSide}
 use Rattle.ddr_world.specs.Step.{with_port, with_channel, after_take, sent}
-use Rattle.ddr_world.proofs.CoreKeeps.{requests_in, ChannelKeeps, PortKeeps, CoreKeeps, weight, held_in, delivered_in, waiting_in, Grows, grows_none, grown, port_still, replaced_at}
+use Rattle.ddr_world.proofs.CoreKeeps.{requests_in, ChannelKeeps, PortKeeps, PortServed, CoreKeeps, weight, held_in, delivered_in, waiting_in, Grows, grows_by, grows_none, grown, port_still, replaced_at}
+use Rattle.ddr_world.proofs.CoreServed.{port_served_still, traces_grow}
 use Rattle.ddr_world.proofs.SideLemmas.{free_kind}
 
 -- lists with one more
@@ -132,15 +137,17 @@ pub past_other : {X : Type 0} (xs : List X) (c i : ℕ) (x : X) → slice_get xs
 past_other xs c i x is past = λ same. absurd (omega (arith, slice_get_within xs c x is, past, same))
 
 pub channel_changed : (o : Opening) (h : History) (admitted : ℕ → List Request) (c : ℕ) (old new : ChannelSide) → CoreKeeps o h → slice_get h.state.channels c ≡ Some old
-    → ((i : ℕ) → i ≢ c → admitted i ≡ h.admitted i) → ChannelKeeps o (admitted c) (h.accepted c) new → ((f : ℕ → ℕ) (p : ℕ) → held_in f p new ≡ held_in f p old)
+    → ((i : ℕ) → i ≢ c → admitted i ≡ h.admitted i) → ChannelKeeps o (admitted c) (h.accepted c) new → Grows old.channel.trace new.channel.trace
+    → ((f : ℕ → ℕ) (p : ℕ) → held_in f p new ≡ held_in f p old)
     → CoreKeeps o (record h { state = with_channel c new h.state; admitted = admitted })
-channel_changed o h admitted c old new k was others keeps same = record {
+channel_changed o h admitted c old new k was others keeps longer same = record {
   channels = channels_after o h admitted h.accepted c old new k was (λ i other. (others i other, refl)) keeps;
   ports = k.ports;
   accepted = k.accepted;
   sent = k.sent;
   taken = k.taken;
   held = λ f p side is. ap (λ n. n + delivered_in f side) (sum_same f p h.state.channels c old new was (same f p)) ∙ k.held f p side is;
+  served = λ p side is. port_served_still o.config h.state (with_channel c new h.state) side (traces_grow h.state c old new was longer) (k.served p side is);
   channels_are = length-set h.state.channels c new ∙ k.channels_are;
   no_port = k.no_port;
   no_channel = λ i past.
@@ -152,10 +159,10 @@ channel_changed o h admitted c old new k was others keeps same = record {
 -- one port alone
 
 pub port_changed : (o : Opening) (h : History) (taken : ℕ → List Answer) (p : ℕ) (old new : PortSide) → CoreKeeps o h → slice_get h.state.ports p ≡ Some old
-    → ((i : ℕ) → i ≢ p → taken i ≡ h.taken i) → PortKeeps o h.accepted (h.sent p) (taken p) p new → map Some (taken p) ≡ take (length (taken p)) (replies_of_port h p)
+    → ((i : ℕ) → i ≢ p → taken i ≡ h.taken i) → PortKeeps o h.accepted (h.sent p) (taken p) p new → PortServed o.config h.state new → map Some (taken p) ≡ take (length (taken p)) (replies_of_port h p)
     → ((f : ℕ → ℕ) → delivered_in f new + waiting_in f old ≡ delivered_in f old + waiting_in f new)
     → CoreKeeps o (record h { state = with_port p new h.state; taken = taken })
-port_changed o h taken p old new k was others keeps prefix same = record {
+port_changed o h taken p old new k was others keeps told prefix same = record {
   channels = k.channels;
   ports = ports_after o h h.accepted h.sent taken p old new k was (λ c. grows_none (h.accepted c) (h.accepted c) refl) (λ i other. (refl, others i other)) keeps;
   accepted = k.accepted;
@@ -167,6 +174,11 @@ port_changed o h taken p old new k was others keeps prefix same = record {
         ap₂ (λ (n : ℕ) (s : PortSide). sum_by (held_in f n) h.state.channels + delivered_in f s) here.0 here.1 ∙ after ∙ ap (waiting_in f) (sym here.1))
     | inr there ↦ k.held f i side there.1
   ];
+  served = λ i side is.
+      port_served_still o.config h.state (with_port p new h.state) side (λ c. grows_none (trace_at h.state c) (trace_at h.state c) refl) (elim (replaced_at h.state.ports p i old new side was is) [
+        | inl here ↦ subst (λ (s : PortSide). PortServed o.config h.state s) (sym here.1) told
+        | inr there ↦ k.served i side there.1
+      ]);
   channels_are = k.channels_are;
   no_port = λ i past.
       let past' : length h.state.ports ≤ i = omega (arith, past, length-set h.state.ports p new) in
@@ -181,9 +193,14 @@ port_changed o h taken p old new k was others keeps prefix same = record {
         let other = others i (eqb-false i p test) in
         subst (λ (xs : List Answer). map Some xs ≡ take (length xs) (replies_of_port h i)) (sym other) (k.taken i)
 
+trace_longer : (o : Option Issued) (before after : List Entry) → after ≡ with_issued o before → Grows before after
+trace_longer None before after is = grows_none before after is
+trace_longer (Some i) before after is = grows_by before after (i.entry ∷ []) is
+
 -- the channel makes a cycle
 pub cycle_keeps : (o : Opening) (h : History) (c : ℕ) (side : ChannelSide) → CoreKeeps o h → slice_get h.state.channels c ≡ Some side → eqb side.channel.now CLOCK_STOP ≡ false
     → CoreKeeps o (record h { state = with_channel c (record side { channel = after_cycle side.channel }) h.state })
 cycle_keeps o h c side k was clock =
     channel_changed o h h.admitted c side (record side { channel = after_cycle side.channel }) k was (λ i other. refl) (cycled_keeps o (h.admitted c) (h.accepted c) side clock (k.channels c side was))
+    (trace_longer (issued_in side.channel) side.channel.trace (after_cycle side.channel).trace (told_traced side.channel))
     (λ f p. ap (λ n. sum_by (weigh_request (weight f p)) (requests_in side.requests) + n) (held_cycle (weight f p) side.channel))

@@ -5,9 +5,11 @@ use Rattle.std.proofs.lemmas.Bool.Decides.{eqb_tells}
 use Rattle.std.proofs.lemmas.Option.{slice_get_within}
 use Rattle.std.proofs.lemmas.List.{take-append-le}
 use Rattle.circular_buffer.proofs.Places.{slice_get-append_left, slice_get-set_same, slice_get-set_other}
+use Rattle.ddr_timing.specs.declared.config.Config.{Config}
 use Rattle.ddr_address_map.specs.Requests.{Request, Completion}
 use Rattle.ddr_reorder.specs.Replies.{Answer, lent_bytes}
 use Rattle.ddr_reorder.specs.State.{Outstanding}
+use Rattle.ddr_ports.specs.State.{service_of}
 use Rattle.ddr_channel.specs.History as channel
 use Rattle.ddr_channel.specs.History.{Call}
 use Rattle.ddr_channel.specs.Promise.{AreCalls}
@@ -16,7 +18,8 @@ use Rattle.ddr_world.specs.declared.item.Item.{Item}
 use Rattle.ddr_world.specs.declared.item.Item.TheVariants as item
 use Rattle.ddr_world.specs.History.{Opening, Whereabouts, History}
 use Rattle.ddr_world.specs.Promise.{reply_of, replies_of_port}
-use Rattle.ddr_world.specs.State.{PortSide, ChannelSide}
+use Rattle.ddr_world.specs.Served.{WasServed}
+use Rattle.ddr_world.specs.State.{PortSide, ChannelSide, State}
 use Rattle.ddr_world.proofs.LineBytes.{IsPlaced}
 
 -- the requests of a queue, without the Ends
@@ -102,6 +105,11 @@ delivered_in f side = sum_by (λ d. f d.number) side.completions
 abbrev pub waiting_in : (ℕ → ℕ) → PortSide → ℕ
 waiting_in f side = sum_by (λ e. cond (is_none e.line) (f e.number) 0) side.core.reorder.outstanding
 
+-- each completion on its way to the port, and each that came, tells when its request was served
+pub record PortServed (config : Config) (s : State) (side : PortSide) : Type 0 where
+  pub queue : (j : ℕ) (d : Completion) → slice_get side.completions j ≡ Some d → WasServed config s d.echo (service_of d)
+  pub filled : (j : ℕ) (e : Outstanding) → slice_get side.core.reorder.outstanding j ≡ Some e → IfSome e.service (WasServed config s e.echo)
+
 pub record CoreKeeps (o : Opening) (h : History) : Type 0 where
   pub channels : (c : ℕ) (side : ChannelSide) → slice_get h.state.channels c ≡ Some side → ChannelKeeps o (h.admitted c) (h.accepted c) side
   pub ports : (p : ℕ) (side : PortSide) → slice_get h.state.ports p ≡ Some side → PortKeeps o h.accepted (h.sent p) (h.taken p) p side
@@ -110,6 +118,7 @@ pub record CoreKeeps (o : Opening) (h : History) : Type 0 where
   pub taken : (p : ℕ) → map Some (h.taken p) ≡ take (length (h.taken p)) (replies_of_port h p)
   -- each number whose line has not come back is held in one place
   pub held : (f : ℕ → ℕ) (p : ℕ) (side : PortSide) → slice_get h.state.ports p ≡ Some side → sum_by (held_in f p) h.state.channels + delivered_in f side ≡ waiting_in f side
+  pub served : (p : ℕ) (side : PortSide) → slice_get h.state.ports p ≡ Some side → PortServed o.config h.state side
   pub channels_are : length h.state.channels ≡ o.config.geometry.channels
   pub no_port : (p : ℕ) → length h.state.ports ≤ p → (h.sent p ≡ []) × (h.taken p ≡ [])
   pub no_channel : (c : ℕ) → length h.state.channels ≤ c → (h.accepted c ≡ []) × (h.admitted c ≡ [])

@@ -11,7 +11,7 @@ use Rattle.ddr_address_map.specs.declared.request.Kind.TheVariants.{Read, Write}
 use Rattle.ddr_address_map.specs.Requests.{Request, Completion}
 use Rattle.ddr_channel.specs.Cycle.{line_served}
 use Rattle.ddr_channel.specs.History as channel
-use Rattle.ddr_channel.specs.History.{Owner}
+use Rattle.ddr_channel.specs.History.{Call, Owner}
 use Rattle.ddr_channel.specs.Memory.{line_of, line_after}
 use Rattle.ddr_channel.specs.Promise.{answer_to, right_answer}
 use Rattle.ddr_channel.specs.State as channel_state
@@ -24,7 +24,7 @@ use Rattle.ddr_world.specs.History.{Opening, Whereabouts, History}
 use Rattle.ddr_world.specs.Promise.{bytes_after, bytes_for, reply_of, reply_at, replies_of_port}
 use Rattle.ddr_world.specs.State.{PortSide, ChannelSide}
 use Rattle.ddr_world.proofs.CoreCounts.{number_at, is_number, weigh_waiting, waits_there}
-use Rattle.ddr_world.proofs.CoreKeeps.{requests_in, Right, CoreKeeps, Grows, grows_by, there_still, before_still}
+use Rattle.ddr_world.proofs.CoreKeeps.{requests_in, ChannelKeeps, Right, CoreKeeps, Grows, grows_by, there_still, before_still}
 use Rattle.ddr_world.proofs.LineBytes.{IsPlaced, asked_of_line}
 
 -- a completion that is done
@@ -48,10 +48,17 @@ pub served_bytes : (kind : Kind) (off len addr : ℕ) (burst line : List ℕ) (e
 served_bytes Read off len addr burst line earlier is = is
 served_bytes Write off len addr burst line earlier is = refl
 
-pub done_right : (o : Opening) (h : History) (c : ℕ) (side : ChannelSide) (d : Completion) → CoreKeeps o h → slice_get h.state.channels c ≡ Some side → slice_get side.channel.done 0 ≡ Some d
-    → Right o.number h.accepted (h.sent d.port) d
-done_right o h c side d k was done =
-    let keeps = k.channels c side was in
+-- the column command of which a completion tells, and its request
+pub record IsAnswer (o : Opening) (calls : List Call) (d : Completion) : Type 0 where
+  pub index : ℕ
+  pub owner : Owner
+  pub request : Request
+  pub owned : slice_get (channel.run o.config o.cycle calls).owners index ≡ Some owner
+  pub there : slice_get (channel.run o.config o.cycle calls).accepted owner.place ≡ Some request
+  pub is : answer_to (channel.run o.config o.cycle calls).state.config (channel.run o.config o.cycle calls).accepted owner request ≡ d
+
+pub done_answer : (o : Opening) (admitted accepted : List Request) (side : ChannelSide) (d : Completion) → (keeps : ChannelKeeps o admitted accepted side) → slice_get side.channel.done 0 ≡ Some d → IsAnswer o keeps.calls d
+done_answer o admitted accepted side d keeps done =
     let run = channel.run o.config o.cycle keeps.calls in
     let promise = promise_kept o.config o.cycle keeps.calls keeps.calls_are in
     let first : slice_get run.state.done 0 ≡ Some d = ap (λ (s : channel_state.State). slice_get s.done 0) (sym keeps.state) ∙ done in
@@ -61,19 +68,27 @@ done_right o h c side d k was done =
     let joined : slice_get ((run.popped ++ run.state.done) ++ run.state.flight) n ≡ Some d = ap (λ (ds : List Completion). slice_get ds n) (append_assoc run.popped run.state.done run.state.flight) ∙ whole in
     let answer = ap (λ (xs : List (Option Completion)). slice_get xs n) (sym promise.answers) ∙ mapped_at Some ((run.popped ++ run.state.done) ++ run.state.flight) n d joined in
     let found = at_map (right_answer run.state.config run.accepted) run.owners n (Some d) answer in
-    let owner = found.0 in
-    let request = some_of_map (answer_to run.state.config run.accepted owner) (slice_get run.accepted owner.place) d found.2 in
-    let r = request.0 in
-    let is : answer_to run.state.config run.accepted owner r ≡ d = request.2 in
+    let request = some_of_map (answer_to run.state.config run.accepted found.0) (slice_get run.accepted found.0.place) d found.2 in
+    record { index = n; owner = found.0; request = request.0; owned = found.1; there = request.1; is = request.2 }
+
+pub done_right : (o : Opening) (h : History) (c : ℕ) (side : ChannelSide) (d : Completion) → CoreKeeps o h → slice_get h.state.channels c ≡ Some side → slice_get side.channel.done 0 ≡ Some d
+    → Right o.number h.accepted (h.sent d.port) d
+done_right o h c side d k was done =
+    let keeps = k.channels c side was in
+    let run = channel.run o.config o.cycle keeps.calls in
+    let answer = done_answer o (h.admitted c) (h.accepted c) side d keeps done in
+    let owner = answer.owner in
+    let r = answer.request in
+    let is : answer_to run.state.config run.accepted owner r ≡ d = answer.is in
     let more : Grows run.accepted (h.accepted c) = grows_by run.accepted (h.accepted c) (requests_in side.requests) (sym keeps.accepted_are ∙ ap (λ (rs : List Request). rs ++ requests_in side.requests) (sym keeps.admitted_are)) in
-    let there = there_still run.accepted (h.accepted c) owner.place r more request.1 in
+    let there = there_still run.accepted (h.accepted c) owner.place r more answer.there in
     let back = k.accepted c owner.place r there in
     let port : r.port ≡ d.port = ap (λ (x : Completion). x.port) is in
     let number : r.number ≡ d.number = ap (λ (x : Completion). x.number) is in
     let echo : r.echo ≡ d.echo = ap (λ (x : Completion). x.echo) is in
     let earlier = take owner.place (h.accepted c) in
     let burst = line_after (take owner.place run.accepted) (line_of r.place) in
-    let same : burst ≡ line_after earlier (line_of r.place) = ap (λ (rs : List Request). line_after rs (line_of r.place)) (sym (before_still run.accepted (h.accepted c) owner.place r more request.1)) in
+    let same : burst ≡ line_after earlier (line_of r.place) = ap (λ (rs : List Request). line_after rs (line_of r.place)) (sym (before_still run.accepted (h.accepted c) owner.place r more answer.there)) in
     let asked = asked_of_line o.config.geometry c r earlier back.placed (all_taken (IsPlaced o.config.geometry c) (h.accepted c) owner.place (λ i w at. (k.accepted c i w at).placed)) in
     let off = r.echo.addr % 64 in
     let lent : asked_bytes r.echo.kind off r.echo.len (line_served r.echo.kind burst r.line) ≡ bytes_for r.echo.kind earlier r.echo.addr r.echo.len =

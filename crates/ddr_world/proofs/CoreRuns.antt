@@ -27,7 +27,7 @@ use Rattle.ddr_world.specs.State.{PortSide, ChannelSide, opened_port, opened_cha
 use Rattle.ddr_world.specs.Step.{made, with_port, with_channel, at_channel, change_channel, queued, after_submit, push_on, push_request, submit_by, after_take, taken, cycled, sent, after_deliver, deliver_to, push_completion, deliver_by, after_collect, collect_by, after_release, release_by, after_end, end_at, step}
 use Rattle.ddr_world.proofs.CoreFrames.{cycle_keeps}
 use Rattle.ddr_world.proofs.CoreEvents.{take_request_keeps, take_end_keeps, deliver_keeps, collect_keeps, release_keeps, end_keeps}
-use Rattle.ddr_world.proofs.CoreKeeps.{ChannelKeeps, PortKeeps, CoreKeeps, held_in, delivered_in, waiting_in}
+use Rattle.ddr_world.proofs.CoreKeeps.{ChannelKeeps, PortKeeps, PortServed, CoreKeeps, held_in, delivered_in, waiting_in}
 use Rattle.ddr_world.proofs.CoreSubmit.{submit_keeps}
 
 -- before the first event
@@ -77,6 +77,7 @@ begun_keeps o = record {
       let none : sum_by (held_in f p) (begun o).state.channels ≡ 0 = sum_by-replicate (held_in f p) o.config.geometry.channels (opened_channel o.config o.cycle) ∙ omega arith in
       ap (λ (s : PortSide). sum_by (held_in f p) (begun o).state.channels + delivered_in f s) (opened_side o p side is)
       ∙ (let left : sum_by (held_in f p) (begun o).state.channels + 0 ≡ 0 = omega (arith, none) in left) ∙ ap (waiting_in f) (sym (opened_side o p side is));
+  served = λ p side is. subst (λ (s : PortSide). PortServed o.config (begun o).state s) (sym (opened_side o p side is)) (record { queue = λ j d is. cc; filled = λ j e is. cc });
   channels_are = length-replicate o.config.geometry.channels (opened_channel o.config o.cycle);
   no_port = λ p past. (refl, refl);
   no_channel = λ c past. (refl, refl);

@@ -1,10 +1,11 @@
 -- What a submitted request keeps of the core.
-use Rattle.std.proofs.Common.{◌≡◌, ℕ, zero, suc, ◌+◌, ◌<◌, ◌≤◌, Bool, true, false, not, cond, eqb, List, [], ◌∷◌, ◌++◌, Option, Some, None, is_none, map, take, length, set, refl, sym, ap, ap₂, subst, ◌∙◌, inl, inr, arith}
+use Rattle.std.proofs.Common.{◌≡◌, ℕ, zero, suc, ◌+◌, ◌<◌, ◌≤◌, Bool, true, false, not, cond, eqb, List, [], ◌∷◌, ◌++◌, Option, Some, None, IfSome, is_none, map, take, length, set, refl, sym, ap, ap₂, subst, ◌∙◌, inl, inr, arith}
 use Rattle.std.specs.List.{sum_by, slice_get, range_with_len}
 use Rattle.std.specs.Option.{option_map}
 use Rattle.std.proofs.lemmas.Bool.{ne_eqb, eq-eqb, eqb-true, eqb-false, leb-true}
 use Rattle.std.proofs.lemmas.List.{length-set, length-map, length-append, length-take, append_assoc, map-append}
 use Rattle.circular_buffer.proofs.Places.{slice_get-last}
+use Rattle.ddr_timing.specs.declared.config.Config.{Config}
 use Rattle.ddr_address_map.specs.Map.{place_of}
 use Rattle.ddr_address_map.specs.Requests.{Request}
 use Rattle.ddr_channel.proofs.HeldLemmas.{weigh_request, sum_replaced, sum_last}
@@ -18,12 +19,14 @@ use Rattle.ddr_ports.specs.declared.refusal.PortError.TheVariants as cause
 use Rattle.ddr_world.specs.declared.item.Item.TheVariants as item
 use Rattle.ddr_world.specs.History.{Opening, Whereabouts, History, with_next, accept}
 use Rattle.ddr_world.specs.Promise.{reply_of, reply_at, replies_of_port}
-use Rattle.ddr_world.specs.State.{PortSide, ChannelSide}
+use Rattle.ddr_world.specs.Served.{WasServed}
+use Rattle.ddr_world.specs.State.{PortSide, ChannelSide, State}
 use Rattle.ddr_world.specs.Step.{with_port, with_channel, queued, after_submit}
 use Rattle.ddr_world.proofs.CoreCounts.{requests_in-append, weigh_waiting}
 use Rattle.ddr_world.proofs.CoreFrames.{with_next_other, with_next_same, with_next_grows, before_or_last, channels_after, ports_after, past_other}
-use Rattle.ddr_world.proofs.CoreKeeps.{requests_in, IsSettledAt, PortKeeps, IsSentBack, IsSent, CoreKeeps, weight, held_in, delivered_in, waiting_in, Grows, grown, grows_by, grows_none, there_still, before_still, take_still, settled_at_still, right_still, replaced_at}
+use Rattle.ddr_world.proofs.CoreKeeps.{requests_in, IsSettledAt, PortKeeps, PortServed, IsSentBack, IsSent, CoreKeeps, weight, held_in, delivered_in, waiting_in, Grows, grown, grows_by, grows_none, there_still, before_still, take_still, settled_at_still, right_still, replaced_at}
 use Rattle.ddr_world.proofs.CoreReplies.{some_of_map}
+use Rattle.ddr_world.proofs.CoreServed.{port_served_still, traces_grow}
 use Rattle.ddr_world.proofs.LineBytes.{IsPlaced}
 
 -- the request that a port prepared
@@ -98,7 +101,7 @@ submitted_keeps : (o : Opening) (h : History) (p : ℕ) (port : PortSide) (asked
     → PortKeeps o (with_next h.accepted r.place.channel r) (h.sent p ++ here_at h r ∷ []) (h.taken p) p (after_submit asked port)
 submitted_keeps o h p port asked r k made =
     let xs = port.core.reorder.outstanding in
-    let e : Outstanding = record { number = port.core.reorder.next; echo = echo_of asked; line = None } in
+    let e : Outstanding = record { number = port.core.reorder.next; echo = echo_of asked; line = None; service = None } in
     let now = with_next h.accepted r.place.channel r in
     let sent = h.sent p ++ here_at h r ∷ [] in
     let more : length sent ≡ length (h.sent p) + 1 = length-append (h.sent p) (here_at h r ∷ []) in
@@ -132,6 +135,17 @@ submitted_keeps o h p port asked r k made =
         | inr at_end ↦ subst (λ (y : Outstanding). IsSettledAt now sent (taken + j) y) (sym at_end.1) (subst (λ n. IsSettledAt now sent (taken + n) e) (sym at_end.0) last)
       ];
       right = λ j d is. right_still o.number h.accepted now (h.sent p) sent d grows sent_grows (k.right j d is);
+    }
+
+submitted_served : (config : Config) (s : State) (port : PortSide) (asked : Asked) → PortServed config s port → PortServed config s (after_submit asked port)
+submitted_served config s port asked k =
+    let e : Outstanding = record { number = port.core.reorder.next; echo = echo_of asked; line = None; service = None } in
+    record {
+      queue = k.queue;
+      filled = λ j x is. elim (before_or_last port.core.reorder.outstanding e x j is) [
+        | inl before ↦ k.filled j x before
+        | inr last ↦ subst (λ (y : Outstanding). IfSome y.service (WasServed config s y.echo)) (sym last.1) tt
+      ];
     }
 
 -- the requests by their places and by their numbers
@@ -220,7 +234,7 @@ submit_keeps o h p port asked r side k was free request there =
     let list : requests_in (side.requests ++ item.Request r ∷ []) ≡ requests_in side.requests ++ r ∷ [] = requests_in-append side.requests (item.Request r ∷ []) in
     let after : (f : ℕ → ℕ) (i : ℕ) → sum_by (held_in f i) (set h.state.channels c new) ≡ sum_by (held_in f i) h.state.channels + weight f i r.port r.number =
     λ f i. omega (arith, sum_replaced (held_in f i) h.state.channels c side new there, ap (sum_by (weigh_request (weight f i))) list, sum_last (weigh_request (weight f i)) (requests_in side.requests) r) in
-    let e : Outstanding = record { number = port.core.reorder.next; echo = echo_of asked; line = None } in
+    let e : Outstanding = record { number = port.core.reorder.next; echo = echo_of asked; line = None; service = None } in
     record {
       channels = channels_after o h h.admitted (with_next h.accepted c r) c side new k there (λ i other. (refl, with_next_other h.accepted c r i other))
           (record {
@@ -247,6 +261,12 @@ submit_keeps o h p port asked r side k was free request there =
         | inr other ↦ (let weighs : weight f i r.port r.number ≡ 0 = ap (λ b. cond b (f r.number) 0) (ne_eqb r.port i (λ same. other.0 (sym same ∙ made.of_port))) in
             omega (arith, after f i, weighs, k.held f i x other.1))
       ];
+      served = λ i x is.
+          port_served_still o.config h.state (with_channel c new (with_port p (after_submit asked port) h.state)) x
+          (traces_grow h.state c side new there (grows_none side.channel.trace side.channel.trace refl)) (elim (replaced_at h.state.ports p i port (after_submit asked port) x was is) [
+            | inl here ↦ subst (λ (y : PortSide). PortServed o.config h.state y) (sym here.1) (submitted_served o.config h.state port asked (k.served p port was))
+            | inr other ↦ k.served i x other.1
+          ]);
       channels_are = length-set h.state.channels c new ∙ k.channels_are;
       no_port = λ i past.
           let past' : length h.state.ports ≤ i = omega (arith, past, length-set h.state.ports p (after_submit asked port)) in

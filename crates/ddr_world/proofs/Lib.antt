@@ -1,5 +1,5 @@
 pub mod AllLemmas
-mod SideLemmas
+pub mod SideLemmas
 mod StepLemmas
 mod StandsLemmas
 mod WholeLemmas
@@ -9,6 +9,7 @@ pub mod CoreKeeps
 pub mod CoreCounts
 pub mod CoreFrames
 pub mod CoreReplies
+pub mod CoreServed
 pub mod PlaceLemmas
 pub mod CoreEvents
 pub mod CoreSubmit

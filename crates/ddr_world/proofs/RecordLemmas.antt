@@ -4,18 +4,21 @@ use Rattle.std.specs.List.{AllByRecursion, slice_get, range_with_len}
 use Rattle.std.specs.Option.{IsSomeAnd, option_map, option_and_then}
 use Rattle.std.proofs.lemmas.List.{length-map}
 use Rattle.std.proofs.lemmas.Option.{slice_get-map}
+use Rattle.ddr_timing.specs.declared.config.Config.{Config}
 use Rattle.ddr_trace.specs.Legality.{IsLegal, IsRefreshed}
 use Rattle.ddr_channel.proofs.ListLemmas.{All-at}
 use Rattle.ddr_reorder.specs.declared.reply.Reply.{Reply}
-use Rattle.ddr_reorder.specs.Replies.{Answer, said, nth_answer}
+use Rattle.ddr_reorder.specs.Replies.{Answer, lent_service, said, nth_answer, nth_service}
 use Rattle.ddr_world.specs.Close.{trace_of, IsRightTrace, GaveAll}
 use Rattle.ddr_world.specs.History.{Opening, History, front_of, run}
 use Rattle.ddr_world.specs.Kept.{KeptSide, Kept, Left, side_of, state_of}
 use Rattle.ddr_world.specs.Promise.{replies_of_port, KeepsPromise}
 use Rattle.ddr_world.specs.Record.{IsNext}
+use Rattle.ddr_world.specs.Served.{WasServed, TellsService}
 use Rattle.ddr_world.specs.State.{PortSide, ChannelSide, State, IsPortDrained, IsDrained}
 use Rattle.ddr_world.proofs.CorePromise.{core_keeps_promise}
 use Rattle.ddr_world.proofs.CoreRuns.{run_keeps}
+use Rattle.ddr_world.proofs.CoreServed.{front_served}
 
 -- the reply that is lent is the next one of the port
 pub lent_is_next : (k : Kept) (p : ℕ) (side : PortSide) (result : Option Reply) → slice_get k.ports p ≡ Some side → option_map said result ≡ nth_answer side.core.reorder 0 → IfSome result (λ reply. IsNext k p (said reply))
@@ -26,6 +29,16 @@ lent_is_next k p side (Some reply) there is = λ opening events stands.
     let front : front_of h.state p ≡ Some (said reply) =
     ap (λ (s : State). front_of s p) (sym stands.state) ∙ ap (λ (x : Option PortSide). option_and_then (λ port. nth_answer port.core.reorder 0) x) there ∙ sym is in
     subst (λ (x : Option Answer). IfSome x (λ a. slice_get (replies_of_port h p) (length (h.taken p)) ≡ Some (Some a))) front (promise.lent p)
+
+-- and it tells when its request was served
+pub lent_tells : (k : Kept) (p : ℕ) (side : PortSide) (result : Option Reply) → slice_get k.ports p ≡ Some side → option_map said result ≡ nth_answer side.core.reorder 0
+    → option_map lent_service result ≡ nth_service side.core.reorder 0 → IfSome result (λ reply. TellsService k (said reply) (lent_service reply))
+lent_tells k p side None there answer service = tt
+lent_tells k p side (Some reply) there answer service = λ opening events stands.
+    let h = run opening events in
+    let at : slice_get h.state.ports p ≡ Some side = ap (λ (s : State). slice_get s.ports p) (sym stands.state) ∙ there in
+    let served = front_served opening.config h.state side (said reply) (lent_service reply) ((run_keeps opening events).served p side at) (sym answer) (sym service) in
+    subst₂ (λ (config : Config) (s : State). WasServed config s (said reply).echo (lent_service reply)) (sym stands.config) (sym stands.state) served
 
 told_by_index : {X : Type 0} (f : X → ℕ) (g : ℕ → ℕ) (a : ℕ) (xs : List X) → ((i : ℕ) (x : X) → slice_get xs i ≡ Some x → f x ≡ g (a + i)) → map f xs ≡ map g (range_with_len a (length xs))
 told_by_index f g a [] told = refl

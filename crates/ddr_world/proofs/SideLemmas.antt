@@ -2,7 +2,7 @@
 use Rattle.std.proofs.Common.{◌≡◌, ◌↔◌, IsTrue, ℕ, Bool, true, false, cond, eqb, List, Result, Ok, Err, length, drop, refl, sym, ap, subst, ◌∙◌, arith}
 use Rattle.std.specs.List.{All}
 use Rattle.std.specs.Result.{IsOk, IsErr, IsErrOf, IsErrAnd, IfErr, OnOk}
-use Rattle.std.specs.Vec.{with_item}
+use Rattle.std.specs.Global.{Vec}
 use Rattle.std.proofs.lemmas.Bool.{false≢true, ne_eqb}
 use Rattle.std.proofs.lemmas.List.{length-drop, length-set}
 use Rattle.std.proofs.lemmas.List.Elements.{All-drop}
@@ -21,7 +21,9 @@ use Rattle.ddr_channel.specs.State.{is_queue_full}
 use Rattle.ddr_world.specs.declared.event.Refusal.{Refusal}
 use Rattle.ddr_world.specs.declared.event.Refusal.TheVariants as refusal
 use Rattle.ddr_world.specs.declared.item.Item.{Item}
+use Rattle.ddr_world.specs.declared.item.Item.TheVariants as item
 use Rattle.ddr_world.specs.declared.channel_side.ChannelSide.TheInside.{Inside}
+use Rattle.ddr_world.specs.Items.{channel_after, noted_after, MayTake, Takes}
 use Rattle.ddr_world.specs.Kept.{KeptSide, side_of}
 use Rattle.ddr_world.specs.Refusals.{cycle_refusal_from}
 use Rattle.ddr_world.specs.Step.{cycled}
@@ -37,23 +39,36 @@ admitted (Ok x) full err free = refl
 admitted (Err e) full err free = absurd (false≢true (sym free ∙ err.0 refl))
 
 -- after an item was popped, and the channel did with it what it does
-pub whole_popped : (a : Inside) (k : channel.Kept) (rest : Buffer Item) → IsChannelWhole a → k.config ≡ a.channel.config → rest ≡ buffer (drop 1 a.requests.items) a.requests.capacity
-    → IsChannelWhole (record a { channel = k; requests = rest })
-whole_popped a k rest whole config is = record {
+pub whole_popped : (a : Inside) (k : channel.Kept) (rest : Buffer Item) (noted : Vec Bool) → IsChannelWhole a → k.config ≡ a.channel.config → rest ≡ buffer (drop 1 a.requests.items) a.requests.capacity
+    → length noted.items ≡ length a.noted.items → IsChannelWhole (record a { channel = k; requests = rest; noted = noted })
+whole_popped a k rest noted whole config is count = record {
   room = ap (λ (b : Buffer Item). b.capacity) is ∙ whole.room ∙ ap (λ (c : Config). c.limits.intake) (sym config);
   fits = omega (arith, whole.fits, ap (λ (b : Buffer Item). b.capacity) is, ap (λ (b : Buffer Item). length b.items) is, length-drop 1 a.requests.items);
   served = subst (λ (c : Config). All (IsServedItem c) rest.items) (sym config)
       (subst (λ (xs : List Item). All (IsServedItem a.channel.config) xs) (sym (ap (λ (b : Buffer Item). b.items) is)) (All-drop (IsServedItem a.channel.config) 1 a.requests.items whole.served));
-  ports = whole.ports ∙ ap (λ (c : Config). c.limits.ports) (sym config);
+  ports = count ∙ whole.ports ∙ ap (λ (c : Config). c.limits.ports) (sym config);
 }
 
--- after an End was noted
-pub whole_noted : (a : Inside) (p : ℕ) → IsChannelWhole a → IsChannelWhole (record a { noted = with_item a.noted p true })
-whole_noted a p whole = record {
-  room = whole.room;
-  fits = whole.fits;
-  served = whole.served;
-  ports = length-set a.noted.items p true ∙ whole.ports;
+-- the first item of a queue may be taken, where both queues of the channel have a free place
+pub may_take : (k : channel.Kept) (noted : List Bool) (it : Item) → IsServedItem k.config it → length noted ≡ k.config.limits.ports
+    → (is_queue_full (channel.state_of k) Read ≡ false) × (is_queue_full (channel.state_of k) Write ≡ false) → MayTake it k noted
+may_take k noted (item.Request r) served ports free = (served, free_kind (channel.state_of k) r.echo.kind free)
+may_take k noted (item.End p) served ports free = omega (arith, served, ports)
+
+-- what taking an item leaves
+pub record IsTakenIn (it : Item) (before after : channel.Kept) (noted noted' : List Bool) : Type 0 where
+  pub state : channel.state_of after ≡ channel_after it (channel.state_of before)
+  pub config : after.config ≡ before.config
+  pub noted_is : noted' ≡ noted_after it noted
+  pub count : length noted' ≡ length noted
+
+pub taken_in : (it : Item) (before after : channel.Kept) (noted noted' : List Bool) → Takes it before after noted noted' → IsTakenIn it before after noted noted'
+taken_in (item.Request r) before after noted noted' takes = record { state = takes.0.state; config = takes.0.config; noted_is = takes.1; count = ap (λ (xs : List Bool). length xs) takes.1 }
+taken_in (item.End p) before after noted noted' takes = record {
+  state = ap channel.state_of takes.0;
+  config = ap (λ (k : channel.Kept). k.config) takes.0;
+  noted_is = takes.1;
+  count = ap (λ (xs : List Bool). length xs) takes.1 ∙ length-set noted p true;
 }
 
 -- a cycle that was made

@@ -1,6 +1,7 @@
 pub mod Events
 pub mod Refusals
 pub mod State
+pub mod Items
 pub mod Step
 pub mod Kept
 pub mod Answer
@@ -8,6 +9,7 @@ pub mod History
 pub mod Promise
 pub mod Quiet
 pub mod Record
+pub mod Served
 pub mod Told
 pub mod Close
 pub mod View

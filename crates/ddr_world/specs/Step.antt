@@ -10,7 +10,7 @@ use Rattle.ddr_ports.specs.Asked.{Asked}
 use Rattle.ddr_ports.specs.State as port_state
 use Rattle.ddr_ports.specs.State.{refusal_of, request_at, after_prepare, after_fill, after_finish}
 use Rattle.ddr_channel.specs.Cycle.{after_cycle}
-use Rattle.ddr_channel.specs.State.{after_admit, after_pop, is_queue_full}
+use Rattle.ddr_channel.specs.State.{after_pop, is_queue_full}
 use Rattle.ddr_world.specs.declared.event.Outcome.{Outcome}
 use Rattle.ddr_world.specs.declared.event.Outcome.TheVariants as outcome
 use Rattle.ddr_world.specs.declared.event.Refusal.{Refusal}
@@ -18,6 +18,7 @@ use Rattle.ddr_world.specs.declared.event.Refusal.TheVariants as refusal
 use Rattle.ddr_world.specs.declared.item.Item.{Item}
 use Rattle.ddr_world.specs.declared.item.Item.TheVariants as item
 use Rattle.ddr_world.specs.Events.{Event, Submit, Take, Cycle, Deliver, Collect, Release, End}
+use Rattle.ddr_world.specs.Items.{channel_after, noted_after}
 use Rattle.ddr_world.specs.Refusals.{refusal_from}
 use Rattle.ddr_world.specs.State.{PortSide, ChannelSide, State, is_busy, is_completion_queue_full}
 
@@ -84,8 +85,7 @@ submit s p asked = at_port s p (submit_by s p asked)
 -- Take: the channel pops an item, where both its queues have a free place
 
 abbrev pub after_take : Item → ChannelSide → ChannelSide
-after_take (item.Request r) side = record side { requests = drop 1 side.requests; channel = after_admit r side.channel }
-after_take (item.End p) side = record side { requests = drop 1 side.requests; noted = slice_set side.noted p true }
+after_take it side = record side { requests = drop 1 side.requests; channel = channel_after it side.channel; noted = noted_after it side.noted }
 
 abbrev pub taken : ChannelSide → Result ChannelSide Refusal
 taken side = option_map_or

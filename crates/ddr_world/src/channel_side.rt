@@ -95,10 +95,8 @@ impl ChannelSide {
         if !self.channel.room() {
             return Err(Refusal::QueueFull);
         }
-        match self.requests.pop_front().unwrap() {
-            Item::Request(request) => self.channel.admit(request).unwrap(),
-            Item::End(port) => self.noted[port as usize] = true,
-        }
+        let item = self.requests.pop_front().unwrap();
+        item.take_in(&mut self.channel, self.noted.as_mut_slice());
         Ok(())
     }
 

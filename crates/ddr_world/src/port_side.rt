@@ -3,7 +3,7 @@ ghost use Rattle.std.specs.Prelude.{◌≡◌, ◌+◌, ◌-◌, ◌<◌, ◌≤
 ghost use Rattle.std.specs.Option.{option_map};
 ghost use Rattle.std.specs.Result.{result_err};
 ghost use Rattle.ddr_address_map.specs.Map.{in_range};
-ghost use Rattle.ddr_reorder.specs.Replies.{front_number, nth_answer, said};
+ghost use Rattle.ddr_reorder.specs.Replies.{front_number, lent_service, nth_answer, nth_service, said};
 ghost use Rattle.ddr_reorder.specs.State.{IsRecallable};
 ghost use Rattle.ddr_ports.specs.Asked.{Asked, asked_of};
 ghost use Rattle.ddr_ports.specs.State.{refusal_of, request_at};
@@ -126,7 +126,8 @@ impl PortSide {
 
     /// The oldest reply, where it is ready.
     pub(crate) fn front(&self) -> Option<Reply<'_>>
-        ensures { option_map said result ≡ nth_answer self.now.core.reorder 0 }
+        ensures answer { option_map said result ≡ nth_answer self.now.core.reorder 0 }
+        ensures service { option_map lent_service result ≡ nth_service self.now.core.reorder 0 }
     {
         self.core.front()
     }

@@ -3,7 +3,7 @@ ghost use Rattle.std.specs.Prelude.{◌≡◌, ◌+◌, ◌<◌, ◌≤◌, ◌�
 ghost use Rattle.std.specs.List.{range_with_len};
 ghost use Rattle.std.specs.Option.{option_copied, option_map};
 ghost use Rattle.ddr_timing.specs.declared.units.TheConstants.{CLOCK_STOP};
-ghost use Rattle.ddr_reorder.specs.Replies.{said};
+ghost use Rattle.ddr_reorder.specs.Replies.{lent_service, said};
 ghost use Rattle.ddr_ports.specs.Asked.{asked_of};
 ghost use Rattle.ddr_channel.specs.Kept as channel_kept;
 ghost use Rattle.ddr_channel.specs.Quiet as quiet;
@@ -15,6 +15,7 @@ ghost use Rattle.ddr_world.specs.History.{Answered, Opening, front_of};
 ghost use Rattle.ddr_world.specs.Kept.{side_of, state_of};
 ghost use Rattle.ddr_world.specs.Quiet.{IsQuiet, IsQuietSide, cycles_made, passed, side_passed};
 ghost use Rattle.ddr_world.specs.Record.{IsNext, RunsTo, StandsFor};
+ghost use Rattle.ddr_world.specs.Served.{TellsService, front_service};
 ghost use Rattle.ddr_world.specs.State.{IsChannelDrained, IsDrained, IsPortDrained, opened, opened_channel, opened_port};
 ghost use Rattle.ddr_world.specs.Told.{TellsOf, cycle_answer};
 
@@ -315,6 +316,8 @@ impl World {
     pub fn front(&self, port: u32) -> Option<Reply<'_>>
         ensures front { option_map said result ≡ front_of (state_of self.now) port }
         ensures next { IfSome result (λ reply. IsNext self.now port (said reply)) }
+        ensures service { option_map lent_service result ≡ front_service (state_of self.now) port }
+        ensures served { IfSome result (λ reply. TellsService self.now (said reply) (lent_service reply)) }
     {
         if !self.has_port(port) {
             return None;

@@ -1,21 +1,25 @@
 -- What the channel does with the item that it pops.
-use Rattle.std.proofs.Common.{refl}
-use Rattle.ddr_channel.specs.Kept.{state_of}
-use Rattle.ddr_channel.specs.State.{is_queue_full}
-use Rattle.ddr_world.proofs.SideLemmas.{free_kind, admitted, whole_popped, whole_noted}
+use Rattle.std.proofs.Common.{Bool, List, Some, length, sym, ap, subst, ◌∙◌}
+use Rattle.std.proofs.lemmas.List.{with_items_is}
+use Rattle.ddr_world.specs.Items.{MayTake, Takes}
+use Rattle.ddr_world.specs.View.{IsServedItem}
+use Rattle.ddr_channel.proofs.ListLemmas.{All-at}
+use Rattle.ddr_world.proofs.SideLemmas.{may_take, taken_in, whole_popped}
 use Rattle.ddr_world.proofs.channel_side.ChannelSide.take.Goals as goal
 
-pub unwrap-requires-in-Request : goal.unwrap-requires-in-Request
-unwrap-requires-in-Request c =
-    let s = state_of c.self.inside.channel in
-    let kind = c.in-Request.request.echo.kind in
-    admitted c.admit.result (is_queue_full s kind) c.admit.ensures.full (free_kind s kind (c.room.ensures.0 c.if-not-room.false))
+pub take_in-requires : goal.take_in-requires
+take_in-requires c =
+    let a = c.self.inside in
+    let it = c.unwrap-item.result in
+    let served = All-at (IsServedItem a.channel.config) a.requests.items 0 it c.self.invariant.served (sym c.pop_front.ensures.value ∙ c.unwrap-item.ensures) in
+    subst (λ (noted : List Bool). MayTake it a.channel noted) (sym c.as_mut_slice.ensures.value)
+    (may_take a.channel a.noted.items it served c.self.invariant.ports (c.room.ensures.0 c.if-not-room.false))
 
 pub invariant_of-self : goal.invariant_of-self
-invariant_of-self c = whole_popped c.self.inside c.admit.new.self c.pop_front.new.self c.self.invariant c.admit.ensures.config c.pop_front.ensures.items
-
-pub invariant_of-self-in-End : goal.invariant_of-self-in-End
-invariant_of-self-in-End c =
+invariant_of-self c =
     let a = c.self.inside in
-    whole_noted (record a { requests = c.pop_front.new.self }) c.in-End.port
-    (whole_popped a a.channel c.pop_front.new.self c.self.invariant refl c.pop_front.ensures.items)
+    let noted = c.take_in.new.noted in
+    let same = with_items_is a.noted noted (c.take_in.auto.noted ∙ c.as_mut_slice.ensures.len) in
+    let count = ap (λ (xs : List Bool). length xs) same ∙ c.take_in.auto.noted ∙ ap (λ (xs : List Bool). length xs) c.as_mut_slice.ensures.value in
+    let taken = taken_in c.unwrap-item.result a.channel c.take_in.new.channel c.as_mut_slice.result.now noted c.take_in.ensures in
+    whole_popped a c.take_in.new.channel c.pop_front.new.self _ c.self.invariant taken.config c.pop_front.ensures.items count
