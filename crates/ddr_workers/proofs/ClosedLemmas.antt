@@ -8,7 +8,7 @@ use Rattle.ddr_address_map.specs.Requests as records
 use Rattle.ddr_address_map.specs.Requests.{Completion}
 use Rattle.ddr_world.proofs.CoreCounts.{sum_ones}
 use Rattle.ddr_workers.specs.declared.completions.Delivery.{Delivery}
-use Rattle.ddr_workers.specs.declared.requests.Item.{Item}
+use Rattle.ddr_world.specs.declared.item.Item.{Item}
 use Rattle.ddr_workers.specs.declared.requests.Route.{Route}
 use Rattle.ddr_workers.specs.Closing.{accepted_of}
 use Rattle.ddr_workers.specs.Completions.{of_channel, source_of}

@@ -15,6 +15,7 @@ use Rattle.ddr_address_map.specs.Requests as records
 use Rattle.ddr_address_map.specs.Requests.{Completion}
 use Rattle.ddr_channel.proofs.HeldLemmas.{sum_replaced, sum_last}
 use Rattle.ddr_reorder.specs.Replies.{Answer, answer_of, is_filled, front_number}
+use Rattle.ddr_reorder.specs.declared.reply.Service.{Service}
 use Rattle.ddr_reorder.specs.State.{Outstanding, IsWithinLine, issue_refusal, is_awaited, awaits, filled}
 use Rattle.ddr_ports.specs.Asked.{Asked, echo_of, first_address, len_of, is_within_line}
 use Rattle.ddr_ports.specs.declared.refusal.PortError.{PortError}
@@ -24,8 +25,8 @@ use Rattle.ddr_ports.specs.State as core
 use Rattle.ddr_ports.specs.State.{request_at, request_with}
 use Rattle.ddr_world.proofs.PlaceLemmas.{placed_in_range}
 use Rattle.ddr_workers.specs.declared.completions.Delivery.{Delivery}
-use Rattle.ddr_workers.specs.declared.requests.Item.{Item}
-use Rattle.ddr_workers.specs.declared.requests.Item.TheVariants.{Request, End}
+use Rattle.ddr_world.specs.declared.item.Item.{Item}
+use Rattle.ddr_world.specs.declared.item.Item.TheVariants.{Request, End}
 use Rattle.ddr_workers.specs.declared.requests.Route.{Route}
 use Rattle.ddr_workers.specs.Counted.{AreWithinLines, IsCounted, numbers_put, numbers_filled}
 use Rattle.ddr_workers.specs.Port.{PortState, after_busy, after_end, finished}
@@ -125,7 +126,7 @@ filled_push (x ∷ os) o none = filled_more x x.line (filter (λ y. is_some y.li
 pub counted_submitted : (s : PortState) (asked : Asked) (r : records.Request) (k : core.PortState) (sides : List Side) (channel : ℕ) → IsCounted s → channel < length s.requests → r.number ≡ s.core.reorder.next → IsWithinLine r.echo
     → k ≡ core.after_prepare s.core asked → sides ≡ changed_at channel (λ side. after_push side (Request r)) s.requests → IsCounted (record s { core = k; requests = sides })
 counted_submitted s asked r k sides channel c within number line is pushed =
-    let new : Outstanding = record { number = s.core.reorder.next; echo = echo_of asked; line = None } in
+    let new : Outstanding = record { number = s.core.reorder.next; echo = echo_of asked; line = None; service = None } in
     let change : Side → Side = λ side. after_push side (Request r) in
     let side = some_there s.requests channel within in
     let counted : IsCounted (record s { core = core.after_prepare s.core asked; requests = changed_at channel change s.requests }) = record {
@@ -159,13 +160,13 @@ counted_busy s k sides channel c same full =
 
 -- the awaited completion came
 
-filled_below : (n : ℕ) (line : List ℕ) (first : ℕ) (os : List Outstanding) → map (λ (o : Outstanding). o.number) os ≡ range_with_len first (length os) → n < first → map (filled n line) os ≡ os
-filled_below n line first [] are below = refl
-filled_below n line first (o ∷ os) are below =
+filled_below : (n : ℕ) (service : Service) (line : List ℕ) (first : ℕ) (os : List Outstanding) → map (λ (o : Outstanding). o.number) os ≡ range_with_len first (length os) → n < first → map (filled n service line) os ≡ os
+filled_below n service line first [] are below = refl
+filled_below n service line first (o ∷ os) are below =
     let head : o.number ≡ first = cc in
     let tail : map (λ (x : Outstanding). x.number) os ≡ range_with_len (first + 1) (length os) = cc in
     let other : eqb o.number n ≡ false = ne_eqb o.number n (λ same. absurd (omega (arith, same, head, below))) in
-    ap₂ ◌∷◌ (ap (λ b. cond b (record o { line = Some line }) o) other) (filled_below n line (first + 1) os tail (omega (arith, below)))
+    ap₂ ◌∷◌ (ap (λ b. cond b (record o { line = Some line; service = Some service }) o) other) (filled_below n service line (first + 1) os tail (omega (arith, below)))
 
 filled_cons : (f : ℕ → ℕ) (o : Outstanding) (os : List Outstanding) → sum_by f (numbers_filled (o ∷ os)) ≡ cond (is_some o.line) (f o.number) 0 + sum_by f (numbers_filled os)
 filled_cons f o os = by_line o.line
@@ -174,30 +175,30 @@ filled_cons f o os = by_line o.line
     by_line None = omega arith
     by_line (Some line) = sum_by-cons f o.number (numbers_filled os)
 
-filled_head : (f : ℕ → ℕ) (n : ℕ) (echo : Echo) (line : List ℕ) (first : ℕ) (o : Outstanding) (os : List Outstanding) (b : Bool) → is_awaited n echo o ≡ b → o.number ≡ first
+filled_head : (f : ℕ → ℕ) (n : ℕ) (echo : Echo) (service : Service) (line : List ℕ) (first : ℕ) (o : Outstanding) (os : List Outstanding) (b : Bool) → is_awaited n echo o ≡ b → o.number ≡ first
     → map (λ (x : Outstanding). x.number) os ≡ range_with_len (first + 1) (length os) → (b || list_any (is_awaited n echo) os) ≡ true
-    → (list_any (is_awaited n echo) os ≡ true → sum_by f (numbers_filled (map (filled n line) os)) ≡ sum_by f (numbers_filled os) + f n)
-    → sum_by f (numbers_filled (map (filled n line) (o ∷ os))) ≡ sum_by f (numbers_filled (o ∷ os)) + f n
-filled_head f n echo line first o os true e head tail any rest =
+    → (list_any (is_awaited n echo) os ≡ true → sum_by f (numbers_filled (map (filled n service line) os)) ≡ sum_by f (numbers_filled os) + f n)
+    → sum_by f (numbers_filled (map (filled n service line) (o ∷ os))) ≡ sum_by f (numbers_filled (o ∷ os)) + f n
+filled_head f n echo service line first o os true e head tail any rest =
     let parts = awaited_parts n echo o e in
-    let here : filled n line o ≡ record o { line = Some line } = ap (λ b. cond b (record o { line = Some line }) o) (eq-eqb o.number n parts.0) in
-    let behind = filled_below n line (first + 1) os tail (omega (arith, parts.0, head)) in
-    let list : map (filled n line) (o ∷ os) ≡ record o { line = Some line } ∷ os = ap₂ ◌∷◌ here behind in
+    let here : filled n service line o ≡ record o { line = Some line; service = Some service } = ap (λ b. cond b (record o { line = Some line; service = Some service }) o) (eq-eqb o.number n parts.0) in
+    let behind = filled_below n service line (first + 1) os tail (omega (arith, parts.0, head)) in
+    let list : map (filled n service line) (o ∷ os) ≡ record o { line = Some line; service = Some service } ∷ os = ap₂ ◌∷◌ here behind in
     let before : cond (is_some o.line) (f o.number) 0 ≡ 0 = ap (λ (l : Option (List ℕ)). cond (is_some l) (f o.number) 0) parts.1.1 in
     let number : f o.number ≡ f n = ap f parts.0 in
-    omega (arith, ap (λ (xs : List Outstanding). sum_by f (numbers_filled xs)) list, filled_cons f (record o { line = Some line }) os, filled_cons f o os, before, number)
-filled_head f n echo line first o os false e head tail any rest =
-    let other : filled n line o ≡ o = ap (λ b. cond b (record o { line = Some line }) o)
+    omega (arith, ap (λ (xs : List Outstanding). sum_by f (numbers_filled xs)) list, filled_cons f (record o { line = Some line; service = Some service }) os, filled_cons f o os, before, number)
+filled_head f n echo service line first o os false e head tail any rest =
+    let other : filled n service line o ≡ o = ap (λ b. cond b (record o { line = Some line; service = Some service }) o)
     (ne_eqb o.number n (λ same. absurd (false≢true (sym (unawaited_below n echo (first + 1) os tail (omega (arith, same, head))) ∙ any)))) in
-    omega (arith, ap (λ (x : Outstanding). sum_by f (numbers_filled (x ∷ map (filled n line) os))) other, filled_cons f o (map (filled n line) os), filled_cons f o os, rest any)
+    omega (arith, ap (λ (x : Outstanding). sum_by f (numbers_filled (x ∷ map (filled n service line) os))) other, filled_cons f o (map (filled n service line) os), filled_cons f o os, rest any)
 
-pub numbers_filled-filled : (f : ℕ → ℕ) (n : ℕ) (echo : Echo) (line : List ℕ) (first : ℕ) (os : List Outstanding) → map (λ (o : Outstanding). o.number) os ≡ range_with_len first (length os)
-    → list_any (is_awaited n echo) os ≡ true → sum_by f (numbers_filled (map (filled n line) os)) ≡ sum_by f (numbers_filled os) + f n
-numbers_filled-filled f n echo line first [] are any = absurd (false≢true any)
-numbers_filled-filled f n echo line first (o ∷ os) are any =
+pub numbers_filled-filled : (f : ℕ → ℕ) (n : ℕ) (echo : Echo) (service : Service) (line : List ℕ) (first : ℕ) (os : List Outstanding) → map (λ (o : Outstanding). o.number) os ≡ range_with_len first (length os)
+    → list_any (is_awaited n echo) os ≡ true → sum_by f (numbers_filled (map (filled n service line) os)) ≡ sum_by f (numbers_filled os) + f n
+numbers_filled-filled f n echo service line first [] are any = absurd (false≢true any)
+numbers_filled-filled f n echo service line first (o ∷ os) are any =
     let head : o.number ≡ first = cc in
     let tail : map (λ (x : Outstanding). x.number) os ≡ range_with_len (first + 1) (length os) = cc in
-    filled_head f n echo line first o os (is_awaited n echo o) refl head tail any (numbers_filled-filled f n echo line (first + 1) os tail)
+    filled_head f n echo service line first o os (is_awaited n echo o) refl head tail any (numbers_filled-filled f n echo service line (first + 1) os tail)
 
 pub counted_filled : (s : PortState) (d : Completion) (k : core.PortState) (side : TakeSide Delivery Completion) → IsWhole s → IsCounted s → awaits s.core.reorder d.number d.echo ≡ true
     → k ≡ core.after_fill d s.core → side ≡ after_pop s.completions d → IsCounted (record s { core = k; completions = side })
@@ -210,8 +211,8 @@ counted_filled s d k side whole c awaited is popped =
           let took = sum_last f (map (λ (x : Completion). x.number) s.completions.took) d.number in
           let list : sum_by f (map (λ (x : Completion). x.number) (s.completions.took ++ d ∷ [])) ≡ sum_by f (map (λ (x : Completion). x.number) s.completions.took ++ d.number ∷ []) =
           ap (sum_by f) (map-append (λ (x : Completion). x.number) s.completions.took (d ∷ [])) in
-          let new = numbers_filled-filled f d.number d.echo d.line (s.core.reorder.next - length os) os whole.sound.numbers awaited in
-          omega (arith, took, list, new, c.got working f, sum_by-append f (range_with_len 0 s.taken) (numbers_filled os), sum_by-append f (range_with_len 0 s.taken) (numbers_filled (map (filled d.number d.line) os)));
+          let new = numbers_filled-filled f d.number d.echo (core.service_of d) d.line (s.core.reorder.next - length os) os whole.sound.numbers awaited in
+          omega (arith, took, list, new, c.got working f, sum_by-append f (range_with_len 0 s.taken) (numbers_filled os), sum_by-append f (range_with_len 0 s.taken) (numbers_filled (map (filled d.number (core.service_of d) d.line) os)));
     } in
     subst (λ (t : TakeSide Delivery Completion). IsCounted (record s { core = k; completions = t })) (sym popped)
     (subst (λ (x : core.PortState). IsCounted (record s { core = x; completions = after_pop s.completions d })) (sym is) counted)

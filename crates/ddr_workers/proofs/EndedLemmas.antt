@@ -11,7 +11,7 @@ use Rattle.ddr_reorder.specs.Sound.{IsSound}
 use Rattle.ddr_reorder.specs.State.{Outstanding, IsWithinLine}
 use Rattle.ddr_ports.specs.State as core
 use Rattle.ddr_workers.specs.declared.completions.Delivery.{Delivery}
-use Rattle.ddr_workers.specs.declared.requests.Item.{Item}
+use Rattle.ddr_world.specs.declared.item.Item.{Item}
 use Rattle.ddr_workers.specs.declared.requests.Route.{Route}
 use Rattle.ddr_workers.specs.Counted.{IsCounted, numbers_put, numbers_filled}
 use Rattle.ddr_workers.specs.Ended.{IsEnded, IsWorkerEnded}

@@ -25,8 +25,8 @@ use Rattle.ddr_world.proofs.CoreReplies.{all_taken, same_answer, served_bytes, s
 use Rattle.ddr_world.proofs.LineBytes as lines
 use Rattle.ddr_world.proofs.LineBytes.{asked_of_line}
 use Rattle.ddr_workers.specs.declared.completions.Delivery.{Delivery}
-use Rattle.ddr_workers.specs.declared.requests.Item.{Item}
-use Rattle.ddr_workers.specs.declared.requests.Item.TheVariants.{Request, End}
+use Rattle.ddr_world.specs.declared.item.Item.{Item}
+use Rattle.ddr_world.specs.declared.item.Item.TheVariants.{Request, End}
 use Rattle.ddr_workers.specs.declared.requests.Route.{Route}
 use Rattle.ddr_workers.specs.Completions.{source_of}
 use Rattle.ddr_workers.specs.Headline.{AreJoined, accepted_by, IsReplied, GotAll}

@@ -5,7 +5,7 @@ use Rattle.std.proofs.lemmas.Option.{slice_get_within}
 use Rattle.ddr_timing.specs.declared.config.Config.{Config}
 use Rattle.ddr_address_map.specs.Requests.{Completion}
 use Rattle.ddr_workers.specs.declared.completions.Delivery.{Delivery}
-use Rattle.ddr_workers.specs.declared.requests.Item.{Item}
+use Rattle.ddr_world.specs.declared.item.Item.{Item}
 use Rattle.ddr_workers.specs.declared.requests.Route.{Route}
 use Rattle.ddr_workers.specs.Lanes.{AreLanes, AreEach, AreFrom}
 use Rattle.ddr_workers.specs.Open.{IsNewQueue, IsNewWorker, IsOpenedAt, IsPortOf, IsPortRow, IsWorkerRow, IsWorkerTake, new_port}

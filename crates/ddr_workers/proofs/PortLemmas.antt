@@ -20,8 +20,8 @@ use Rattle.ddr_ports.specs.declared.refusal.PortError.TheVariants.{Finished}
 use Rattle.ddr_ports.specs.State as core
 use Rattle.ddr_ports.specs.State.{request_at, request_with}
 use Rattle.ddr_workers.specs.declared.completions.Delivery.{Delivery}
-use Rattle.ddr_workers.specs.declared.requests.Item.{Item}
-use Rattle.ddr_workers.specs.declared.requests.Item.TheVariants.{Request, End}
+use Rattle.ddr_world.specs.declared.item.Item.{Item}
+use Rattle.ddr_world.specs.declared.item.Item.TheVariants.{Request, End}
 use Rattle.ddr_workers.specs.declared.requests.Route.{Route}
 use Rattle.ddr_workers.specs.Port.{PortState, WasBusy, IsHeldUp, finished, after_busy, after_end, after_ends}
 use Rattle.ddr_workers.specs.PortView.{IsSideTo, IsReady, IsAwaited, IsWhole}
@@ -83,7 +83,7 @@ pub whole_submitted : (s : PortState) (asked : Asked) (r : records.Request) (k :
     → sides ≡ changed_at channel (λ side. after_push side (Request r)) s.requests → IsWhole (record s { core = k; requests = sides })
 whole_submitted s asked r k sides channel whole working is sound pushed =
     let os = s.core.reorder.outstanding in
-    let new : Outstanding = record { number = s.core.reorder.next; echo = echo_of asked; line = None } in
+    let new : Outstanding = record { number = s.core.reorder.next; echo = echo_of asked; line = None; service = None } in
     let dones = s.completions.took in
     let whole' : IsSound (core.after_prepare s.core asked).reorder → IsWhole (record s { core = core.after_prepare s.core asked; requests = changed_at channel (λ side. after_push side (Request r)) s.requests }) =
     λ sound'. record {
@@ -94,7 +94,7 @@ whole_submitted s asked r k sides channel whole working is sound pushed =
       unfinished = whole.unfinished;
       counted = omega (arith, whole.counted, length-append os (new ∷ []));
       sound = sound';
-      ready = All-push (IsReady dones) os new whole.ready tt;
+      ready = All-push (IsReady dones) os new whole.ready (record { reply = tt; service = tt });
       awaited = λ w. All-push (IsAwaited dones) os new (whole.awaited w) (λ none. whole.fresh w s.core.reorder.next (omega arith));
       fresh = λ w number above. whole.fresh w number (omega (arith, above));
     } in
@@ -134,7 +134,7 @@ whole_filled s d k side whole working awaited is sound popped =
       sides = whole.sides;
       ended = whole.ended;
       unfinished = whole.unfinished;
-      counted = omega (arith, whole.counted, length-map os (filled d.number d.line));
+      counted = omega (arith, whole.counted, length-map os (filled d.number (core.service_of d) d.line));
       sound = sound';
       ready = all_ready_filled dones d os whole.ready (whole.awaited working) once.it;
       awaited = λ w. all_awaited_filled dones d os (whole.awaited w);

@@ -6,9 +6,11 @@ use Rattle.std.proofs.lemmas.Bool.{eqb-true, ne_eqb, and_parts, false≢true}
 use Rattle.std.proofs.lemmas.List.Elements.{filter-append, All-nil, All-cons, All-head, All-tail, All-weaker, All-map}
 use Rattle.ddr_address_map.specs.declared.request.Echo.{Echo}
 use Rattle.ddr_address_map.specs.Requests.{Completion}
+use Rattle.ddr_reorder.specs.declared.reply.Service.{Service}
 use Rattle.ddr_reorder.specs.Replies.{Answer, answer_of}
 use Rattle.ddr_reorder.specs.State.{Outstanding, is_same_echo, is_awaited, filled}
 use Rattle.ddr_reorder.proofs.Fills.{same_echo}
+use Rattle.ddr_ports.specs.State.{service_of}
 use Rattle.ddr_workers.specs.Port.{first_with, reply_of}
 use Rattle.ddr_workers.specs.PortView.{IsReady, IsAwaited}
 
@@ -40,16 +42,20 @@ first_other n dones d other none =
 
 -- what stands ready stays so
 
-reply_kept : (n : ℕ) (dones : List Completion) (d : Completion) (a : Answer) (o : Option Completion) → first_with n dones ≡ o → option_map reply_of o ≡ Some a → option_map reply_of (first_with n (dones ++ d ∷ [])) ≡ Some a
-reply_kept n dones d a None is reply = cc
-reply_kept n dones d a (Some x) is reply = ap (option_map reply_of) (first_kept n dones d x is) ∙ reply
+told_kept : {Y : Type 0} (f : Completion → Y) (n : ℕ) (dones : List Completion) (d : Completion) (y : Y) (o : Option Completion) → first_with n dones ≡ o → option_map f o ≡ Some y → option_map f (first_with n (dones ++ d ∷ [])) ≡ Some y
+told_kept f n dones d y None is told = cc
+told_kept f n dones d y (Some x) is told = ap (option_map f) (first_kept n dones d x is) ∙ told
 
 answer_kept : (dones : List Completion) (d : Completion) (o : Option Answer) → IfSome o (λ a. option_map reply_of (first_with a.number dones) ≡ Some a) → IfSome o (λ a. option_map reply_of (first_with a.number (dones ++ d ∷ [])) ≡ Some a)
 answer_kept dones d None ready = tt
-answer_kept dones d (Some a) ready = reply_kept a.number dones d a (first_with a.number dones) refl ready
+answer_kept dones d (Some a) ready = told_kept reply_of a.number dones d a (first_with a.number dones) refl ready
+
+service_kept : (n : ℕ) (dones : List Completion) (d : Completion) (o : Option Service) → IfSome o (λ v. option_map service_of (first_with n dones) ≡ Some v) → IfSome o (λ v. option_map service_of (first_with n (dones ++ d ∷ [])) ≡ Some v)
+service_kept n dones d None ready = tt
+service_kept n dones d (Some v) ready = told_kept service_of n dones d v (first_with n dones) refl ready
 
 pub ready_kept : (dones : List Completion) (d : Completion) (o : Outstanding) → IsReady dones o → IsReady (dones ++ d ∷ []) o
-ready_kept dones d o ready = answer_kept dones d (answer_of o) ready
+ready_kept dones d o ready = record { reply = answer_kept dones d (answer_of o) ready.reply; service = service_kept o.number dones d o.service ready.service }
 
 -- the number that is awaited is outstanding once
 
@@ -110,15 +116,15 @@ awaited_once number echo first (o ∷ os) are any =
 -- after the awaited completion has come
 
 ready_filled : (dones : List Completion) (d : Completion) (o : Outstanding) (b : Bool) → nat_eq o.number d.number ≡ b → IsReady dones o → IsAwaited dones o → IsIt d.number d.echo o
-    → IsReady (dones ++ d ∷ []) (cond b (record o { line = Some d.line }) o)
+    → IsReady (dones ++ d ∷ []) (cond b (record o { line = Some d.line; service = Some (service_of d) }) o)
 ready_filled dones d o false e ready awaited it = ready_kept dones d o ready
 ready_filled dones d o true e ready awaited it =
     let same = eqb-true o.number d.number e in
     let parts = it same in
     let first = first_new o.number dones d (sym same) (awaited parts.1) in
-    rw (first, same, parts.0) refl
+    record { reply = rw (first, same, parts.0) refl; service = ap (option_map service_of) first }
 
-awaited_filled : (dones : List Completion) (d : Completion) (o : Outstanding) (b : Bool) → nat_eq o.number d.number ≡ b → IsAwaited dones o → IsAwaited (dones ++ d ∷ []) (cond b (record o { line = Some d.line }) o)
+awaited_filled : (dones : List Completion) (d : Completion) (o : Outstanding) (b : Bool) → nat_eq o.number d.number ≡ b → IsAwaited dones o → IsAwaited (dones ++ d ∷ []) (cond b (record o { line = Some d.line; service = Some (service_of d) }) o)
 awaited_filled dones d o true e awaited = λ none. cc
 awaited_filled dones d o false e awaited = λ none. first_other o.number dones d (λ same. false≢true (sym e ∙ eq-eqb o.number d.number (sym same))) (awaited none)
 
@@ -127,12 +133,12 @@ all_of_three P Q R S f [] p q r = All-nil S
 all_of_three P Q R S f (x ∷ xs) p q r =
     All-cons S x xs (f x (All-head P x xs p) (All-head Q x xs q) (All-head R x xs r)) (all_of_three P Q R S f xs (All-tail P x xs p) (All-tail Q x xs q) (All-tail R x xs r))
 
-pub all_ready_filled : (dones : List Completion) (d : Completion) (os : List Outstanding) → All (IsReady dones) os → All (IsAwaited dones) os → All (IsIt d.number d.echo) os → All (IsReady (dones ++ d ∷ [])) (map (filled d.number d.line) os)
+pub all_ready_filled : (dones : List Completion) (d : Completion) (os : List Outstanding) → All (IsReady dones) os → All (IsAwaited dones) os → All (IsIt d.number d.echo) os → All (IsReady (dones ++ d ∷ [])) (map (filled d.number (service_of d) d.line) os)
 all_ready_filled dones d os ready awaited it =
-    All-map (IsReady (dones ++ d ∷ [])) (filled d.number d.line) os
-    (all_of_three (IsReady dones) (IsAwaited dones) (IsIt d.number d.echo) (λ o. IsReady (dones ++ d ∷ []) (filled d.number d.line o)) (λ o. ready_filled dones d o (nat_eq o.number d.number) refl) os ready awaited it)
+    All-map (IsReady (dones ++ d ∷ [])) (filled d.number (service_of d) d.line) os
+    (all_of_three (IsReady dones) (IsAwaited dones) (IsIt d.number d.echo) (λ o. IsReady (dones ++ d ∷ []) (filled d.number (service_of d) d.line o)) (λ o. ready_filled dones d o (nat_eq o.number d.number) refl) os ready awaited it)
 
-pub all_awaited_filled : (dones : List Completion) (d : Completion) (os : List Outstanding) → All (IsAwaited dones) os → All (IsAwaited (dones ++ d ∷ [])) (map (filled d.number d.line) os)
+pub all_awaited_filled : (dones : List Completion) (d : Completion) (os : List Outstanding) → All (IsAwaited dones) os → All (IsAwaited (dones ++ d ∷ [])) (map (filled d.number (service_of d) d.line) os)
 all_awaited_filled dones d os awaited =
-    All-map (IsAwaited (dones ++ d ∷ [])) (filled d.number d.line) os
-    (All-weaker (IsAwaited dones) (λ o. IsAwaited (dones ++ d ∷ []) (filled d.number d.line o)) (λ o. awaited_filled dones d o (nat_eq o.number d.number) refl) os awaited)
+    All-map (IsAwaited (dones ++ d ∷ [])) (filled d.number (service_of d) d.line) os
+    (All-weaker (IsAwaited dones) (λ o. IsAwaited (dones ++ d ∷ []) (filled d.number (service_of d) d.line o)) (λ o. awaited_filled dones d o (nat_eq o.number d.number) refl) os awaited)

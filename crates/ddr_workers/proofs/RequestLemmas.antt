@@ -1,8 +1,8 @@
 -- What a port's list keeps as it grows, and what its End says of what is left.
 use Rattle.std.proofs.Common.{◌≡◌, ◌≢◌, ℕ, ◌<◌, true, false, eqb, eq-eqb, List, [], ◌∷◌, ◌++◌, All, refl, ap, ◌∙◌, subst}
 use Rattle.std.proofs.lemmas.List.Elements.{filter-append, All-nil, All-cons, All-append}
-use Rattle.ddr_workers.specs.declared.requests.Item.{Item}
-use Rattle.ddr_workers.specs.declared.requests.Item.TheVariants.{Request, End}
+use Rattle.ddr_world.specs.declared.item.Item.{Item}
+use Rattle.ddr_world.specs.declared.item.Item.TheVariants.{Request, End}
 use Rattle.ddr_workers.specs.declared.requests.Route.{Route}
 use Rattle.ddr_workers.specs.Requests.{port_of, of_port, has_end, ends_last, IsPlacedItem, IsProper, IsNext}
 use Rattle.ddr_workers.specs.Sides as sides

@@ -1,7 +1,7 @@
 -- A port stays the one that it was, over the same queues.
 use Rattle.std.proofs.Common.{◌≡◌, ℕ, zero, suc, ◌-◌, map, refl, sym, ap, ◌∙◌, subst}
-use Rattle.ddr_workers.specs.declared.requests.Item.{Item}
-use Rattle.ddr_workers.specs.declared.requests.Item.TheVariants.{End}
+use Rattle.ddr_world.specs.declared.item.Item.{Item}
+use Rattle.ddr_world.specs.declared.item.Item.TheVariants.{End}
 use Rattle.ddr_workers.specs.declared.requests.Route.{Route}
 use Rattle.ddr_workers.specs.Port.{PortState, PortEnded, IsEndOfPort, IsHeldUp, IsSamePort, after_busy, after_ends, end_of}
 use Rattle.ddr_workers.specs.Sides.{PutSide, PutId, after_full, after_push, changed_at}

@@ -15,8 +15,8 @@ use Rattle.ddr_address_map.proofs.MapLemmas.{place_of-below, place_of-past, plac
 use Rattle.ddr_channel.specs.History.{History, Owner}
 use Rattle.ddr_channel.specs.Promise.{IsNextAnswer, answer_to}
 use Rattle.ddr_workers.specs.declared.completions.Delivery.{Delivery}
-use Rattle.ddr_workers.specs.declared.requests.Item.{Item}
-use Rattle.ddr_workers.specs.declared.requests.Item.TheVariants.{Request, End}
+use Rattle.ddr_world.specs.declared.item.Item.{Item}
+use Rattle.ddr_world.specs.declared.item.Item.TheVariants.{Request, End}
 use Rattle.ddr_workers.specs.declared.requests.Route.{Route}
 use Rattle.ddr_workers.specs.Requests.{port_of, of_port, has_end, is_end}
 use Rattle.ddr_workers.specs.Sides.{PutSide, after_push, after_full, changed_at}

@@ -28,9 +28,11 @@ use Rattle.ddr_channel.specs.State.{State, after_admit, after_pop, is_queue_full
 use Rattle.ddr_channel.specs.Sound.{AreDue}
 use Rattle.ddr_channel.proofs.HistoryLemmas.{kept_run}
 use Rattle.ddr_channel.proofs.StandsLemmas.{cycle_start}
+use Rattle.ddr_world.specs.Items.{MayTake, Takes}
+use Rattle.ddr_world.proofs.SideLemmas.{free_kind}
 use Rattle.ddr_workers.specs.declared.completions.Delivery.{Delivery}
-use Rattle.ddr_workers.specs.declared.requests.Item.{Item}
-use Rattle.ddr_workers.specs.declared.requests.Item.TheVariants.{Request, End}
+use Rattle.ddr_world.specs.declared.item.Item.{Item}
+use Rattle.ddr_world.specs.declared.item.Item.TheVariants.{Request, End}
 use Rattle.ddr_workers.specs.declared.requests.Route.{Route}
 use Rattle.ddr_workers.specs.declared.worker.Cause.TheVariants.{OutOfMemory}
 use Rattle.ddr_workers.specs.Open.{IsNewDonePut}
@@ -309,6 +311,25 @@ tried_noted w q t noted before popped =
     } in
     subst (λ (x : TakeSide Route Item). HasTried (record w { requests = x; noted = noted })) (sym popped) tried
 
+-- an item was taken
+
+pub whole_taken : (w : WorkerState) (k : Kept) (x : Item) (t : TakeSide Route Item) (noted : List Bool) → IsWhole w → t ≡ sides.after_pop w.requests x → IsNext w.requests x
+    → (is_queue_full (kept.state_of w.channel) Read ≡ false) × (is_queue_full (kept.state_of w.channel) Write ≡ false) → Takes x w.channel k w.noted noted → IsWhole (record w { channel = k; requests = t; noted = noted })
+whole_taken w k (Request r) t noted whole popped is_next free takes =
+    subst (λ (xs : List Bool). IsWhole (record w { channel = k; requests = t; noted = xs })) (sym takes.1)
+    (whole_admitted w k r t whole popped is_next (free_kind (kept.state_of w.channel) r.echo.kind free) takes.0.state takes.0.config takes.0.stands)
+whole_taken w k (End q) t noted whole popped is_next free takes =
+    subst (λ (xs : List Bool). IsWhole (record w { channel = k; requests = t; noted = xs })) (sym takes.1)
+    (subst (λ (c : Kept). IsWhole (record w { channel = c; requests = t; noted = set w.noted q true })) (sym takes.0) (whole_noted w q t whole popped is_next))
+
+pub tried_taken : (w : WorkerState) (k : Kept) (x : Item) (t : TakeSide Route Item) (noted : List Bool) → HasTried w → t ≡ sides.after_pop w.requests x
+    → (is_queue_full (kept.state_of w.channel) Read ≡ false) × (is_queue_full (kept.state_of w.channel) Write ≡ false) → Takes x w.channel k w.noted noted → HasTried (record w { channel = k; requests = t; noted = noted })
+tried_taken w k (Request r) t noted before popped free takes =
+    subst (λ (xs : List Bool). HasTried (record w { channel = k; requests = t; noted = xs })) (sym takes.1)
+    (tried_admitted w k r t before popped (free_kind (kept.state_of w.channel) r.echo.kind free) takes.0.state takes.0.config takes.0.stands)
+tried_taken w k (End q) t noted before popped free takes =
+    subst (λ (c : Kept). HasTried (record w { channel = c; requests = t; noted = noted })) (sym takes.0) (tried_noted w q t noted before popped)
+
 -- no item was there
 pub tried_empty : (w : WorkerState) (t : TakeSide Route Item) → HasTried w → t ≡ sides.after_empty w.requests → HasTried (record w { requests = t })
 tried_empty w t before none =
@@ -440,24 +461,16 @@ pub none_of : {X : Type 0} (o : Option X) → is_some o ≡ false → o ≡ None
 none_of None e = refl
 none_of (Some x) e = cc
 
--- where both queues have a free place, that of each kind has
-pub free_kind : (s : State) (kind : Kind) → (is_queue_full s Read ≡ false) × (is_queue_full s Write ≡ false) → is_queue_full s kind ≡ false
-free_kind s Read free = free.0
-free_kind s Write free = free.1
-
-pub admitted : {T E : Type 0} (r : Result T E) (full : Bool) → (IsErr r ↔ IsTrue full) → full ≡ false → IsOk r
-admitted (Ok x) full err free = refl
-admitted (Err e) full err free = absurd (false≢true (sym free ∙ err.0 refl))
-
-pub on_ok : {T E P : Type 0} (r : Result T E) → IsOk r → OnOk r P → P
-on_ok (Ok x) ok p = p
-on_ok (Err e) ok p = absurd (false≢true ok)
-
 -- the place of a request that was taken is in the memory
 pub served : (w : WorkerState) (r : records.Request) → IsWhole w → IsNext w.requests (Request r) → in_range w.channel.config.geometry r.place ≡ true
 served w r whole next =
     let placed = ap (λ (route : Route). place_of route.geometry r.echo.addr) (sym whole.route) ∙ next.placed.place in
     in_range_of w.channel.config.geometry r.echo.addr r.place placed
+
+-- the channel may take what its worker popped
+pub may_take : (w : WorkerState) (x : Item) → IsWhole w → IsNext w.requests x → (is_queue_full (kept.state_of w.channel) Read ≡ false) × (is_queue_full (kept.state_of w.channel) Write ≡ false) → MayTake x w.channel w.noted
+may_take w (Request r) whole next free = (served w r whole next, free_kind (kept.state_of w.channel) r.echo.kind free)
+may_take w (End q) whole next free = omega (arith, next.port, whole.ports, whole.noted_ports)
 
 -- a cycle that was made, or was not
 pub cycle_begins : {T : Type 0} (k k' : Kept) (r : Result T CycleError) → OnOk r (kept.state_of k' ≡ after_cycle (kept.state_of k)) → OnErr r (kept.state_of k' ≡ kept.state_of k) → k'.start ≡ k.start

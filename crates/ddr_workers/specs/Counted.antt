@@ -2,7 +2,7 @@
 use Rattle.std.specs.Prelude.{◌≡◌, ℕ, false, List, ◌++◌, All, map, filter, flat_map, is_some, Some, slice_get, sum_by}
 use Rattle.std.specs.List.{range_with_len}
 use Rattle.ddr_reorder.specs.State.{Outstanding, IsWithinLine}
-use Rattle.ddr_workers.specs.declared.requests.Item.{Item}
+use Rattle.ddr_world.specs.declared.item.Item.{Item}
 use Rattle.ddr_workers.specs.declared.requests.Route.{Route}
 use Rattle.ddr_workers.specs.Port.{PortState}
 use Rattle.ddr_workers.specs.Sides.{PutSide}

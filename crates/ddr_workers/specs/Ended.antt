@@ -4,7 +4,7 @@ use Rattle.std.specs.List.{range_with_len}
 use Rattle.ddr_timing.specs.declared.geometry.Geometry.{Geometry}
 use Rattle.ddr_address_map.specs.Requests.{Completion}
 use Rattle.ddr_workers.specs.declared.completions.Delivery.{Delivery}
-use Rattle.ddr_workers.specs.declared.requests.Item.{Item}
+use Rattle.ddr_world.specs.declared.item.Item.{Item}
 use Rattle.ddr_workers.specs.declared.requests.Route.{Route}
 use Rattle.ddr_workers.specs.Counted.{AreAlike, AreWithinLines, numbers_put}
 use Rattle.ddr_workers.specs.Port.{PortEnded}

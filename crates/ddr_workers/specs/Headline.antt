@@ -6,7 +6,7 @@ use Rattle.ddr_address_map.specs.Requests as records
 use Rattle.ddr_address_map.specs.Requests.{Completion}
 use Rattle.ddr_world.specs.Promise as core
 use Rattle.ddr_workers.specs.declared.completions.Delivery.{Delivery}
-use Rattle.ddr_workers.specs.declared.requests.Item.{Item}
+use Rattle.ddr_world.specs.declared.item.Item.{Item}
 use Rattle.ddr_workers.specs.declared.requests.Route.{Route}
 use Rattle.ddr_workers.specs.Completions.{of_channel, source_of}
 use Rattle.ddr_workers.specs.Ended.{IsEnded, IsWorkerEnded}

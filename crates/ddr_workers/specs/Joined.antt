@@ -5,7 +5,7 @@ use Rattle.std.specs.Global.{Vec}
 use Rattle.ddr_address_map.specs.Requests.{Completion}
 use Rattle.ddr_workers.specs.declared.closing.Room.{Room}
 use Rattle.ddr_workers.specs.declared.completions.Delivery.{Delivery}
-use Rattle.ddr_workers.specs.declared.requests.Item.{Item}
+use Rattle.ddr_world.specs.declared.item.Item.{Item}
 use Rattle.ddr_workers.specs.declared.requests.Route.{Route}
 use Rattle.ddr_workers.specs.Closing.{AreOpposite}
 use Rattle.ddr_workers.specs.Completions as completions

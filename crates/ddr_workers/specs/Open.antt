@@ -7,7 +7,7 @@ use Rattle.ddr_channel.specs.Kept.{state_of}
 use Rattle.ddr_channel.specs.State.{opened}
 use Rattle.ddr_ports.specs.State as core
 use Rattle.ddr_workers.specs.declared.completions.Delivery.{Delivery}
-use Rattle.ddr_workers.specs.declared.requests.Item.{Item}
+use Rattle.ddr_world.specs.declared.item.Item.{Item}
 use Rattle.ddr_workers.specs.declared.requests.Route.{Route}
 use Rattle.ddr_workers.specs.Port.{PortState}
 use Rattle.ddr_workers.specs.Sides.{PutSide, TakeSide, new_put}

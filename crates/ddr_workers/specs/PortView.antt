@@ -6,9 +6,10 @@ use Rattle.ddr_address_map.specs.Requests.{Completion}
 use Rattle.ddr_reorder.specs.Replies.{answer_of}
 use Rattle.ddr_reorder.specs.Sound.{IsSound}
 use Rattle.ddr_reorder.specs.State.{Outstanding}
+use Rattle.ddr_ports.specs.State.{service_of}
 use Rattle.ddr_workers.specs.declared.port.Port.TheInside.{Inside}
 use Rattle.ddr_workers.specs.declared.port.PortEnd.TheInside as end_inside
-use Rattle.ddr_workers.specs.declared.requests.Item.{Item}
+use Rattle.ddr_world.specs.declared.item.Item.{Item}
 use Rattle.ddr_workers.specs.declared.requests.Route.{Route}
 use Rattle.ddr_workers.specs.Port.{PortState, PortEnded, first_with, reply_of}
 use Rattle.ddr_workers.specs.Requests.{has_end}
@@ -34,9 +35,10 @@ pub record IsSideTo (port : ℕ) (geometry : Geometry) (ended : ℕ) (channel : 
   pub route : side.who.queue.purpose ≡ record { geometry = geometry; channel = channel }
   pub ends : has_end side.put ≡ nat_lt channel ended
 
--- what stands ready for a number is the reply of the first completion with it
-abbrev pub IsReady : List Completion → Outstanding → Type 0
-IsReady dones o = IfSome (answer_of o) (λ answer. option_map reply_of (first_with answer.number dones) ≡ Some answer)
+-- what stands ready for a number is the reply of the first completion with it, and so are the cycles that it tells
+pub record IsReady (dones : List Completion) (o : Outstanding) : Type 0 where
+  pub reply : IfSome (answer_of o) (λ answer. option_map reply_of (first_with answer.number dones) ≡ Some answer)
+  pub service : IfSome o.service (λ v. option_map service_of (first_with o.number dones) ≡ Some v)
 
 -- no completion has come for a number that is waited for
 abbrev pub IsAwaited : List Completion → Outstanding → Type 0

@@ -15,8 +15,8 @@ use Rattle.ddr_channel.specs.Kept.{Kept, state_of}
 use Rattle.ddr_channel.specs.Promise.{KeepsPromise, right_answer, owned_entry}
 use Rattle.ddr_channel.specs.State.{State}
 use Rattle.ddr_workers.specs.declared.completions.Delivery.{Delivery}
-use Rattle.ddr_workers.specs.declared.requests.Item.{Item}
-use Rattle.ddr_workers.specs.declared.requests.Item.TheVariants.{Request, End}
+use Rattle.ddr_world.specs.declared.item.Item.{Item}
+use Rattle.ddr_world.specs.declared.item.Item.TheVariants.{Request, End}
 use Rattle.ddr_workers.specs.declared.requests.Route.{Route}
 use Rattle.ddr_workers.specs.declared.worker.Cause.{Cause}
 use Rattle.ddr_workers.specs.declared.worker.Cause.TheVariants.{ClockSpent, OutOfMemory}

@@ -11,7 +11,7 @@
 //! the sides carried.
 //!
 //! Below stand one port (`ddr_ports`), one channel (`ddr_channel`), the right replies to a list of requests as the core
-//! defines them (`ddr_world`), the requests (`ddr_address_map`) and the configuration (`ddr_timing`). Above stands the
+//! defines them and the items of a request queue (`ddr_world`), the requests (`ddr_address_map`) and the configuration (`ddr_timing`). Above stands the
 //! program's `run`. No call starts a thread: ports and workers are moved into threads of the caller.
 #![tactic(auto)]
 

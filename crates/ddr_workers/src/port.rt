@@ -4,16 +4,16 @@
 //! Below stand `PortCore`, which numbers the requests and gives the replies back in order, and the queues.
 ghost use Rattle.std.specs.Prelude.{◌≡◌, ℕ, ◌+◌, ◌-◌, ◌≤◌, ◌<◌, true, false, length, [], Some, IfErr, IfNone, IfOk, IfSome, OnErr, OnOk, OnSome, slice_get};
 ghost use Rattle.std.specs.Option.{option_map};
-ghost use Rattle.ddr_reorder.specs.Replies.{front_number, lent_count, nth_answer, ready_count, said};
+ghost use Rattle.ddr_reorder.specs.Replies.{front_number, lent_count, lent_service, nth_answer, nth_service, ready_count, said};
 ghost use Rattle.ddr_reorder.specs.Sound.{IsSound};
 ghost use Rattle.ddr_ports.specs.Asked.{asked_of};
 ghost use Rattle.ddr_ports.specs.State.{opened};
-ghost use Rattle.ddr_workers.specs.declared.requests.Item.{Item};
+ghost use Rattle.ddr_world.specs.declared.item.Item.{Item};
 ghost use Rattle.ddr_workers.specs.declared.requests.Route.{Route};
 ghost use Rattle.ddr_workers.specs.Ended.{IsEnded};
 ghost use Rattle.ddr_workers.specs.Open.{IsNewPut, new_port};
-ghost use Rattle.ddr_workers.specs.declared.requests.Item.TheVariants.{Request as Asking, End};
-ghost use Rattle.ddr_workers.specs.Port.{PortState, IsEndOfPort, IsSamePort, IsSubmitted, IsNotSubmitted, IsPolled, IsNotPolled, IsFinished, IsNotFinished, IsHeldUp, IsOfFirst, WasBusy, after_busy, after_end, after_ends, after_release, finished};
+ghost use Rattle.ddr_world.specs.declared.item.Item.TheVariants.{Request as Asking, End};
+ghost use Rattle.ddr_workers.specs.Port.{PortState, IsEndOfPort, IsSamePort, IsSubmitted, IsNotSubmitted, IsPolled, IsNotPolled, IsFinished, IsNotFinished, IsHeldUp, IsOfFirst, IsServiceOfFirst, WasBusy, after_busy, after_end, after_ends, after_release, finished};
 ghost use Rattle.ddr_workers.specs.Requests.{has_end, IsPlaced, WasFull};
 ghost use Rattle.ddr_workers.specs.Sides.{PutSide, after_full, after_push, changed_at};
 
@@ -249,7 +249,9 @@ impl Port {
     /// The oldest reply, where it is ready: that of the first completion with its number that the port got.
     pub fn front(&self) -> Option<Reply<'_>>
         ensures answer { option_map said result ≡ nth_answer self.now.core.reorder 0 }
+        ensures service { option_map lent_service result ≡ nth_service self.now.core.reorder 0 }
         ensures first { IfSome result (λ reply. IsOfFirst self.now (said reply)) }
+        ensures served { IfSome result (λ reply. IsServiceOfFirst self.now reply.number (lent_service reply)) }
         ensures oldest { IfSome result (λ reply. reply.number ≡ self.now.taken) }
         ensures count { IfSome result (λ reply. length reply.bytes.now ≡ lent_count reply.echo) }
     {
@@ -259,7 +261,9 @@ impl Port {
     /// The reply with so many older ones. It is there exactly where it and all older ones are ready.
     pub fn nth(&self, k: usize) -> Option<Reply<'_>>
         ensures answer { option_map said result ≡ nth_answer self.now.core.reorder k }
+        ensures service { option_map lent_service result ≡ nth_service self.now.core.reorder k }
         ensures first { IfSome result (λ reply. IsOfFirst self.now (said reply)) }
+        ensures served { IfSome result (λ reply. IsServiceOfFirst self.now reply.number (lent_service reply)) }
         ensures place { IfSome result (λ reply. reply.number ≡ self.now.taken + k) }
         ensures count { IfSome result (λ reply. length reply.bytes.now ≡ lent_count reply.echo) }
     {

@@ -3,7 +3,7 @@
 //! It has a put side for each port and one take side, which go to threads of their own. Below stands `lane`, which
 //! has the queue and its rule.
 ghost use Rattle.std.specs.Prelude.{◌≡◌, ◌<◌, ℕ, true, false, [], IfOk, IfErr, IfSome, IfNone, OnOk, OnErr};
-ghost use Rattle.ddr_workers.specs.declared.requests.Item.TheVariants.{Request, End};
+ghost use Rattle.ddr_world.specs.declared.item.Item.TheVariants.{Request, End};
 ghost use Rattle.ddr_workers.specs.Requests.{has_end, of_port, IsPlaced, WasFull, WasEmpty, IsNext, IsLeft};
 ghost use Rattle.ddr_workers.specs.Sides.{after_push, after_full, after_pop, after_empty, AreOpened, AreSides};
 
@@ -18,12 +18,7 @@ use std::sync::Wait;
 use thiserror::Error;
 
 /// What travels to a channel.
-#[derive(Debug, Drop)]
-pub enum Item {
-    Request(Req),
-    /// The last word of a port, by its number: nothing comes after it.
-    End(u32),
-}
+pub use ddr_world::item::Item;
 
 /// Where a queue leads: to a channel of this shape of memory.
 #[derive(Clone, Copy)]

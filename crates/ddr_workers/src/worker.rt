@@ -23,7 +23,7 @@ use crate::completions::DonePut;
 use crate::ends::Numbered;
 use crate::error::OpenError;
 use crate::gate::{Gate, Turn};
-use crate::requests::{Item, RequestTake};
+use crate::requests::RequestTake;
 use crate::rest::Rest;
 use ddr_address_map::request::Done;
 use ddr_channel::channel::{Channel, CycleError};
@@ -236,10 +236,8 @@ impl Worker {
         if !self.channel.room() {
             return;
         }
-        match self.requests.pop(rt) {
-            Some(Item::Request(request)) => self.channel.admit(request).unwrap(),
-            Some(Item::End(port)) => self.noted[port as usize] = true,
-            None => {}
+        if let Some(item) = self.requests.pop(rt) {
+            item.take_in(&mut self.channel, self.noted.as_mut_slice());
         }
     }
 

@@ -1,5 +1,5 @@
 use Rattle.std.proofs.Common.{ℕ, ◌+◌, List, [], ◌∷◌, ◌++◌, sym, ◌∙◌, subst}
-use Rattle.ddr_workers.specs.declared.requests.Item.{Item}
+use Rattle.ddr_world.specs.declared.item.Item.{Item}
 use Rattle.ddr_workers.specs.declared.requests.Route.{Route}
 use Rattle.ddr_workers.specs.Lanes.{AreLanes, lists}
 use Rattle.ddr_workers.specs.Sides.{PutSide, TakeSide}

@@ -2,7 +2,7 @@ use Rattle.std.proofs.Common.{◌≡◌, false, slice_get, refl, sym, ap, ◌∙
 use Rattle.ddr_address_map.specs.Requests.{Request as Wanted}
 use Rattle.ddr_ports.specs.Asked.{asked_of}
 use Rattle.ddr_ports.specs.State as core
-use Rattle.ddr_workers.specs.declared.requests.Item.TheVariants.{Request}
+use Rattle.ddr_world.specs.declared.item.Item.TheVariants.{Request}
 use Rattle.ddr_workers.specs.Port.{PortState, IsSamePort}
 use Rattle.ddr_workers.specs.PortView.{state_of}
 use Rattle.ddr_workers.specs.Requests.{has_end, IsPlaced}
