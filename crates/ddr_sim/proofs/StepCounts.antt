@@ -11,7 +11,7 @@ use Rattle.ddr_address_map.specs.Requests.{Completion}
 use Rattle.ddr_address_map.specs.declared.request.Kind.TheVariants.{Read, Write}
 use Rattle.ddr_channel.specs.State.{is_queue_full}
 use Rattle.ddr_ports.specs.Asked.{Asked, echo_of}
-use Rattle.ddr_ports.specs.State.{refusal_of, request_at}
+use Rattle.ddr_ports.specs.State.{refusal_of, request_at, service_of}
 use Rattle.ddr_ports.specs.declared.refusal.PortError.{PortError}
 use Rattle.ddr_reorder.specs.Replies.{Answer, answer_of, front_number, is_filled}
 use Rattle.ddr_reorder.specs.State.{Outstanding, awaits, filled}
@@ -78,7 +78,7 @@ submit_counts s p asked = at_port_has (Counts s (Submit p asked)) s p (submit_by
     (maybe_has (Counts s (Submit p asked)) (push_request s p port asked) (Err refusal.OutOfRange) (request_at port.core asked) tt (λ r prepared.
     at_channel_has (Counts s (Submit p asked)) s r.place.channel (push_on s p port asked r) (slice_get s.channels r.place.channel) refl tt (λ side found.
     either_has (Counts s (Submit p asked)) (is_busy side) (Err (refusal.Busy r.place.channel)) (made (with_channel r.place.channel (queued (item.Request r) side) (with_port p (after_submit asked port) s)) (outcome.Accepted r.number)) tt
-    (omega (arith, port_set s p port (after_submit asked port) there, length_push port.core.reorder.outstanding (record { number = port.core.reorder.next; echo = echo_of asked; line = None })), refl))))
+    (omega (arith, port_set s p port (after_submit asked port) there, length_push port.core.reorder.outstanding (record { number = port.core.reorder.next; echo = echo_of asked; line = None; service = None })), refl))))
     (λ cause is. tt))
 
 deliver_counts : (s : State) (c : ℕ) → Counts s (Deliver c) (deliver s c)
@@ -88,8 +88,8 @@ deliver_counts s c = at_channel_has (Counts s (Deliver c)) s c (deliver_by s c) 
     either_has (Counts s (Deliver c)) (is_completion_queue_full port) (Err refusal.QueueFull) (made (with_port d.port (after_deliver d port) (with_channel c (sent side) s)) outcome.Delivered) tt
     (same_numbers s d.port port (after_deliver d port) there refl))))
 
-filled_numbers : (port : PortSide) (d : Completion) (b : Bool) → numbers (record port { core = cond b (record port.core { reorder = record port.core.reorder { outstanding = map (filled d.number d.line) port.core.reorder.outstanding } }) port.core; completions = drop 1 port.completions }) ≡ numbers port
-filled_numbers port d true = length-map port.core.reorder.outstanding (filled d.number d.line)
+filled_numbers : (port : PortSide) (d : Completion) (b : Bool) → numbers (record port { core = cond b (record port.core { reorder = record port.core.reorder { outstanding = map (filled d.number (service_of d) d.line) port.core.reorder.outstanding } }) port.core; completions = drop 1 port.completions }) ≡ numbers port
+filled_numbers port d true = length-map port.core.reorder.outstanding (filled d.number (service_of d) d.line)
 filled_numbers port d false = refl
 
 collect_counts : (s : State) (p : ℕ) → Counts s (Collect p) (collect s p)
