@@ -10,7 +10,7 @@ use Rattle.ddr_address_map.specs.Requests.{Request, Completion}
 use Rattle.ddr_reorder.specs.Replies.{Answer, answer_of, front_number, is_filled, nth_answer}
 use Rattle.ddr_reorder.specs.State.{Outstanding, ReorderState, filled}
 use Rattle.ddr_ports.specs.Asked.{Asked, echo_of}
-use Rattle.ddr_ports.specs.State.{request_at}
+use Rattle.ddr_ports.specs.State.{request_at, service_of}
 use Rattle.ddr_workers.specs.declared.completions.Delivery.{Delivery}
 use Rattle.ddr_workers.specs.declared.port.PollAnswer.{PollAnswer}
 use Rattle.ddr_workers.specs.declared.port.PollAnswer.TheVariants.{Filled, Empty}
@@ -18,8 +18,8 @@ use Rattle.ddr_workers.specs.declared.refusal.PollError.{PollError}
 use Rattle.ddr_workers.specs.declared.refusal.PollError.TheVariants as poll
 use Rattle.ddr_workers.specs.declared.refusal.SubmitError.{SubmitError}
 use Rattle.ddr_workers.specs.declared.refusal.SubmitError.TheVariants as submit
-use Rattle.ddr_workers.specs.declared.requests.Item.{Item}
-use Rattle.ddr_workers.specs.declared.requests.Item.TheVariants as item
+use Rattle.ddr_world.specs.declared.item.Item.{Item}
+use Rattle.ddr_world.specs.declared.item.Item.TheVariants as item
 use Rattle.ddr_workers.specs.declared.requests.Route.{Route}
 use Rattle.ddr_workers.specs.Port.{PortState, PortEnded, IsEndOfPort, IsFinished, IsHeldUp, IsOfFirst, IsNotPolled, IsNotSubmitted, IsPolled, IsSamePort, IsSubmitted, after_busy, after_ends, after_filled, after_nothing, after_release, after_stray, after_submit, finished, first_with, reply_of}
 use Rattle.ddr_workers.specs.Sides.{PutSide, TakeSide, after_full, after_push, changed_at}
@@ -205,7 +205,7 @@ popped_hosting a q done kept port taken counted took = record {
 
 pub hosting_submitted : (a : Inside) (q : PortState) (asked : Asked) (r : Result ℕ SubmitError) → IsHosting a → IfOk r (IsSubmitted a.port q asked) → IfErr r (IsNotSubmitted a.port q asked) → IsHosting (record a { port = q })
 hosting_submitted a q asked (Ok n) kept is err =
-    subst (λ u. IsHosting (record a { port = u })) (sym is.state) (still_hosting a (after_submit asked is.made a.port) kept refl refl (omega (arith, kept.counted, length-append a.port.core.reorder.outstanding (record { number = a.port.core.reorder.next; echo = echo_of asked; line = None } ∷ []))) refl)
+    subst (λ u. IsHosting (record a { port = u })) (sym is.state) (still_hosting a (after_submit asked is.made a.port) kept refl refl (omega (arith, kept.counted, length-append a.port.core.reorder.outstanding (record { number = a.port.core.reorder.next; echo = echo_of asked; line = None; service = None } ∷ []))) refl)
 hosting_submitted a q asked (Err (submit.Busy channel)) kept ok is = subst (λ u. IsHosting (record a { port = u })) (sym is.state) (still_hosting a (after_busy channel a.port) kept refl refl kept.counted refl)
 hosting_submitted a q asked (Err submit.Broken) kept ok is = subst (λ u. IsHosting (record a { port = u })) (sym is.1) kept
 hosting_submitted a q asked (Err (submit.Refused cause)) kept ok is = subst (λ u. IsHosting (record a { port = u })) (sym is.1) kept
@@ -213,7 +213,7 @@ hosting_submitted a q asked (Err (submit.Refused cause)) kept ok is = subst (λ 
 pub hosting_polled : (a : Inside) (q : PortState) (r : Result PollAnswer PollError) → IsHosting a → IfOk r (IsPolled a.port q) → IfErr r (IsNotPolled a.port q) → IsHosting (record a { port = q })
 hosting_polled a q (Ok (Filled n)) kept is err =
     subst (λ u. IsHosting (record a { port = u })) (sym is.state)
-    (popped_hosting a (after_filled is.done a.port) is.done kept refl refl (omega (arith, kept.counted, length-map a.port.core.reorder.outstanding (filled is.done.number is.done.line))) refl)
+    (popped_hosting a (after_filled is.done a.port) is.done kept refl refl (omega (arith, kept.counted, length-map a.port.core.reorder.outstanding (filled is.done.number (service_of is.done) is.done.line))) refl)
 hosting_polled a q (Ok Empty) kept is err = subst (λ u. IsHosting (record a { port = u })) (sym is.state) (still_hosting a (after_nothing a.port) kept refl refl kept.counted refl)
 hosting_polled a q (Err poll.Broken) kept ok is = subst (λ u. IsHosting (record a { port = u })) (sym is.1) kept
 hosting_polled a q (Err poll.Stray) kept ok is = subst (λ u. IsHosting (record a { port = u })) (sym is.state) (popped_hosting a (after_stray is.done a.port) is.done kept refl refl kept.counted refl)

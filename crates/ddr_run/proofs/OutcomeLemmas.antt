@@ -4,7 +4,7 @@ use Rattle.std.proofs.lemmas.List.{append-nil, at_drop_all, at_drop_more}
 use Rattle.ddr_timing.specs.declared.config.Config.{Config}
 use Rattle.ddr_trace.specs.declared.checker.Fault as checker
 use Rattle.ddr_trace.specs.Traces.{Recorded}
-use Rattle.ddr_workers.specs.declared.requests.Item.{Item}
+use Rattle.ddr_world.specs.declared.item.Item.{Item}
 use Rattle.ddr_workers.specs.declared.requests.Route.{Route}
 use Rattle.ddr_workers.specs.Closing.{AreAllEnds, AreComplete, AreMatched}
 use Rattle.ddr_workers.specs.Open.{IsOpened, IsOpenedAt}

@@ -8,7 +8,7 @@ use Rattle.ddr_reorder.specs.State as reorder
 use Rattle.ddr_ports.specs.Asked.{Asked}
 use Rattle.ddr_ports.specs.State as core
 use Rattle.ddr_ports.specs.State.{request_at}
-use Rattle.ddr_workers.specs.declared.requests.Item.{Item}
+use Rattle.ddr_world.specs.declared.item.Item.{Item}
 use Rattle.ddr_workers.specs.declared.requests.Route.{Route}
 use Rattle.ddr_workers.specs.Port.{PortState, PortEnded, IsEndOfPort, IsSamePort, first_with, reply_of}
 use Rattle.ddr_workers.specs.Sides.{PutSide}
