@@ -11,7 +11,7 @@ ghost use Rattle.ddr_workers.specs.Open.{IsOpened};
 ghost use Rattle.ddr_workers.specs.Port.{IsEndOfPort, IsSamePort};
 ghost use Rattle.ddr_workers.specs.Worker.{IsEndOf};
 
-use crate::testing::{TRIES, both, config_with, is_reply, read_echo, write_echo};
+use crate::testing::{TRIES, both, config_with, is_reply, is_served, read_echo, write_echo};
 use ddr_address_map::request::Echo;
 use ddr_ports::request::Request;
 use ddr_timing::config::Config;

@@ -51,6 +51,14 @@ pub fn is_reply(reply: Option<Reply<'_>>, number: u64, echo: Echo, bytes: &[u8])
     }
 }
 
+/// Whether a reply is there, whose request was served in these cycles.
+pub fn is_served(reply: Option<Reply<'_>>, issued: u64, due: u64) -> bool {
+    match reply {
+        Some(reply) => reply.issued == issued && reply.due == due,
+        None => false,
+    }
+}
+
 /// What two results hold, or what is said in place of the first that doesn't.
 pub fn both<T: Drop, U: Drop, E: Drop>(
     first: Result<T, E>,

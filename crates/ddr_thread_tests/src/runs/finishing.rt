@@ -51,7 +51,10 @@ impl FillsUp {
     {
         fill(rt, port, 0)?;
         let is_there = is_reply(port.front(), 0, read_echo(0, 4), &[0; 4]);
-        expect(is_there, "the read in front")
+        expect(is_there, "the read in front")?;
+        // ACT in the first cycle that is made, RD 4 clocks later, and CL and a burst behind it.
+        let is_told = is_served(port.front(), 4, 12);
+        expect(is_told, "the cycles in which the read was served")
     }
 
     /// Gives up the reply, for which the port didn't finish, and finishes it.
