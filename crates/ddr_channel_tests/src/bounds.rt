@@ -1,7 +1,8 @@
 //! The bounds in cycles that `ddr_bounds` proves of a channel, looked at in each cycle of runs by chance.
 //!
 //! The configurations are by chance too: the refresh interval is the least one that is accepted, or little more. What is
-//! expected is counted here from the commands of the trace alone. `streams` has one run that is worked out by hand.
+//! expected is counted here from the commands of the trace alone. `streams` has one run that is worked out by hand, and
+//! `latency` a bound that is not proved, on how long a request takes.
 ghost use Rattle.std.specs.Prelude.{◌≡◌, ◌<◌, IfOk};
 ghost use Rattle.ddr_channel.specs.Sound.{IsServed};
 
@@ -16,6 +17,7 @@ use std::alloc::Global;
 use std::process::Abort;
 use std::test::Fail;
 
+mod latency;
 mod streams;
 
 /// The first cycle of a run.
@@ -24,8 +26,8 @@ const START: u64 = 77;
 /// The cycles of a run.
 const CYCLES: u32 = 2500;
 
-/// The configurations that a test tries.
-const CONFIGS: u64 = 24;
+/// The configurations that a test tries. Sixteen tests make a million cycles together.
+const CONFIGS: u64 = 25;
 
 /// A count of clocks from 1 to this one.
 fn clocks(chance: &mut Chance, most: u64) -> u64
@@ -363,9 +365,15 @@ fn start(alloc: Global, seed: u64, ranks: u64, postpone: u64) -> Result<Run, Fai
     })
 }
 
-/// Runs of configurations by chance with so many ranks, and so many REFs that may be put off.
-fn keeps_bounds(rt: &impl Abort, alloc: Global, ranks: u64, postpone: u64) -> Result<(), Fail> {
-    for seed in 0..CONFIGS {
+/// Runs of configurations by chance with so many ranks, and so many REFs that may be put off: those of one part of all seeds.
+fn keeps_bounds(
+    rt: &impl Abort,
+    alloc: Global,
+    (ranks, postpone): (u64, u64),
+    part: u64,
+) -> Result<(), Fail> {
+    let first = part.wrapping_mul(CONFIGS);
+    for seed in first..first.wrapping_add(CONFIGS) {
         let mut run = start(alloc, seed, ranks, postpone)?;
         run.turns(rt)?;
         run.check_overtakers(rt);
@@ -375,21 +383,81 @@ fn keeps_bounds(rt: &impl Abort, alloc: Global, ranks: u64, postpone: u64) -> Re
 }
 
 #[test]
-fn bounds_of_one_rank_with_no_refresh_postponed(rt: HostRuntime) -> Result<(), Fail> {
-    keeps_bounds(&rt, rt.alloc(), 1, 0)
+fn bounds_of_one_rank_with_no_refresh_postponed_1(rt: HostRuntime) -> Result<(), Fail> {
+    keeps_bounds(&rt, rt.alloc(), (1, 0), 0)
 }
 
 #[test]
-fn bounds_of_one_rank_with_seven_refreshes_postponed(rt: HostRuntime) -> Result<(), Fail> {
-    keeps_bounds(&rt, rt.alloc(), 1, 7)
+fn bounds_of_one_rank_with_no_refresh_postponed_2(rt: HostRuntime) -> Result<(), Fail> {
+    keeps_bounds(&rt, rt.alloc(), (1, 0), 1)
 }
 
 #[test]
-fn bounds_of_two_ranks_with_no_refresh_postponed(rt: HostRuntime) -> Result<(), Fail> {
-    keeps_bounds(&rt, rt.alloc(), 2, 0)
+fn bounds_of_one_rank_with_no_refresh_postponed_3(rt: HostRuntime) -> Result<(), Fail> {
+    keeps_bounds(&rt, rt.alloc(), (1, 0), 2)
 }
 
 #[test]
-fn bounds_of_two_ranks_with_seven_refreshes_postponed(rt: HostRuntime) -> Result<(), Fail> {
-    keeps_bounds(&rt, rt.alloc(), 2, 7)
+fn bounds_of_one_rank_with_no_refresh_postponed_4(rt: HostRuntime) -> Result<(), Fail> {
+    keeps_bounds(&rt, rt.alloc(), (1, 0), 3)
+}
+
+#[test]
+fn bounds_of_one_rank_with_seven_refreshes_postponed_1(rt: HostRuntime) -> Result<(), Fail> {
+    keeps_bounds(&rt, rt.alloc(), (1, 7), 0)
+}
+
+#[test]
+fn bounds_of_one_rank_with_seven_refreshes_postponed_2(rt: HostRuntime) -> Result<(), Fail> {
+    keeps_bounds(&rt, rt.alloc(), (1, 7), 1)
+}
+
+#[test]
+fn bounds_of_one_rank_with_seven_refreshes_postponed_3(rt: HostRuntime) -> Result<(), Fail> {
+    keeps_bounds(&rt, rt.alloc(), (1, 7), 2)
+}
+
+#[test]
+fn bounds_of_one_rank_with_seven_refreshes_postponed_4(rt: HostRuntime) -> Result<(), Fail> {
+    keeps_bounds(&rt, rt.alloc(), (1, 7), 3)
+}
+
+#[test]
+fn bounds_of_two_ranks_with_no_refresh_postponed_1(rt: HostRuntime) -> Result<(), Fail> {
+    keeps_bounds(&rt, rt.alloc(), (2, 0), 0)
+}
+
+#[test]
+fn bounds_of_two_ranks_with_no_refresh_postponed_2(rt: HostRuntime) -> Result<(), Fail> {
+    keeps_bounds(&rt, rt.alloc(), (2, 0), 1)
+}
+
+#[test]
+fn bounds_of_two_ranks_with_no_refresh_postponed_3(rt: HostRuntime) -> Result<(), Fail> {
+    keeps_bounds(&rt, rt.alloc(), (2, 0), 2)
+}
+
+#[test]
+fn bounds_of_two_ranks_with_no_refresh_postponed_4(rt: HostRuntime) -> Result<(), Fail> {
+    keeps_bounds(&rt, rt.alloc(), (2, 0), 3)
+}
+
+#[test]
+fn bounds_of_two_ranks_with_seven_refreshes_postponed_1(rt: HostRuntime) -> Result<(), Fail> {
+    keeps_bounds(&rt, rt.alloc(), (2, 7), 0)
+}
+
+#[test]
+fn bounds_of_two_ranks_with_seven_refreshes_postponed_2(rt: HostRuntime) -> Result<(), Fail> {
+    keeps_bounds(&rt, rt.alloc(), (2, 7), 1)
+}
+
+#[test]
+fn bounds_of_two_ranks_with_seven_refreshes_postponed_3(rt: HostRuntime) -> Result<(), Fail> {
+    keeps_bounds(&rt, rt.alloc(), (2, 7), 2)
+}
+
+#[test]
+fn bounds_of_two_ranks_with_seven_refreshes_postponed_4(rt: HostRuntime) -> Result<(), Fail> {
+    keeps_bounds(&rt, rt.alloc(), (2, 7), 3)
 }

@@ -11,6 +11,7 @@ use ddr_channel::channel::{Channel, CycleError};
 use ddr_samples::sample::changed;
 use ddr_samples::steps::Step;
 use ddr_timing::config::Config;
+use ddr_trace::checker as reference;
 use ddr_trace::command::{Command, Entry};
 use ddr_trace::trace::Trace;
 use std::alloc::{AllocError, Global};
@@ -219,9 +220,16 @@ fn check_whole(rt: &impl Abort, trace: &Trace, commands: &[Entry], end: u64) {
     check_eq(rt, "the ends", (trace.start, trace.end), (0, end));
 }
 
+/// Looks at the whole trace of a channel from cycle 0 on with the reference checker, and so at both rules on refresh.
+fn check_faultless(rt: &impl Abort, channel: &Channel) {
+    let fault = reference::first_fault(channel.trace(), channel.config(), 0, channel.now());
+    check_eq(rt, "the first fault", fault, None);
+}
+
 /// Compares the trace and its end. The channel is given up.
 fn check_trace(rt: &impl Abort, channel: Channel, commands: &[Entry], end: u64) {
     check_entries(rt, &channel, commands, end);
+    check_faultless(rt, &channel);
     check_whole(rt, &channel.into_trace(), commands, end);
 }
 

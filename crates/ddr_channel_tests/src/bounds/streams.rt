@@ -4,6 +4,7 @@ use super::*;
 use ddr_channel::issued::Served;
 use ddr_samples::steps::Step;
 use ddr_timing::profile::PROFILE_S2;
+use ddr_trace::checker as reference;
 
 /// Line 0 of row 0 of bank 0, in rank 0 and in rank 1.
 const ADDRESSES: [u64; 2] = [0, 262_144];
@@ -151,6 +152,13 @@ impl Streams {
         }
         count
     }
+
+    /// Looks at the whole trace with the reference checker, and so at both rules on refresh.
+    fn check_trace(&self, rt: &impl Abort) {
+        let entries = self.channel.trace();
+        let fault = reference::first_fault(entries, self.channel.config(), 0, self.channel.now());
+        assert!(rt; fault.is_none());
+    }
 }
 
 #[test]
@@ -163,5 +171,6 @@ fn first_request_of_the_other_rank_is_overtaken(rt: HostRuntime) -> Result<(), F
     for number in 0..streams.next {
         assert!(rt; streams.overtakers_of(number) <= MOST, "of {number}");
     }
+    streams.check_trace(&rt);
     Ok(())
 }

@@ -137,6 +137,7 @@ fn check_postponed(rt: &impl Abort, alloc: Global, channel: &Channel) -> Result<
         push_reads(&mut commands, *first, *count)?;
     }
     check_entries(rt, channel, &commands, 830);
+    check_faultless(rt, channel);
     Ok(())
 }
 
