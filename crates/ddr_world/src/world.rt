@@ -17,7 +17,7 @@ ghost use Rattle.ddr_world.specs.Quiet.{IsQuiet, IsQuietSide, cycles_made, passe
 ghost use Rattle.ddr_world.specs.Record.{IsNext, RunsTo, StandsFor};
 ghost use Rattle.ddr_world.specs.Served.{TellsService, front_service};
 ghost use Rattle.ddr_world.specs.State.{IsChannelDrained, IsDrained, IsPortDrained, opened, opened_channel, opened_port};
-ghost use Rattle.ddr_world.specs.Told.{TellsOf, cycle_answer};
+ghost use Rattle.ddr_world.specs.Told.{TellsOf, counts_of, cycle_answer};
 
 use crate::channel_side::ChannelSide;
 use crate::event::{Event, Outcome, Refusal};
@@ -65,6 +65,15 @@ impl Model for World {
 pub struct RunReport {
     pub made: usize,
     pub refused: usize,
+}
+
+/// What a port has done so far.
+#[derive(Clone, Copy, Debug, PartialEq, Eq)]
+pub struct Counts {
+    /// How many requests it accepted.
+    pub accepted: u64,
+    /// How many replies it gave up. The others that it accepted are outstanding.
+    pub taken: u64,
 }
 
 /// Some port or channel still has something to do, so the core is not closed.
@@ -323,6 +332,20 @@ impl World {
             return None;
         }
         self.ports[port as usize].front()
+    }
+
+    /// What the port has done so far, if there is one of that number.
+    pub fn counts(&self, port: u32) -> Option<Counts>
+        ensures { result ≡ option_map counts_of (slice_get self.now.ports port) }
+    {
+        if !self.has_port(port) {
+            return None;
+        }
+        let side = &self.ports[port as usize];
+        Some(Counts {
+            accepted: side.accepted(),
+            taken: side.taken(),
+        })
     }
 
     /// The channel of that number, if there is one.
