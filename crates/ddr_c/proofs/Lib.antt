@@ -1,0 +1,5 @@
+pub mod ContinueLemmas
+pub mod OpenLemmas
+pub mod RoundLemmas
+pub mod TraceLemmas
+pub mod Values

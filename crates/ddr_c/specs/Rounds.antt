@@ -1,0 +1,65 @@
+-- A round of the core, as a host's clock makes it, and so many of them.
+use Rattle.std.specs.Prelude.{◌≡◌, ℕ, suc, zero, length, slice_get, Bool, true, false, Option, Some, None, option_and_then, Ok, Err, ◌⊎◌}
+use Rattle.std.specs.Option.{option_map, option_map_or}
+use Rattle.ddr_timing.specs.declared.config.Config.{Config}
+use Rattle.ddr_world.specs.declared.event.Refusal.{Refusal}
+use Rattle.ddr_world.specs.declared.event.Refusal.TheVariants.{OutOfMemory}
+use Rattle.ddr_world.specs.Events.{Event, Take, Cycle, Deliver, Collect}
+use Rattle.ddr_world.specs.State.{State}
+use Rattle.ddr_world.specs.Step.{Step, step}
+
+-- the state after an event that is made
+abbrev pub made_state : Step → Option State
+made_state (Ok m) = Some m.state
+made_state (Err cause) = None
+
+-- an event that pops an item each time that it is made
+abbrev pub is_popping : Event → Bool
+is_popping (Take c) = true
+is_popping (Deliver c) = true
+is_popping (Collect p) = true
+is_popping _ = false
+
+-- how many items it may still pop
+abbrev pub items_of : State → Event → ℕ
+items_of s (Take c) = option_map_or (λ side. length side.requests) (slice_get s.channels c) 0
+items_of s (Deliver c) = option_map_or (λ side. length side.channel.done) (slice_get s.channels c) 0
+items_of s (Collect p) = option_map_or (λ port. length port.completions) (slice_get s.ports p) 0
+items_of s _ = 0
+
+-- an event at most so many times, until it is refused
+abbrev pub repeated : ℕ → Event → State → State
+repeated zero event s = s
+repeated (suc n) event s = option_map_or (repeated n event) (made_state (step s event)) s
+
+-- an event until it is refused
+abbrev pub until_refused : Event → State → State
+until_refused event s = repeated (items_of s event) event s
+
+-- a channel's part of a round: Take until it is refused, Cycle once, Deliver until it is refused; none where its clock is
+-- spent
+abbrev pub channel_served : ℕ → State → Option State
+channel_served c s = option_map (until_refused (Deliver c)) (made_state (step (until_refused (Take c) s) (Cycle c)))
+
+-- the first so many channels, in order
+abbrev pub channels_served : ℕ → State → Option State
+channels_served zero s = Some s
+channels_served (suc c) s = option_and_then (channel_served c) (channels_served c s)
+
+-- the first so many ports, in order: Collect until it is refused
+abbrev pub ports_collected : ℕ → State → State
+ports_collected zero s = s
+ports_collected (suc p) s = until_refused (Collect p) (ports_collected p s)
+
+-- a round: each channel's part, then each port's; none where a clock is spent
+abbrev pub round : Config → State → Option State
+round config s = option_map (ports_collected config.limits.ports) (channels_served config.geometry.channels s)
+
+-- so many rounds
+abbrev pub rounds : Config → ℕ → State → Option State
+rounds config zero s = Some s
+rounds config (suc n) s = option_and_then (rounds config n) (round config s)
+
+-- why a part of a round was not made: memory was refused, or there is none to be made
+abbrev pub IsStopped : Refusal → Option State → Type 0
+IsStopped cause part = (cause ≡ OutOfMemory) ⊎ (part ≡ None)

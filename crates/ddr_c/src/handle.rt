@@ -1,0 +1,59 @@
+//! A box that C can hold as a pointer, or nothing. Contracts see the core that it holds.
+//!
+//! `loose` stands below, and `slot` above. The pointer that C sees has no type, since no pointer to a vector may cross.
+ghost use Rattle.std.specs.Prelude.{◌≡◌, true, IsSome, None, Option, Some};
+ghost use Rattle.ddr_c.specs.Held.{held, held_coded};
+ghost use Rattle.ddr_c.specs.declared.host.Core.{Core};
+
+use crate::host::Core;
+use crate::loose::Loose;
+use std::alloc::Global;
+use std::marker::Model;
+
+/// A pointer to the block of a core, or none.
+#[repr(C)]
+#[derive(Drop)]
+pub struct Handle {
+    at: *mut (),
+    alloc: Global,
+    pub ghost holds: { Option Core } by { held_coded },
+}
+
+impl Model for Handle {
+    ghost also_owns = { λ h. held h.holds h.alloc h.at };
+}
+
+impl Handle {
+    /// Holds nothing.
+    pub(crate) fn empty(alloc: Global) -> Handle
+        ensures { result.holds ≡ None }
+    {
+        Handle {
+            at: std::ptr::null_mut(),
+            alloc,
+        }
+    }
+
+    /// Holds the core of a box.
+    pub(crate) fn of(loose: Loose<Core, Global>) -> Handle
+        ensures { result.holds ≡ Some loose.value }
+    {
+        let Loose { at, alloc } = loose;
+        Handle {
+            at: at as *mut (),
+            alloc,
+        }
+    }
+
+    /// The box of the core that it holds.
+    pub(crate) fn into_loose(self) -> Loose<Core, Global>
+        requires { IsSome self.holds }
+        ensures { self.holds ≡ Some result.value }
+    {
+        let Handle { at, alloc } = self;
+        Loose {
+            at: at as *mut Core,
+            alloc,
+        }
+    }
+}

@@ -1,0 +1,273 @@
+//! A core that a host drives by calls: that of `ddr_world`, with rounds, and with the cycles of its requests.
+//!
+//! `ddr_world` and `stamps` stand below, and `lib` above, whose exports call this.
+ghost use Rattle.std.specs.Prelude.{◌≡◌, ◌+◌, ◌<◌, ◌≤◌, [], ◌∷◌, ◌++◌, List, true, false, IfErr, IfNone, IfOk, IfSome, IsTrue, OnOk, None, Ok, Some, length, slice_get};
+ghost use Rattle.std.specs.Option.{option_copied, option_map};
+ghost use Rattle.ddr_ports.specs.Asked.{asked_of};
+ghost use Rattle.ddr_world.specs.Answer.{IsAnswered};
+ghost use Rattle.ddr_world.specs.Events.{Submit, event_of};
+ghost use Rattle.ddr_world.specs.History.{front_of};
+ghost use Rattle.ddr_world.specs.Kept.{state_of};
+ghost use Rattle.ddr_world.specs.Quiet.{IsQuiet};
+ghost use Rattle.ddr_world.specs.Record.{IsNext, StandsFor};
+ghost use Rattle.ddr_world.specs.State.{opened};
+ghost use Rattle.ddr_world.specs.Told.{counts_of};
+ghost use Rattle.ddr_c.specs.Continues.{Continues};
+ghost use Rattle.ddr_c.specs.Front.{IsNextOf};
+ghost use Rattle.ddr_c.specs.Rounds.{IsStopped, channel_served, channels_served, is_popping, ports_collected, round, rounds, until_refused};
+
+use crate::stamps::{Stamp, Stamps};
+use ddr_address_map::request::Echo;
+use ddr_channel::issued::Issued;
+use ddr_ports::request::Request;
+use ddr_timing::config::Config;
+use ddr_trace::command::Entry;
+use ddr_world::event::{Event, Outcome, Refusal};
+use ddr_world::world::{Counts, World};
+use std::alloc::{AllocError, Global};
+
+/// A core with what its host is told of the requests.
+#[derive(Drop)]
+pub(crate) struct Core {
+    pub(crate) world: World,
+    ports: u32,
+    channels: u32,
+    stamps: Stamps,
+    ghost ports_are: { ports ≡ world.config.limits.ports },
+    ghost channels_are: { channels ≡ world.config.geometry.channels },
+}
+
+/// How many rounds were made, and why no more.
+#[derive(Clone, Copy)]
+pub(crate) struct Rounds {
+    pub(crate) made: u64,
+    pub(crate) stopped: Option<Refusal>,
+}
+
+/// The oldest reply of a port, without its bytes.
+#[derive(Clone, Copy)]
+pub(crate) struct Front {
+    pub(crate) number: u64,
+    pub(crate) echo: Echo,
+    /// How many bytes it has.
+    pub(crate) length: usize,
+    pub(crate) stamp: Stamp,
+}
+
+/// What the oldest reply of a port came to.
+#[derive(Clone, Copy)]
+pub(crate) enum Next {
+    /// There is no such port, or no reply of it is ready.
+    Nothing,
+    /// The buffer is shorter than the reply's bytes. The reply stays.
+    TooShort(Front),
+    /// The bytes were copied, and the reply given up.
+    Given(Front),
+}
+
+impl Core {
+    /// A core before its first event.
+    pub(crate) fn open(alloc: Global, config: &Config) -> Result<Core, AllocError>
+        ensures config { IfOk result (λ core. core.world.config ≡ config.now) }
+        ensures state { IfOk result (λ core. state_of core.world ≡ opened config.now 0 0) }
+        ensures stands { IfOk result (λ core. StandsFor core.world (record { config = config.now; cycle = 0; number = 0 }) []) }
+    {
+        Ok(Core {
+            world: World::open(alloc, config)?,
+            ports: config.limits.ports,
+            channels: config.geometry.channels,
+            stamps: Stamps::open(alloc, config.limits.ports)?,
+        })
+    }
+
+    /// Makes a request at a port, and tells its number there.
+    pub(crate) fn submit(&mut self, port: u32, request: Request<'_>) -> Result<Outcome, Refusal>
+        ensures answer { IsAnswered self.old.world self.new.world (Submit port (asked_of request.entry)) result }
+        ensures continues { Continues self.old.world self.new.world }
+    {
+        let outcome = self.world.step(Event::Submit(port, request))?;
+        if let Outcome::Accepted { number } = outcome {
+            let clock = self.clock();
+            self.stamps.accept(port, number, clock);
+        }
+        Ok(outcome)
+    }
+
+    /// The next cycle of the first channel. All channels are at it, unless memory was refused in the midst of a round.
+    pub(crate) fn clock(&self) -> u64 {
+        self.cycle_of(0).unwrap_or(0)
+    }
+
+    /// What a port has done so far, if there is one of that number.
+    pub(crate) fn counts(&self, port: u32) -> Option<Counts>
+        ensures { result ≡ option_map counts_of (slice_get self.now.world.ports port) }
+    {
+        self.world.counts(port)
+    }
+
+    /// For how many rounds nothing is to be done.
+    pub(crate) fn quiet(&self) -> u64
+        ensures { IsQuiet result (state_of self.now.world) }
+    {
+        self.world.quiet()
+    }
+
+    /// Makes rounds, until so many are made or one is refused. Quiet ones are made at once.
+    pub(crate) fn rounds(&mut self, count: u64) -> Rounds
+        ensures made { IfNone result.stopped ((result.made ≡ count) × (rounds self.old.world.config count (state_of self.old.world) ≡ Some (state_of self.new.world))) }
+        ensures stopped { IfSome result.stopped (λ cause. (result.made < count) × IsStopped cause (rounds self.old.world.config (result.made + 1) (state_of self.old.world))) }
+        ensures config { self.new.world.config ≡ self.old.world.config }
+        ensures continues { Continues self.old.world self.new.world }
+    {
+        let mut made = 0u64;
+        'rounds: while made < count {
+            match self.advance(count - made) {
+                Ok(more) => made += more,
+                Err(cause) => {
+                    return Rounds {
+                        made,
+                        stopped: Some(cause),
+                    };
+                }
+            }
+        }
+        Rounds {
+            made,
+            stopped: None,
+        }
+    }
+
+    /// Makes one round, or as many quiet ones as there are, but no more than `most`. Tells how many.
+    fn advance(&mut self, most: u64) -> Result<u64, Refusal>
+        requires { 0 < most }
+        ensures some { IfOk result (λ made. (0 < made) × (made ≤ most)) }
+        ensures made { IfOk result (λ made. rounds self.old.world.config made (state_of self.old.world) ≡ Some (state_of self.new.world)) }
+        ensures stopped { IfErr result (λ cause. IsStopped cause (round self.old.world.config (state_of self.old.world))) }
+        ensures config { self.new.world.config ≡ self.old.world.config }
+        ensures continues { Continues self.old.world self.new.world }
+    {
+        let quiet = self.world.quiet().min(most);
+        if quiet == 0 {
+            self.round()?;
+            return Ok(1);
+        }
+        self.world.pass(quiet);
+        Ok(quiet)
+    }
+
+    /// Makes a round: each channel's part in order, then each port's.
+    fn round(&mut self) -> Result<(), Refusal>
+        ensures made { OnOk result (round self.old.world.config (state_of self.old.world) ≡ Some (state_of self.new.world)) }
+        ensures stopped { IfErr result (λ cause. IsStopped cause (round self.old.world.config (state_of self.old.world))) }
+        ensures config { self.new.world.config ≡ self.old.world.config }
+        ensures continues { Continues self.old.world self.new.world }
+    {
+        self.serve_all()?;
+        self.collect_all();
+        Ok(())
+    }
+
+    /// The channels' part of a round.
+    fn serve_all(&mut self) -> Result<(), Refusal>
+        ensures made { OnOk result (channels_served self.old.world.config.geometry.channels (state_of self.old.world) ≡ Some (state_of self.new.world)) }
+        ensures stopped { IfErr result (λ cause. IsStopped cause (round self.old.world.config (state_of self.old.world))) }
+        ensures config { self.new.world.config ≡ self.old.world.config }
+        ensures continues { Continues self.old.world self.new.world }
+    {
+        for channel in 0..self.channels {
+            self.serve(channel)?;
+        }
+        Ok(())
+    }
+
+    /// The ports' part of a round.
+    fn collect_all(&mut self)
+        ensures collected { state_of self.new.world ≡ ports_collected self.old.world.config.limits.ports (state_of self.old.world) }
+        ensures config { self.new.world.config ≡ self.old.world.config }
+        ensures continues { Continues self.old.world self.new.world }
+    {
+        for port in 0..self.ports {
+            self.repeat(Event::Collect(port));
+        }
+    }
+
+    /// A channel's part of a round: it takes what there is room for, makes a cycle, and delivers what is done.
+    fn serve(&mut self, channel: u32) -> Result<(), Refusal>
+        ensures served { OnOk result (channel_served channel (state_of self.old.world) ≡ Some (state_of self.new.world)) }
+        ensures stopped { IfErr result (λ cause. IsStopped cause (channel_served channel (state_of self.old.world))) }
+        ensures config { self.new.world.config ≡ self.old.world.config }
+        ensures continues { Continues self.old.world self.new.world }
+    {
+        self.repeat(Event::Take(channel));
+        let issued = self.world.cycle(channel)?;
+        self.note(issued);
+        self.repeat(Event::Deliver(channel));
+        Ok(())
+    }
+
+    /// Notes the cycles of the request that a command serves.
+    fn note(&mut self, issued: Option<Issued>)
+        ensures { self.new.world ≡ self.old.world }
+    {
+        if let Some(
+            Issued {
+                entry,
+                served: Some(served),
+            },
+        ) = issued
+        {
+            self.stamps
+                .serve(served.port, served.number, entry.cycle, served.due);
+        }
+    }
+
+    /// Makes an event that pops something until it is refused.
+    fn repeat(&mut self, event: Event<'_>)
+        requires { IsTrue (is_popping (event_of event)) }
+        ensures state { state_of self.new.world ≡ until_refused (event_of event.entry) (state_of self.old.world) }
+        ensures config { self.new.world.config ≡ self.old.world.config }
+        ensures continues { Continues self.old.world self.new.world }
+    {
+        'items: while self.world.step(event).is_ok() {}
+    }
+
+    /// Copies the bytes of the port's oldest reply, where it is ready and the buffer has room, and gives it up.
+    pub(crate) fn next(&mut self, port: u32, buffer: &mut [u8]) -> Next
+        ensures front { IsNextOf (front_of (state_of self.old.world) port) port self.old.world self.new.world buffer.old buffer.new result }
+        ensures right { IfSome (front_of (state_of self.old.world) port) (IsNext self.old.world port) }
+        ensures continues { Continues self.old.world self.new.world }
+    {
+        let Some(reply) = self.world.front(port) else {
+            return Next::Nothing;
+        };
+        let length = reply.bytes.len();
+        let front = Front {
+            number: reply.number,
+            echo: reply.echo,
+            length,
+            stamp: self.stamps.at(port, reply.number),
+        };
+        if buffer.len() < length {
+            return Next::TooShort(front);
+        }
+        buffer[..length].copy_from_slice(reply.bytes);
+        let _ = self.world.step(Event::Release(port));
+        Next::Given(front)
+    }
+
+    /// The next cycle of a channel, if there is such a channel.
+    pub(crate) fn cycle_of(&self, channel: u32) -> Option<u64>
+        ensures { result ≡ option_map (λ side. side.channel.now) (slice_get self.now.world.channels channel) }
+    {
+        let channel = self.world.channel(channel)?;
+        Some(channel.now())
+    }
+
+    /// The commands of a channel so far, if there is such a channel.
+    pub(crate) fn commands(&self, channel: u32) -> Option<&[Entry]>
+        ensures { option_copied result ≡ option_map (λ side. side.channel.trace) (slice_get self.now.world.channels channel) }
+    {
+        let channel = self.world.channel(channel)?;
+        Some(channel.trace())
+    }
+}

@@ -1,0 +1,312 @@
+//! The core for other simulators: what C calls. `include/ddr.h` says what each call does and what C has to keep, and
+//! wraps each so that a null pointer answers a code too.
+//!
+//! `host` stands below, a core with rounds, and `slot`, what C holds of one. Each export takes the core out of the slot,
+//! makes one call of `host`, and puts it back. Its contract says what the call made of the core that the slot holds, in
+//! the words of the core's own, and which code it answers.
+#![tactic(auto)]
+
+ghost use Rattle.std.specs.Prelude.{◌≡◌, ◌≢◌, ◌-◌, IfNone, IfSome, None, Some, drop, if◌then◌else◌, is_some, length, min, slice_get};
+ghost use Rattle.ddr_ports.specs.Asked.{Asked, Masked, Read, Write, asked_of};
+ghost use Rattle.ddr_world.specs.Kept.{state_of};
+ghost use Rattle.ddr_world.specs.Quiet.{IsQuiet};
+ghost use Rattle.ddr_c.specs.Calls.{Calls, IsAdvanced, IsCopied, IsCountedOf, IsListed, IsSubmitted, IsTaken, Tells, cycle_in, held_in, trace_in};
+ghost use Rattle.ddr_c.specs.Codes.{answer_code, number_told};
+ghost use Rattle.ddr_c.specs.Opens.{IsOpening, IsShown};
+ghost use Rattle.ddr_c.specs.Trace.{traced};
+
+mod codes;
+mod handle;
+pub mod head;
+mod host;
+mod loose;
+mod open;
+pub mod slot;
+mod stamps;
+pub mod trace;
+
+use codes::{ALREADY_OPEN, CLOSED, NO_SUCH, NOTHING, OK, TOO_SHORT, code_of};
+use ddr_address_map::request::Line;
+use ddr_ports::request::Request;
+use ddr_timing::units::LINE_BYTES;
+use ddr_world::event::{Outcome, Refusal};
+use ddr_world::world::Counts;
+use head::{Head, head_of};
+use host::{Core, Next};
+use open::open;
+use slot::Slot;
+use std::alloc::Global;
+use trace::{BusCommand, copy_from};
+
+/// Opens a core from a configuration's text. A refusal's text is copied as far as it fits, and `length` is its whole length.
+#[unsafe(no_mangle)]
+pub extern "C" fn ddr_c_open(
+    alloc: Global,
+    slot: &mut Slot,
+    text: &[u8],
+    message: &mut [u8],
+    length: &mut u64,
+) -> i32
+    ensures open { IfSome (held_in slot.old) (λ core. (result ≡ ALREADY_OPEN) × (held_in slot.new ≡ Some core)) }
+    ensures closed { IfNone (held_in slot.old) (IsOpening text.now result (held_in slot.new)) }
+    ensures shown { IsShown result message.old message.new length.old length.new }
+{
+    if slot.is_open() {
+        return ALREADY_OPEN;
+    }
+    open(alloc, slot, text, message, length)
+}
+
+/// Asks a port to read bytes.
+#[unsafe(no_mangle)]
+pub extern "C" fn ddr_c_read(
+    alloc: Global,
+    slot: &mut Slot,
+    port: u32,
+    addr: u64,
+    length: u32,
+    number: &mut u64,
+) -> i32
+    ensures { Calls (held_in slot.old) (held_in slot.new) ((result ≡ CLOSED) × (number.new ≡ number.old)) (IsSubmitted port (Read addr length) number.old number.new result) }
+{
+    submit(alloc, slot, port, Request::read(addr, length), number)
+}
+
+/// Asks a port to write bytes.
+#[unsafe(no_mangle)]
+pub extern "C" fn ddr_c_write(
+    alloc: Global,
+    slot: &mut Slot,
+    port: u32,
+    addr: u64,
+    bytes: &[u8],
+    number: &mut u64,
+) -> i32
+    ensures { Calls (held_in slot.old) (held_in slot.new) ((result ≡ CLOSED) × (number.new ≡ number.old)) (IsSubmitted port (Write addr bytes.now) number.old number.new result) }
+{
+    submit(alloc, slot, port, Request::write(addr, bytes), number)
+}
+
+/// Asks a port to write the enabled bytes of a line: the byte i where bit i of `enable` is set. The line has 64 bytes.
+#[unsafe(no_mangle)]
+pub extern "C" fn ddr_c_masked_write(
+    alloc: Global,
+    slot: &mut Slot,
+    port: u32,
+    addr: u64,
+    line: &[u8],
+    enable: u64,
+    number: &mut u64,
+) -> i32
+    ensures short { length line.now ≢ LINE_BYTES → (result ≡ TOO_SHORT) × (held_in slot.new ≡ held_in slot.old) × (number.new ≡ number.old) }
+    ensures whole { length line.now ≡ LINE_BYTES → Calls (held_in slot.old) (held_in slot.new) ((result ≡ CLOSED) × (number.new ≡ number.old)) (IsSubmitted port (Masked addr line.now enable) number.old number.new result) }
+{
+    if line.len() != LINE_BYTES {
+        return TOO_SHORT;
+    }
+    let mut whole: Line = [0; LINE_BYTES];
+    whole.copy_from_slice(line);
+    submit(
+        alloc,
+        slot,
+        port,
+        Request::masked(addr, &whole, enable),
+        number,
+    )
+}
+
+/// Makes a request, and tells its number or the code of the refusal.
+fn submit(alloc: Global, slot: &mut Slot, port: u32, request: Request<'_>, number: &mut u64) -> i32
+    ensures { Calls (held_in slot.old) (held_in slot.new) ((result ≡ CLOSED) × (number.new ≡ number.old)) (IsSubmitted port (asked_of request.entry) number.old number.new result) }
+{
+    let Some(mut core) = slot.take(alloc) else {
+        return CLOSED;
+    };
+    let answer = core.submit(port, request);
+    slot.put(core);
+    tell(answer, number)
+}
+
+/// The code of an accepted request, whose number is told, or of a refusal.
+fn tell(answer: Result<Outcome, Refusal>, number: &mut u64) -> i32
+    ensures code { result ≡ answer_code answer }
+    ensures number { number.new ≡ number_told answer number.old }
+{
+    match answer {
+        Ok(Outcome::Accepted { number: given }) => {
+            *number = given;
+            OK
+        }
+        Ok(_) => OK,
+        Err(cause) => code_of(cause),
+    }
+}
+
+/// Tells for how many rounds nothing is to be done.
+#[unsafe(no_mangle)]
+pub extern "C" fn ddr_c_quiet(alloc: Global, slot: &mut Slot, rounds: &mut u64) -> i32
+    ensures same { held_in slot.new ≡ held_in slot.old }
+    ensures told { Calls (held_in slot.old) (held_in slot.new) ((result ≡ CLOSED) × (rounds.new ≡ rounds.old)) (λ core after. (result ≡ OK) × IsQuiet rounds.new (state_of core.world)) }
+{
+    let Some(core) = slot.take(alloc) else {
+        return CLOSED;
+    };
+    *rounds = core.quiet();
+    slot.put(core);
+    OK
+}
+
+/// Makes rounds, and tells how many were made.
+#[unsafe(no_mangle)]
+pub extern "C" fn ddr_c_rounds(alloc: Global, slot: &mut Slot, count: u64, made: &mut u64) -> i32
+    ensures { Calls (held_in slot.old) (held_in slot.new) ((result ≡ CLOSED) × (made.new ≡ made.old)) (IsAdvanced count made.new result) }
+{
+    let Some(mut core) = slot.take(alloc) else {
+        return CLOSED;
+    };
+    let code = advance(&mut core, count, made);
+    slot.put(core);
+    code
+}
+
+/// Makes rounds, and tells how many were made, and the code of what the others were refused for.
+fn advance(core: &mut Core, count: u64, made: &mut u64) -> i32
+    ensures { IsAdvanced count made.new result core.old core.new }
+{
+    let rounds = core.rounds(count);
+    *made = rounds.made;
+    match rounds.stopped {
+        None => OK,
+        Some(cause) => code_of(cause),
+    }
+}
+
+/// Copies the oldest reply of a port, and gives it up.
+#[unsafe(no_mangle)]
+pub extern "C" fn ddr_c_next(
+    alloc: Global,
+    slot: &mut Slot,
+    port: u32,
+    head: &mut Head,
+    buffer: &mut [u8],
+) -> i32
+    ensures { Calls (held_in slot.old) (held_in slot.new) ((result ≡ CLOSED) × (head.new ≡ head.old) × (buffer.new ≡ buffer.old)) (IsTaken port head.old head.new buffer.old buffer.new result) }
+{
+    let Some(mut core) = slot.take(alloc) else {
+        return CLOSED;
+    };
+    let known = core.counts(port).is_some();
+    let clock = core.clock();
+    let next = core.next(port, buffer);
+    slot.put(core);
+    match next {
+        Next::Nothing => { if known { NOTHING } else { NO_SUCH } }
+        Next::TooShort(front) => {
+            *head = head_of(&front, clock);
+            TOO_SHORT
+        }
+        Next::Given(front) => {
+            *head = head_of(&front, clock);
+            OK
+        }
+    }
+}
+
+/// Tells how many requests a port accepted, and how many replies it gave up.
+#[unsafe(no_mangle)]
+pub extern "C" fn ddr_c_counts(
+    alloc: Global,
+    slot: &mut Slot,
+    port: u32,
+    accepted: &mut u64,
+    taken: &mut u64,
+) -> i32
+    ensures same { held_in slot.new ≡ held_in slot.old }
+    ensures told { Calls (held_in slot.old) (held_in slot.new) ((result ≡ CLOSED) × (accepted.new ≡ accepted.old) × (taken.new ≡ taken.old)) (λ core after. IsCountedOf (slice_get core.world.ports port) accepted.old taken.old accepted.new taken.new result) }
+{
+    let Some(core) = slot.take(alloc) else {
+        return CLOSED;
+    };
+    let answer = core.counts(port);
+    slot.put(core);
+    match answer {
+        Some(
+            Counts {
+                accepted: sent,
+                taken: given,
+            },
+        ) => {
+            *accepted = sent;
+            *taken = given;
+            OK
+        }
+        None => NO_SUCH,
+    }
+}
+
+/// Tells the next cycle of a channel.
+#[unsafe(no_mangle)]
+pub extern "C" fn ddr_c_cycle(alloc: Global, slot: &mut Slot, channel: u32, cycle: &mut u64) -> i32
+    ensures same { held_in slot.new ≡ held_in slot.old }
+    ensures told { Calls (held_in slot.old) (held_in slot.new) ((result ≡ CLOSED) × (cycle.new ≡ cycle.old)) (λ core after. Tells (cycle_in core channel) cycle.old cycle.new result) }
+{
+    let Some(core) = slot.take(alloc) else {
+        return CLOSED;
+    };
+    let answer = core.cycle_of(channel);
+    slot.put(core);
+    match answer {
+        Some(now) => {
+            *cycle = now;
+            OK
+        }
+        None => NO_SUCH,
+    }
+}
+
+/// Copies commands of a channel, from the one of this number on, and tells how many.
+#[unsafe(no_mangle)]
+pub extern "C" fn ddr_c_trace(
+    alloc: Global,
+    slot: &mut Slot,
+    channel: u32,
+    first: u64,
+    commands: &mut [BusCommand],
+    count: &mut u64,
+) -> i32
+    ensures same { held_in slot.new ≡ held_in slot.old }
+    ensures told { Calls (held_in slot.old) (held_in slot.new) ((result ≡ CLOSED) × (commands.new ≡ commands.old) × (count.new ≡ count.old)) (λ core after. IsListed (trace_in core channel) first commands.old commands.new count.old count.new result) }
+{
+    let Some(core) = slot.take(alloc) else {
+        return CLOSED;
+    };
+    let copied = list(&core, channel, first, commands);
+    slot.put(core);
+    match copied {
+        Some(copied) => {
+            *count = copied;
+            OK
+        }
+        None => NO_SUCH,
+    }
+}
+
+/// Copies commands of a channel, from the one of this number on, if there is such a channel.
+fn list(core: &Core, channel: u32, first: u64, commands: &mut [BusCommand]) -> Option<u64>
+    ensures copied { IsCopied (trace_in core.now channel) first commands.old commands.new result }
+{
+    let entries = core.commands(channel)?;
+    Some(copy_from(entries, first, commands))
+}
+
+/// Closes a core: gives back its memory, drained or not. The slot is as at first.
+#[unsafe(no_mangle)]
+pub extern "C" fn ddr_c_close(alloc: Global, slot: &mut Slot) -> i32
+    ensures closed { held_in slot.new ≡ None }
+    ensures code { result ≡ (if is_some (held_in slot.old) then OK else CLOSED) }
+{
+    match slot.take(alloc) {
+        Some(_) => OK,
+        None => CLOSED,
+    }
+}

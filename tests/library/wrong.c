@@ -1,0 +1,183 @@
+/* Each call with arguments that it refuses: each answers its code, and what it was handed stays as it is. Then a trace in
+ * pieces, the counts, and the cycles of requests, reckoned by hand. */
+#include "ddr.h"
+
+#include <stdio.h>
+#include <string.h>
+
+static char text[1 << 16];
+static size_t length;
+static unsigned failed;
+
+static void wants(const char *what, int64_t got, int64_t wanted) {
+    if (got == wanted) return;
+    printf("%s: %lld, wanted %lld\n", what, (long long)got, (long long)wanted);
+    failed++;
+}
+
+/* What a null pointer answers. */
+static void nulls(void) {
+    ddr_core core = DDR_CORE_INIT;
+    ddr_reply reply;
+    uint8_t bytes[64] = {0};
+    uint64_t n = 7;
+    wants("open, no core", ddr_open(NULL, text, length, NULL, 0, &n), DDR_NULL);
+    wants("open, no text", ddr_open(&core, NULL, length, NULL, 0, &n), DDR_NULL);
+    wants("open, no message", ddr_open(&core, text, length, NULL, 1, &n), DDR_NULL);
+    wants("open, no length", ddr_open(&core, text, length, NULL, 0, NULL), DDR_NULL);
+    wants("read, no core", ddr_submit_read(NULL, 0, 0, 1, &n), DDR_NULL);
+    wants("read, no number", ddr_submit_read(&core, 0, 0, 1, NULL), DDR_NULL);
+    wants("write, no core", ddr_submit_write(NULL, 0, 0, bytes, 1, &n), DDR_NULL);
+    wants("write, no bytes", ddr_submit_write(&core, 0, 0, NULL, 1, &n), DDR_NULL);
+    wants("masked, no core", ddr_submit_masked(NULL, 0, 0, bytes, 64, 1, &n), DDR_NULL);
+    wants("masked, no line", ddr_submit_masked(&core, 0, 0, NULL, 64, 1, &n), DDR_NULL);
+    wants("quiet, no core", ddr_quiet(NULL, &n), DDR_NULL);
+    wants("rounds, no core", ddr_rounds(NULL, 1, &n), DDR_NULL);
+    wants("rounds, no count", ddr_rounds(&core, 1, NULL), DDR_NULL);
+    wants("next, no core", ddr_next_reply(NULL, 0, &reply, bytes, 64), DDR_NULL);
+    wants("next, no head", ddr_next_reply(&core, 0, NULL, bytes, 64), DDR_NULL);
+    wants("next, no buffer", ddr_next_reply(&core, 0, &reply, NULL, 64), DDR_NULL);
+    wants("counts, no core", ddr_counts(NULL, 0, &n, &n), DDR_NULL);
+    wants("counts, no accepted", ddr_counts(&core, 0, NULL, &n), DDR_NULL);
+    wants("counts, no taken", ddr_counts(&core, 0, &n, NULL), DDR_NULL);
+    wants("cycle, no core", ddr_cycle(NULL, 0, &n), DDR_NULL);
+    wants("trace, no core", ddr_trace(NULL, 0, 0, NULL, 0, &n), DDR_NULL);
+    wants("trace, no places", ddr_trace(&core, 0, 0, NULL, 1, &n), DDR_NULL);
+    wants("close, no core", ddr_close(NULL), DDR_NULL);
+    wants("untouched", (int64_t)n, 7);
+}
+
+/* What a closed core answers. */
+static void closed(ddr_core *core) {
+    ddr_reply reply;
+    ddr_command commands[2];
+    uint8_t bytes[64] = {0};
+    uint64_t n = 7;
+    wants("closed read", ddr_submit_read(core, 0, 0, 1, &n), DDR_CLOSED);
+    wants("closed write", ddr_submit_write(core, 0, 0, bytes, 1, &n), DDR_CLOSED);
+    wants("closed masked", ddr_submit_masked(core, 0, 0, bytes, 64, 1, &n), DDR_CLOSED);
+    wants("closed quiet", ddr_quiet(core, &n), DDR_CLOSED);
+    wants("closed rounds", ddr_rounds(core, 1, &n), DDR_CLOSED);
+    wants("closed next", ddr_next_reply(core, 0, &reply, bytes, 64), DDR_CLOSED);
+    wants("closed counts", ddr_counts(core, 0, &n, &n), DDR_CLOSED);
+    wants("closed cycle", ddr_cycle(core, 0, &n), DDR_CLOSED);
+    wants("closed trace", ddr_trace(core, 0, 0, commands, 2, &n), DDR_CLOSED);
+    wants("closed close", ddr_close(core), DDR_CLOSED);
+    wants("untouched", (int64_t)n, 7);
+}
+
+/* What a configuration that is refused answers, with its text as far as it fits. */
+static void refused(ddr_core *core) {
+    char message[16];
+    uint64_t whole = 0;
+    memset(message, '.', sizeof message);
+    wants("no TOML", ddr_open(core, "=", 1, message, 8, &whole), DDR_CONFIG);
+    wants("its text", memcmp(message, "the conf........", 16), 0);
+    wants("its length", (int64_t)whole, 33);
+    wants("no key", ddr_open(core, NULL, 0, NULL, 0, &whole), DDR_CONFIG);
+    wants("no UTF-8", ddr_open(core, "\xff", 1, message, 16, &whole), DDR_CONFIG);
+    closed(core);
+}
+
+/* What an open core answers out of range. */
+static void ranges(ddr_core *core) {
+    ddr_reply reply;
+    uint8_t bytes[64] = {0};
+    uint64_t n = 7;
+    wants("open again", ddr_open(core, text, length, NULL, 0, &n), DDR_ALREADY_OPEN);
+    wants("port", ddr_submit_read(core, 99, 0, 1, &n), DDR_NO_SUCH);
+    wants("address", ddr_submit_read(core, 0, UINT64_MAX, 1, &n), DDR_OUT_OF_RANGE);
+    wants("length", ddr_submit_read(core, 0, 0, 0, &n), DDR_EMPTY_LENGTH);
+    wants("line", ddr_submit_read(core, 0, 63, 2, &n), DDR_CROSSES_LINE);
+    wants("no bytes", ddr_submit_write(core, 0, 0, NULL, 0, &n), DDR_EMPTY_LENGTH);
+    wants("write's line", ddr_submit_write(core, 0, 1, bytes, 64, &n), DDR_CROSSES_LINE);
+    wants("masked", ddr_submit_masked(core, 0, 0, bytes, 63, 1, &n), DDR_TOO_SHORT);
+    wants("next's port", ddr_next_reply(core, 99, &reply, bytes, 64), DDR_NO_SUCH);
+    wants("next", ddr_next_reply(core, 0, &reply, bytes, 64), DDR_NOTHING);
+    wants("counts' port", ddr_counts(core, 99, &n, &n), DDR_NO_SUCH);
+    wants("cycle's channel", ddr_cycle(core, 99, &n), DDR_NO_SUCH);
+    wants("trace's channel", ddr_trace(core, 99, 0, NULL, 0, &n), DDR_NO_SUCH);
+    wants("untouched", (int64_t)n, 7);
+}
+
+/* The cycles of a request that was accepted before the first round and taken after 500 of them. */
+static void wants_cycles(const ddr_reply *reply, int64_t issued, int64_t due) {
+    wants("accepted", (int64_t)reply->accepted, 0);
+    wants("issued", (int64_t)reply->issued, issued);
+    wants("due", (int64_t)reply->due, due);
+    wants("released", (int64_t)reply->released, 500);
+}
+
+/* A masked write and a read of its line, by a buffer that is too short first. */
+static void masked(ddr_core *core) {
+    ddr_reply reply;
+    uint8_t line[64], bytes[64];
+    uint64_t n, taken;
+    for (unsigned i = 0; i < 64; i++) line[i] = (uint8_t)i;
+    wants("masked write", ddr_submit_masked(core, 1, 64, line, 64, 0x8000000000000002u, &n), DDR_OK);
+    wants("its number", (int64_t)n, 0);
+    wants("read", ddr_submit_read(core, 1, 64, 64, &n), DDR_OK);
+    wants("its number", (int64_t)n, 1);
+    wants("counts", ddr_counts(core, 1, &n, &taken), DDR_OK);
+    wants("accepted", (int64_t)n, 2);
+    wants("taken", (int64_t)taken, 0);
+    wants("rounds", ddr_rounds(core, 500, &n), DDR_OK);
+    wants("made", (int64_t)n, 500);
+    wants("written", ddr_next_reply(core, 1, &reply, NULL, 0), DDR_OK);
+    wants("its kind", reply.kind, DDR_WRITE);
+    wants_cycles(&reply, 4, 11); /* tRCD behind the ACT in cycle 0; CWL + 4 later */
+    wants("too short", ddr_next_reply(core, 1, &reply, bytes, 63), DDR_TOO_SHORT);
+    wants("bytes needed", (int64_t)reply.bytes, 64);
+    wants("read back", ddr_next_reply(core, 1, &reply, bytes, 64), DDR_OK);
+    wants_cycles(&reply, 15, 23); /* CWL + 4 + tWTR_L behind the write; CL + 4 later */
+    wants("byte 0", bytes[0], 0);
+    wants("byte 1", bytes[1], 1);
+    wants("byte 2", bytes[2], 0);
+    wants("byte 63", bytes[63], 63);
+    wants("counts", ddr_counts(core, 1, &n, &taken), DDR_OK);
+    wants("accepted", (int64_t)n, 2);
+    wants("taken", (int64_t)taken, 2);
+    wants("cycle", ddr_cycle(core, 0, &n), DDR_OK);
+    wants("its cycle", (int64_t)n, 500);
+}
+
+/* The whole trace one command at a time is the trace at once, with cycles that grow. */
+static void traced(ddr_core *core) {
+    ddr_command all[256], one;
+    uint64_t count, n, before = 0;
+    wants("trace", ddr_trace(core, 0, 0, all, 256, &count), DDR_OK);
+    for (uint64_t i = 0; i < count; i++) {
+        wants("piece", ddr_trace(core, 0, i, &one, 1, &n), DDR_OK);
+        wants("one", (int64_t)n, 1);
+        wants("same", memcmp(&one, &all[i], sizeof one), 0);
+        wants("grows", i == 0 || one.cycle > before, 1);
+        before = one.cycle;
+    }
+    wants("behind", ddr_trace(core, 0, count, &one, 1, &n), DDR_OK);
+    wants("none", (int64_t)n, 0);
+    wants("far behind", ddr_trace(core, 0, UINT64_MAX, &one, 1, &n), DDR_OK);
+    wants("none", (int64_t)n, 0);
+    wants("first", count > 0 && all[0].kind == DDR_ACT && all[0].column == DDR_NONE, 1);
+}
+
+int main(int argc, char **argv) {
+    FILE *file = argc == 2 ? fopen(argv[1], "rb") : NULL;
+    if (file == NULL) return 2;
+    length = fread(text, 1, sizeof text, file);
+    fclose(file);
+    ddr_core core = DDR_CORE_INIT;
+    uint64_t whole;
+    nulls();
+    closed(&core);
+    refused(&core);
+    wants("open", ddr_open(&core, text, length, NULL, 0, &whole), DDR_OK);
+    ranges(&core);
+    masked(&core);
+    traced(&core);
+    wants("close", ddr_close(&core), DDR_OK);
+    closed(&core);
+    wants("open anew", ddr_open(&core, text, length, NULL, 0, &whole), DDR_OK);
+    wants("read", ddr_submit_read(&core, 0, 0, 1, &whole), DDR_OK);
+    wants("close with one outstanding", ddr_close(&core), DDR_OK);
+    return failed != 0;
+}
