@@ -1,12 +1,14 @@
--- What was written explains the verdict.
+-- What was written explains the verdict, or tells all faults.
 use Rattle.std.proofs.Common.{◌≡◌, Bool, true, false, List, ℕ, Option, Some, None, Ok, IfSome, refl, sym, subst}
-use Rattle.std.specs.Prelude.{is_some, not}
+use Rattle.std.specs.Prelude.{◌↔◌, IsTrue, is_some, not}
 use Rattle.std.specs.Io.KnownBytes.{Appends}
 use Rattle.ddr_timing.specs.declared.config.Config.{Config}
 use Rattle.ddr_trace.specs.declared.checker.Fault as checker
 use Rattle.ddr_trace.specs.Traces.{Recorded}
 use Rattle.ddr_text.specs.Check.{IsVerdict, SaysTrace}
+use Rattle.ddr_explain.specs.AllChecked.{IsAllChecked}
 use Rattle.ddr_explain.specs.Explained.{Explains, IsExplained}
+use Rattle.ddr_explain.specs.Table.{TellsAll}
 
 turned : (some legal : Bool) → some ≡ not legal → legal ≡ not some
 turned some true e = rw e refl
@@ -25,4 +27,17 @@ trace_explained (Some input) profile sample config trace verdict legal text old 
   told = told;
   written = written;
   answered = turned (is_some verdict) legal answered;
+}
+
+pub trace_told : (remaining : Option (List ℕ)) (profile : List ℕ) (sample : Bool) (config : Config) (trace : Recorded) (most : Option ℕ) (legal : Bool) (text : List ℕ) (old new : Option (List ℕ)) → IfSome remaining (λ input. SaysTrace sample profile input config (Ok trace)) → TellsAll config trace.start trace.end trace.entries most text → Appends old new text → IsTrue legal ↔ IsVerdict config trace None
+    → IfSome remaining (λ input. IsAllChecked sample profile input most legal old new)
+trace_told None profile sample config trace most legal text old new says told written answered = tt
+trace_told (Some input) profile sample config trace most legal text old new says told written answered = record {
+  config = config;
+  trace = trace;
+  says = says;
+  text = text;
+  told = told;
+  written = written;
+  answered = answered;
 }

@@ -1,2 +1,5 @@
+pub mod AllLemmas
+pub mod CleanLemmas
 pub mod ExplainLemmas
 pub mod ReasonLemmas
+pub mod TableLemmas
