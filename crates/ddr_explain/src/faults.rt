@@ -1,12 +1,13 @@
 //! Every fault of a trace.
 //!
-//! `ddr_evidence` and `ddr_trace` stand below, and `all` above.
+//! `ddr_evidence`, `ddr_legality` and `ddr_trace` stand below, and `all` above.
 ghost use Rattle.std.specs.Prelude.{◌≡◌, ◌++◌, IfOk, OnOk, filter, map};
 ghost use Rattle.ddr_trace.specs.declared.rule.TheConstants.Rule.{ALL};
 ghost use Rattle.ddr_trace.specs.Rules.{breaks};
 ghost use Rattle.ddr_explain.specs.AllFaults.{all_faults, fault_at, faults_at, told_of};
 
 use ddr_evidence::find::{evidence_at_end, evidence_of};
+use ddr_legality::checker::kept_places;
 use ddr_timing::config::Config;
 use ddr_trace::checker::Fault;
 use ddr_trace::command::Entry;
@@ -14,7 +15,7 @@ use ddr_trace::rule::Rule;
 use std::alloc::{AllocError, Global};
 
 /// Every fault of the trace, in the order of the places, and at a place in that of the rules. The trace goes from `start` to
-/// `end`, which is the first cycle behind it.
+/// `end`, which is the first cycle behind it. A place that is known to break none costs no look at its history.
 pub fn all_faults(
     alloc: Global,
     entries: &[Entry],
@@ -24,17 +25,13 @@ pub fn all_faults(
 ) -> Result<Vec<Fault>, AllocError>
     ensures { IfOk result (λ faults. faults.items ≡ all_faults config.now start end entries.now) }
 {
+    let kept = kept_places(alloc, entries, config, start, end)?;
     let mut faults = Vec::new(alloc);
     for (place, entry) in entries.iter().enumerate() {
-        add_faults(
-            &mut faults,
-            place,
-            &entries[..place],
-            entry,
-            config,
-            start,
-            end,
-        )?;
+        if !kept[place] {
+            let history = &entries[..place];
+            add_faults(&mut faults, place, history, entry, config, start, end)?;
+        }
     }
     if evidence_at_end(entries, config, start, end).is_some() {
         faults.push(Fault {

@@ -2,6 +2,7 @@ pub mod AllowedLemmas
 pub mod BrokenLemmas
 pub mod ColumnLemmas
 pub mod IssuedLemmas
+pub mod KeptLemmas
 pub mod LegalLemmas
 pub mod PassedLemmas
 pub mod RankLemmas

@@ -1,5 +1,6 @@
 pub mod Bus
 pub mod Columns
+pub mod Followed
 pub mod Issued
 pub mod Kept
 pub mod Refreshes

@@ -1,14 +1,17 @@
 //! The checker of a whole trace, in one pass.
 //!
-//! It finds what `ddr_trace`'s checker finds, which compares each entry with all those before it. Up to the first
-//! fault every rule is kept, so `issued` tells each rule on commands of the next entry, and the `refreshes` of its rank
-//! the two on refresh.
-ghost use Rattle.std.specs.Prelude.{◌≡◌, ℕ, ◌+◌, ◌<◌, ◌^◌, ◌↔◌, List, [], ◌∷◌, ◌++◌, None, IsTrue, IfNone, IfOk, IfSome, IsNone};
+//! It finds what `ddr_trace`'s checker finds, which compares each entry with all those before it: `issued` tells the lowest
+//! rule on commands that the next entry breaks, and the `refreshes` of its rank the two on refresh.
+ghost use Rattle.std.specs.Prelude.{◌≡◌, ℕ, ◌+◌, ◌<◌, ◌^◌, ◌↔◌, ◌&&◌, List, [], ◌∷◌, ◌++◌, None, Some, IsTrue, IfNone, IfOk, IfSome, IsNone, false, length, slice_get, true, vec_len};
+ghost use Rattle.std.specs.Option.{is_none};
 ghost use Rattle.ddr_trace.specs.declared.command.Entry.{Entry};
+ghost use Rattle.ddr_trace.specs.declared.rule.Rule.{Rule};
 ghost use Rattle.ddr_trace.specs.Bus.{KeepsBus};
-ghost use Rattle.ddr_trace.specs.Rules.{breaks, ends_late, is_in};
+ghost use Rattle.ddr_trace.specs.Rules.{breaks, ends_late, is_in, last_cycle_below};
 ghost use Rattle.ddr_trace.specs.Commands.{rank_of};
-ghost use Rattle.ddr_trace.specs.Legality.{IsFirstFault, IsLegal, IsRefreshed, lowest_rule};
+ghost use Rattle.ddr_trace.specs.Legality.{IsFirstFault, IsLegal, IsRefreshed, breaks_at, lowest_rule};
+ghost use Rattle.ddr_rank.specs.Stands.{IsAfter};
+ghost use Rattle.ddr_legality.specs.Followed.{AreFollowed};
 
 use crate::issued::Issued;
 use crate::refreshes::Refreshes;
@@ -50,7 +53,38 @@ pub fn first_fault(
     Ok(None)
 }
 
-/// What is kept of the entries that were passed, in which no rule is broken.
+/// For each entry of the trace, whether it is known to break no rule behind its history, entries at fault among that. The
+/// trace goes from `start` to `end`, and an entry costs the same wherever it stands.
+///
+/// What one pass keeps stands for entries of the geometry whose cycles rise, whatever else is at fault with them. So all is
+/// known of every entry up to the first one that is none of these, and of those behind it nothing is.
+pub fn kept_places(
+    alloc: Global,
+    entries: &[Entry],
+    config: &Config,
+    start: u64,
+    end: u64,
+) -> Result<Vec<bool>, AllocError>
+    ensures each { IfOk result (λ kept. vec_len kept ≡ length entries.now) }
+    ensures kept { IfOk result (λ kept. (place : ℕ) (rule : Rule) → slice_get kept.items place ≡ Some true
+        → breaks_at config.now start end entries.now place rule ≡ false) }
+    ensures known { IfOk result (λ kept. (place : ℕ) → place < length entries.now → AreFollowed config.now.geometry entries.now place
+        → slice_get kept.items place ≡ Some (is_none (lowest_rule (breaks_at config.now start end entries.now place)))) }
+{
+    let mut so_far = SoFar::open(alloc, config, start)?;
+    let mut is_followed = true;
+    let mut kept = Vec::new(alloc);
+    for entry in entries {
+        let is_kept = is_followed && so_far.is_kept_by(entry, end);
+        kept.push(is_kept)?;
+        if is_followed {
+            is_followed = so_far.follow(entry);
+        }
+    }
+    Ok(kept)
+}
+
+/// What is kept of the entries that were passed. They are of the geometry, and their cycles rise.
 #[derive(Drop)]
 struct SoFar {
     issued: Issued,
@@ -99,15 +133,41 @@ impl SoFar {
         }
     }
 
-    /// Passes an entry that breaks no rule.
+    /// Whether the entry breaks no rule, in a trace that ends at `end`.
+    fn is_kept_by(&self, entry: &Entry, end: u64) -> bool
+        ensures { (history : List Entry) → HasPassed self.now history
+            → result ≡ is_none (lowest_rule (λ r. breaks self.now.issued.config self.now.issued.start end r history entry.now)) }
+    {
+        self.lowest(entry, end).is_none()
+    }
+
+    /// Passes the entry where it is of the geometry and comes behind the last one; answers whether.
+    fn follow(&mut self, entry: &Entry) -> bool
+        requires first_countable { self.old.first.count + 1 < 2 ^ 64 }
+        requires second_countable { self.old.second.count + 1 < 2 ^ 64 }
+        ensures config { self.new.issued.config ≡ self.old.issued.config }
+        ensures start { self.new.issued.start ≡ self.old.issued.start }
+        ensures told { (history : List Entry) → HasPassed self.old history
+            → result ≡ (is_in self.old.issued.config.geometry entry.now.command && last_cycle_below history entry.now.cycle) }
+        ensures passed { (history : List Entry) → HasPassed self.old history → result ≡ true
+            → HasPassed self.new (history ++ entry.now ∷ []) }
+    {
+        let is_behind = entry.command.is_in(&self.issued.config.geometry)
+            && self.issued.is_after_last(entry.cycle);
+        if is_behind {
+            self.pass(entry);
+        }
+        is_behind
+    }
+
+    /// Passes an entry that comes behind the last one, whether or not it breaks a rule.
     fn pass(&mut self, entry: &Entry)
         requires placed { IsTrue (is_in self.old.issued.config.geometry entry.now.command) }
         requires first_countable { self.old.first.count + 1 < 2 ^ 64 }
         requires second_countable { self.old.second.count + 1 < 2 ^ 64 }
         ensures config { self.new.issued.config ≡ self.old.issued.config }
         ensures start { self.new.issued.start ≡ self.old.issued.start }
-        ensures passed { (history : List Entry) (end : ℕ) → HasPassed self.old history
-            → lowest_rule (λ r. breaks self.old.issued.config self.old.issued.start end r history entry.now) ≡ None
+        ensures passed { (history : List Entry) → HasPassed self.old history → IsAfter history entry.now.cycle
             → HasPassed self.new (history ++ entry.now ∷ []) }
     {
         self.issued.issue(entry);

@@ -198,7 +198,7 @@ impl Issued {
     }
 
     /// Whether the cycle is above that of the last command, if there was one.
-    fn is_after_last(&self, cycle: u64) -> bool
+    pub fn is_after_last(&self, cycle: u64) -> bool
         ensures { result ≡ is_later self.now.last cycle }
     {
         match self.last {

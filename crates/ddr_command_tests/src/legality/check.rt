@@ -1,6 +1,6 @@
 //! The first fault of whole traces.
 use super::traces::LEGAL;
-use ddr_legality::checker::first_fault;
+use ddr_legality::checker::{first_fault, kept_places};
 use ddr_samples::chance::Chance;
 use ddr_samples::steps::{Step, entries_of};
 use ddr_timing::config::Config;
@@ -214,6 +214,50 @@ fn as_the_plain_checker(rt: HostRuntime) -> Result<(), Fail> {
     let rules = rules_of_400(&rt, rt.alloc())?;
     for rule in MET {
         assert!(rt; rules.contains(rule), "{rule:?}");
+    }
+    Ok(())
+}
+
+/// Traces of profile S up to cycle 100, and which of their entries are known to break no rule.
+const KEPT: &[(&[Step], &[bool])] = &[
+    (&[], &[]),
+    // The second ACT finds its bank active, and stands in what comes behind it.
+    (
+        &[
+            Step::Act(0, 0, 0, 0),
+            Step::Act(2, 0, 0, 1),
+            Step::Rd(6, 0, 0, 1, 0),
+            Step::Rd(11, 0, 0, 0, 0),
+        ],
+        &[true, false, true, false],
+    ),
+    // Nothing is known behind a group that there isn't, nor behind a cycle that doesn't rise.
+    (
+        &[
+            Step::Act(0, 0, 0, 0),
+            Step::Act(50, 4, 0, 0),
+            Step::Pre(60, 0, 0),
+        ],
+        &[true, false, false],
+    ),
+    (
+        &[
+            Step::Act(0, 0, 0, 0),
+            Step::Pre(0, 3, 3),
+            Step::Pre(60, 0, 0),
+        ],
+        &[true, false, false],
+    ),
+];
+
+#[test]
+fn entries_that_break_no_rule(rt: HostRuntime) -> Result<(), Fail> {
+    let alloc = rt.alloc();
+    let config = Config::read(alloc, PROFILE_S)?;
+    for (steps, wanted) in KEPT {
+        let entries = entries_of(alloc, steps)?;
+        let kept = kept_places(alloc, &entries, &config, 0, 100)?;
+        assert_eq!(rt; kept.as_slice(), *wanted, "{entries:?}");
     }
     Ok(())
 }

@@ -8,7 +8,7 @@ use Rattle.ddr_trace.proofs.FaultLemmas.{clean_all, clean_more, first_at_end, fi
 use Rattle.ddr_trace.proofs.LowestLemmas.{none_broken}
 use Rattle.ddr_legality.specs.declared.checker.SoFar.{SoFar}
 use Rattle.ddr_legality.specs.SoFar.{HasPassed}
-use Rattle.ddr_legality.proofs.BrokenLemmas.{commands_kept, place_kept}
+use Rattle.ddr_legality.proofs.BrokenLemmas.{after_kept, commands_kept, place_kept}
 use Rattle.ddr_legality.proofs.checker.first_fault.Goals as goal
 
 passed_more : (s : SoFar) (entries : List Entry) (place : ℕ) (d : Entry) → place < length entries → HasPassed s (take place entries ++ get_or entries place d ∷ []) → HasPassed s (take (place + 1) entries)
@@ -34,6 +34,7 @@ pass-requires-clause-placed c =
 pub loop-place-preserved : goal.loop-place-preserved
 loop-place-preserved c =
     let kept = c.loop-place.invariant in
+    let i = c.loop-place.so_far.issued in
     let before = take c.loop-place.place c.args.entries.now in
     let none = sym (c.lowest.ensures before kept.passed) ∙ c.in_default.is in
     let within = c.loop-place-test.true in
@@ -41,7 +42,7 @@ loop-place-preserved c =
       config = c.pass.ensures.config ∙ kept.config;
       start = c.pass.ensures.start ∙ kept.start;
       clean = clean_more c.args.config.now c.args.start c.args.end c.args.entries.now c.loop-place.place _ within kept.clean (none_broken _ (rw (kept.config, kept.start) at none));
-      passed = passed_more c.pass.new.self c.args.entries.now c.loop-place.place _ within (c.pass.ensures.passed before c.args.end kept.passed none);
+      passed = passed_more c.pass.new.self c.args.entries.now c.loop-place.place _ within (c.pass.ensures.passed before kept.passed (after_kept i.config i.start c.args.end before _ (commands_kept i.config i.start c.args.end before _ none)));
     }
 
 pub returns-then-ends_late-clause-fault : goal.returns-then-ends_late-clause-fault

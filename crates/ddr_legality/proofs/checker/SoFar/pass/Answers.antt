@@ -1,33 +1,31 @@
--- Nothing is broken, so the commands go on, and so do the REFs.
+-- The commands go on, and so do the REFs.
 use Rattle.std.proofs.Common.{◌≡◌, ◌≢◌, [], ◌∷◌, ◌++◌, refl, sym, subst, arith}
 use Rattle.ddr_trace.specs.Commands.{rank_of}
 use Rattle.ddr_legality.specs.Refreshes.{HasCounted}
-use Rattle.ddr_legality.proofs.BrokenLemmas.{after_kept, commands_kept}
 use Rattle.ddr_legality.proofs.RankLemmas.{second_rank}
 use Rattle.ddr_legality.proofs.RefreshLemmas.{counted_elsewhere}
 use Rattle.ddr_legality.proofs.checker.SoFar.pass.Goals as goal
 
 pub returns-in-0-clause-passed : goal.returns-in-0-clause-passed
-returns-in-0-clause-passed c = λ history end passed none.
+returns-in-0-clause-passed c = λ history passed later.
     let s = c.args.self.now in
-    let i = s.issued in
     let e = c.args.entry.now in
     let own : rank_of e.command ≡ 0 = cc in
     record {
-      issued = c.issue.ensures.issued history passed.issued (after_kept i.config i.start end history e (commands_kept i.config i.start end history e none));
+      issued = c.issue.ensures.issued history passed.issued later;
       first = subst (λ n. HasCounted n c.note.new.self (history ++ e ∷ [])) own (c.note.ensures history (subst (λ n. HasCounted n s.first history) (sym own) passed.first));
       second = counted_elsewhere 1 history e s.second passed.second (rw own refl);
     }
 
 pub returns-in_default-clause-passed : goal.returns-in_default-clause-passed
-returns-in_default-clause-passed c = λ history end passed none.
+returns-in_default-clause-passed c = λ history passed later.
     let s = c.args.self.now in
     let i = s.issued in
     let e = c.args.entry.now in
     let apart : rank_of e.command ≢ 0 = omega arith in
     let own : rank_of e.command ≡ 1 = second_rank i.config.geometry e.command c.requires.placed apart in
     record {
-      issued = c.issue.ensures.issued history passed.issued (after_kept i.config i.start end history e (commands_kept i.config i.start end history e none));
+      issued = c.issue.ensures.issued history passed.issued later;
       first = counted_elsewhere 0 history e s.first passed.first (rw own refl);
       second = subst (λ n. HasCounted n c.note-in_default.new.self (history ++ e ∷ [])) own (c.note-in_default.ensures history (subst (λ n. HasCounted n s.second history) (sym own) passed.second));
     }
