@@ -21,7 +21,7 @@ use Rattle.clap.specs.declared.error.kind.ErrorKind.TheVariants.{OutOfMemory}
 use Rattle.clap.proofs.CallerReads.{signed_reads}
 use Rattle.clap.proofs.ValueTestLemmas.{accepts-Accepts}
 use Rattle.ddr_text.specs.declared.command.Job.TheVariants.{Sim}
-use Rattle.ddr_text.specs.Job.{Answers, AreTaken, IsTaken, ddr_app, explain_rule, flag_rule, is_subcommand, job_of, job_or, job_with, sample_rule, trace_rule}
+use Rattle.ddr_text.specs.Job.{Answers, AreTaken, IsTaken, all_rule, ddr_app, explain_rule, flag_rule, is_subcommand, job_of, job_or, job_with, most_rule, number_rule, sample_rule, trace_rule}
 use Rattle.ddr_text.proofs.PassLemmas.{AllFit, AllSubsLike, IsLike, fit_subcommand, one_passes}
 
 -- a flag, as `get_flag` reads it
@@ -35,10 +35,10 @@ flag_read name (Some text) r none set other (value, same, accepted) = go (bytes_
         let is_false : bytes_eq text (codes "false") ≡ true = ap (λ b. b || bytes_eq text (codes "false")) (sym is) ∙ either in
         other (ap (λ t. Some t) ((bytes_eq-Decides text (codes "false")).0 is_false)) ∙ sym is
 
--- the option, as `get_one` reads a `u32`
-pub channel_read : (E : Type 0) (G : List ℕ → Result ℕ E → Type 0) (o : Option Text) (r : Option ℕ) → ((u : List ℕ) (x : Result ℕ E) → G u x → ParsesUnsigned 32 10 u x) → (o ≡ None → r ≡ None) → ((t : Text) → o ≡ Some t → ReadsOne G t r) → IfSome o (IsTaken (filled trace_rule)) → r ≡ option_map (λ text. digits_value 10 (without_leading_plus text)) o
-channel_read E G None r only none value taken = none refl
-channel_read E G (Some text) r only none value (v, same, accepted) =
+-- an option, as `get_one` reads a `u32`
+pub number_read : (name : Text) (E : Type 0) (G : List ℕ → Result ℕ E → Type 0) (o : Option Text) (r : Option ℕ) → ((u : List ℕ) (x : Result ℕ E) → G u x → ParsesUnsigned 32 10 u x) → (o ≡ None → r ≡ None) → ((t : Text) → o ≡ Some t → ReadsOne G t r) → IfSome o (IsTaken (filled (number_rule name))) → r ≡ option_map (λ text. digits_value 10 (without_leading_plus text)) o
+number_read name E G None r only none value taken = none refl
+number_read name E G (Some text) r only none value (v, same, accepted) =
     let read = value text refl in
     let got = signed_reads E G 32 0 4294967295 v r (subst (λ u. ReadsOne G u r) same read) only (lit< tt) (accepts-Accepts false (parser.Signed (pos 0) (pos 4294967295)) v accepted) in
     let parsed = only text (Ok got.0) (subst (ReadsOne G text) got.1 read) in
@@ -142,17 +142,27 @@ like_other t a differ uncounted =
 samples_alike : AllSubsLike (filled sample_rule) (built ddr_app).subs
 unfolding ddr_app is_count
 samples_alike =
-    ((like_same _ _ refl refl refl, (like_other _ _ refl refl, (like_other _ _ refl refl, tt))), ((like_same _ _ refl refl refl, (like_other _ _ refl refl, tt)), ((like_same _ _ refl refl refl, (like_other _ _ refl refl, (like_other _ _ refl refl, tt))), ((like_same _ _ refl refl refl, (like_other _ _ refl refl, tt)), ((like_same _ _ refl refl refl, (like_other _ _ refl refl, tt)), tt)))))
+    ((like_same _ _ refl refl refl, (like_other _ _ refl refl, (like_other _ _ refl refl, tt))), ((like_same _ _ refl refl refl, (like_other _ _ refl refl, tt)), ((like_same _ _ refl refl refl, (like_other _ _ refl refl, (like_other _ _ refl refl, (like_other _ _ refl refl, (like_other _ _ refl refl, tt))))), ((like_same _ _ refl refl refl, (like_other _ _ refl refl, tt)), ((like_same _ _ refl refl refl, (like_other _ _ refl refl, tt)), tt)))))
 
 traces_alike : AllSubsLike (filled trace_rule) (built ddr_app).subs
 unfolding ddr_app is_count
 traces_alike =
-    ((like_other _ _ refl refl, (like_same _ _ refl refl refl, (like_other _ _ refl refl, tt))), ((like_other _ _ refl refl, (like_other _ _ refl refl, tt)), ((like_other _ _ refl refl, (like_other _ _ refl refl, (like_other _ _ refl refl, tt))), ((like_other _ _ refl refl, (like_other _ _ refl refl, tt)), ((like_other _ _ refl refl, (like_other _ _ refl refl, tt)), tt)))))
+    ((like_other _ _ refl refl, (like_same _ _ refl refl refl, (like_other _ _ refl refl, tt))), ((like_other _ _ refl refl, (like_other _ _ refl refl, tt)), ((like_other _ _ refl refl, (like_other _ _ refl refl, (like_other _ _ refl refl, (like_other _ _ refl refl, (like_other _ _ refl refl, tt))))), ((like_other _ _ refl refl, (like_other _ _ refl refl, tt)), ((like_other _ _ refl refl, (like_other _ _ refl refl, tt)), tt)))))
 
 explains_alike : AllSubsLike (filled explain_rule) (built ddr_app).subs
 unfolding ddr_app is_count
 explains_alike =
-    ((like_other _ _ refl refl, (like_other _ _ refl refl, (like_other _ _ refl refl, tt))), ((like_other _ _ refl refl, (like_other _ _ refl refl, tt)), ((like_other _ _ refl refl, (like_same _ _ refl refl refl, (like_other _ _ refl refl, tt))), ((like_other _ _ refl refl, (like_other _ _ refl refl, tt)), ((like_other _ _ refl refl, (like_other _ _ refl refl, tt)), tt)))))
+    ((like_other _ _ refl refl, (like_other _ _ refl refl, (like_other _ _ refl refl, tt))), ((like_other _ _ refl refl, (like_other _ _ refl refl, tt)), ((like_other _ _ refl refl, (like_same _ _ refl refl refl, (like_other _ _ refl refl, (like_other _ _ refl refl, (like_other _ _ refl refl, tt))))), ((like_other _ _ refl refl, (like_other _ _ refl refl, tt)), ((like_other _ _ refl refl, (like_other _ _ refl refl, tt)), tt)))))
+
+alls_alike : AllSubsLike (filled all_rule) (built ddr_app).subs
+unfolding ddr_app is_count
+alls_alike =
+    ((like_other _ _ refl refl, (like_other _ _ refl refl, (like_other _ _ refl refl, tt))), ((like_other _ _ refl refl, (like_other _ _ refl refl, tt)), ((like_other _ _ refl refl, (like_other _ _ refl refl, (like_same _ _ refl refl refl, (like_other _ _ refl refl, (like_other _ _ refl refl, tt))))), ((like_other _ _ refl refl, (like_other _ _ refl refl, tt)), ((like_other _ _ refl refl, (like_other _ _ refl refl, tt)), tt)))))
+
+mosts_alike : AllSubsLike (filled most_rule) (built ddr_app).subs
+unfolding ddr_app is_count
+mosts_alike =
+    ((like_other _ _ refl refl, (like_other _ _ refl refl, (like_other _ _ refl refl, tt))), ((like_other _ _ refl refl, (like_other _ _ refl refl, tt)), ((like_other _ _ refl refl, (like_other _ _ refl refl, (like_other _ _ refl refl, (like_same _ _ refl refl refl, (like_other _ _ refl refl, tt))))), ((like_other _ _ refl refl, (like_other _ _ refl refl, tt)), ((like_other _ _ refl refl, (like_other _ _ refl refl, tt)), tt)))))
 
 taken_of : (t : Rule) (words : List Text) (name : Text) (options : List Row) → AllSubsLike t (built ddr_app).subs → fault_of ddr_app words ≡ [] → subcommand_of ddr_app words ≡ Some (name, options) → IfSome (one_of t.id options) (IsTaken t)
 taken_of t words name options alike none met =
@@ -164,4 +174,6 @@ met_taken words name options none met = record {
   sample = taken_of (filled sample_rule) words name options samples_alike none met;
   trace = taken_of (filled trace_rule) words name options traces_alike none met;
   explain = taken_of (filled explain_rule) words name options explains_alike none met;
+  all = taken_of (filled all_rule) words name options alls_alike none met;
+  most = taken_of (filled most_rule) words name options mosts_alike none met;
 }

@@ -1,5 +1,5 @@
 -- The command line of the program, and the job that its words state.
-use Rattle.std.specs.Prelude.{◌≡◌, ℕ, Bool, true, false, ◌||◌, nat_lt, if◌then◌else◌, List, [], ◌∷◌, length, codes, pos, IfSome, Option, Some, None, option_map, Result, Ok, Err}
+use Rattle.std.specs.Prelude.{◌≡◌, ℕ, Bool, true, false, ◌||◌, nat_lt, if◌then◌else◌, List, [], ◌∷◌, length, codes, pos, IfSome, Option, Some, None, is_some, option_map, Result, Ok, Err}
 use Rattle.std.specs.Option.{option_map_or}
 use Rattle.std.specs.Str.{bytes_eq}
 use Rattle.std.specs.Str.Parse.{digits_value, without_leading_plus}
@@ -13,7 +13,7 @@ use Rattle.clap.specs.declared.builder.value_parser.ValueParser.TheVariants as p
 use Rattle.clap.specs.declared.error.Error.{Error}
 use Rattle.clap.specs.declared.error.kind.ErrorKind.TheVariants.{OutOfMemory}
 use Rattle.ddr_text.specs.declared.command.Job.{Job}
-use Rattle.ddr_text.specs.declared.command.Job.TheVariants.{Sim, Run, Check, Explain, Map, Lint}
+use Rattle.ddr_text.specs.declared.command.Job.TheVariants.{Sim, Run, Check, Explain, All, Map, Lint}
 
 -- a flag of this name
 abbrev pub flag_rule : Text → Rule
@@ -27,21 +27,33 @@ sample_rule = flag_rule (codes "sample")
 abbrev pub explain_rule : Rule
 explain_rule = flag_rule (codes "explain")
 
--- the option `--trace`, whose value is below 2^32
-abbrev pub trace_rule : Rule
-trace_rule = record (new_rule (codes "trace")) {
-  long = Some (codes "trace");
+-- the flag `--all`
+abbrev pub all_rule : Rule
+all_rule = flag_rule (codes "all")
+
+-- an option of this name, whose value is below 2^32
+abbrev pub number_rule : Text → Rule
+number_rule name = record (new_rule name) {
+  long = Some name;
   value_names = 1;
   parser = Some (parser.Signed (pos 0) (pos 4294967295));
 }
+
+-- the option `--trace`
+abbrev pub trace_rule : Rule
+trace_rule = number_rule (codes "trace")
+
+-- the option `--most`
+abbrev pub most_rule : Rule
+most_rule = number_rule (codes "most")
 
 -- a subcommand with the flag
 abbrev pub with_sample : Text → App
 with_sample name = with_rule (new_app name) sample_rule
 
--- the subcommand `check`, with its own flag behind
+-- the subcommand `check`, with its own flags and its option behind
 abbrev pub check_app : App
-check_app = with_rule (with_sample (codes "check")) explain_rule
+check_app = with_rule (with_rule (with_rule (with_sample (codes "check")) explain_rule) all_rule) most_rule
 
 -- the program's name, which a subcommand has to follow
 abbrev pub name_alone : App
@@ -64,9 +76,17 @@ is_used flag options = option_map_or (λ text. bytes_eq text (codes "true")) (on
 abbrev pub is_sample : List Row → Bool
 is_sample = is_used (codes "sample")
 
--- the channel of the option, if that was used
+-- the number of the option, if that was used
+abbrev pub number_in : Text → List Row → Option ℕ
+number_in name options = option_map (λ text. digits_value 10 (without_leading_plus text)) (one_of name options)
+
+-- the channel of `--trace`
 abbrev pub channel_of : List Row → Option ℕ
-channel_of options = option_map (λ text. digits_value 10 (without_leading_plus text)) (one_of (codes "trace") options)
+channel_of = number_in (codes "trace")
+
+-- how many faults `--most` asks for
+abbrev pub most_of : List Row → Option ℕ
+most_of = number_in (codes "most")
 
 -- the text is that of a value that the rule's parser takes
 abbrev pub IsTaken : Rule → Text → Type 0
@@ -78,13 +98,18 @@ pub record AreTaken (options : List Row) : Type 0 where
   pub sample : IfSome (one_of (codes "sample") options) (IsTaken (filled sample_rule))
   pub trace : IfSome (one_of (codes "trace") options) (IsTaken (filled trace_rule))
   pub explain : IfSome (one_of (codes "explain") options) (IsTaken (filled explain_rule))
+  pub all : IfSome (one_of (codes "all") options) (IsTaken (filled all_rule))
+  pub most : IfSome (one_of (codes "most") options) (IsTaken (filled most_rule))
 
 abbrev pub is_subcommand : Text → Bool
 is_subcommand name = bytes_eq name (codes "sim") || bytes_eq name (codes "run") || bytes_eq name (codes "check") || bytes_eq name (codes "map") || bytes_eq name (codes "lint")
 
--- the job of the subcommand `check`
+-- the job of the subcommand `check`; who asks for the first faults asks for all, which tell more than an explanation
 abbrev pub check_job : List Row → Bool → Job
-check_job options sample = if is_used (codes "explain") options then Explain sample else Check sample
+check_job options sample =
+    if is_used (codes "all") options || is_some (most_of options) then All sample (most_of options)
+    else if is_used (codes "explain") options then Explain sample
+    else Check sample
 
 -- the job of a subcommand with these options
 abbrev pub job_with : Text → List Row → Job

@@ -13,6 +13,8 @@ pub enum Job {
     Check { sample: bool },
     /// Checks a trace, and says what its first fault rests on.
     Explain { sample: bool },
+    /// Checks a trace, and tells all its faults, or the first `most` of them.
+    All { sample: bool, most: Option<u32> },
     /// Says where addresses lie.
     Map { sample: bool },
     /// Tells what is at fault in a configuration, and what is strange.

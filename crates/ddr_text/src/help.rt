@@ -50,6 +50,11 @@ Output: `legal`, or `fault PLACE RULE`, where PLACE counts the commands from 0. 
   --explain a sentence behind it, with the earlier command that the fault is measured
   from, the distance, and the least distance with its formula. Its lines count the
   trace's records from 1, the header being 1.
+  With --all a line of comma-separated values for each rule that is broken at each
+  place, each command judged behind all before it, those at fault among them; then a
+  line `# RULE COUNT` for each rule that is broken. --most N writes the first N lines
+  alone, the counts stay those of all, and it asks for --all. Next to --all --explain
+  adds nothing.
 Status: 0 where the trace is legal; 1 where it is not; 2 for a bad input or command
   line; 3 where the device or the memory fails.
 

@@ -4,7 +4,7 @@
 ghost use Rattle.std.specs.Prelude.{◌≡◌, ◌≤◌, IfOk, IsTrue, None, Ok, codes, false, length, map, true};
 ghost use Rattle.clap.specs.Words.{app_of, found_of, rows_of, rule_of, with_rule, with_subcommand};
 ghost use Rattle.clap.specs.declared.Command.TheViews.{out-Command as settings_of};
-ghost use Rattle.ddr_text.specs.Job.{Answers, AreTaken, channel_of, check_app, check_job, ddr_app, flag_rule, is_subcommand, is_used, job_of, job_with, name_alone, trace_rule, with_sample};
+ghost use Rattle.ddr_text.specs.Job.{Answers, AreTaken, channel_of, check_app, check_job, ddr_app, flag_rule, is_subcommand, is_used, job_of, job_with, most_of, name_alone, number_rule, trace_rule, with_sample};
 
 use crate::command::Job;
 use crate::help;
@@ -14,7 +14,8 @@ use std::alloc::{AllocError, Global};
 /// The job that the words of a command line state, of which the first is the program's name.
 ///
 /// The subcommands are `sim`, `run`, `check`, `map` and `lint`. Each has the flag `--sample`, `sim` the option `--trace C` with
-/// the number of a channel, a `u32`, and `check` the flag `--explain`. No words, or the name alone, are read as `sim --sample`.
+/// the number of a channel, a `u32`, and `check` the flags `--explain` and `--all` and the option `--most N` with a `u32`, which
+/// asks for all faults too. No words, or the name alone, are read as `sim --sample`.
 ///
 /// Fails with an error of `clap`, whose `Display` is the text for the user, where the words are of another form,
 /// where they ask for help, and where memory runs out.
@@ -60,11 +61,30 @@ fn check_job(options: &ArgMatches<'_>, sample: bool) -> Job
     requires { AreTaken (rows_of (found_of options.now)) }
     ensures { result ≡ check_job (rows_of (found_of options.now)) sample }
 {
-    if is_explained(options) {
+    let most = most_of(options);
+    if is_all(options) || most.is_some() {
+        Job::All { sample, most }
+    } else if is_explained(options) {
         Job::Explain { sample }
     } else {
         Job::Check { sample }
     }
+}
+
+/// Whether the flag `--all` was used.
+fn is_all(options: &ArgMatches<'_>) -> bool
+    requires { AreTaken (rows_of (found_of options.now)) }
+    ensures { result ≡ is_used (codes "all") (rows_of (found_of options.now)) }
+{
+    options.get_flag("all")
+}
+
+/// The number of the option `--most`, if that was used.
+fn most_of(options: &ArgMatches<'_>) -> Option<u32>
+    requires { AreTaken (rows_of (found_of options.now)) }
+    ensures { result ≡ most_of (rows_of (found_of options.now)) }
+{
+    options.get_one::<u32>("most")
 }
 
 /// Whether the flag `--explain` was used.
@@ -138,10 +158,11 @@ fn with_sim<'a>(alloc: Global, command: Command<'a>) -> Result<Command<'a>, Allo
     ensures local { IfOk result (λ all. (settings_of all).has_globals ≡ false) }
 {
     let sim = subcommand(alloc, "sim", "Runs a script of reads and writes", help::SIM)?;
-    command.subcommand(sim.arg(trace_option(alloc))?)
+    let about = "Writes the trace of this channel in place of the replies";
+    command.subcommand(sim.arg(number_option(alloc, "trace", "CHANNEL", about))?)
 }
 
-/// The command with the subcommand that checks a trace, which has the flag `--explain` too.
+/// The command with the subcommand that checks a trace, which has the flags `--explain` and `--all` and the option `--most` too.
 fn with_check<'a>(alloc: Global, command: Command<'a>) -> Result<Command<'a>, AllocError>
     requires local { (settings_of command).has_globals ≡ false }
     ensures app { IfOk result (λ all. app_of all ≡ with_subcommand (app_of command.entry) check_app.top) }
@@ -149,7 +170,11 @@ fn with_check<'a>(alloc: Global, command: Command<'a>) -> Result<Command<'a>, Al
 {
     let check = subcommand(alloc, "check", "Checks a trace of commands", help::CHECK)?;
     let about = "Says what the first fault rests on, in a sentence behind the verdict";
-    command.subcommand(check.arg(flag(alloc, "explain", about))?)
+    let explaining = check.arg(flag(alloc, "explain", about))?;
+    let about = "Tells every fault as a line of CSV, and counts each rule";
+    let telling = explaining.arg(flag(alloc, "all", about))?;
+    let about = "Tells the first N faults alone, and counts all; means --all too";
+    command.subcommand(telling.arg(number_option(alloc, "most", "N", about))?)
 }
 
 /// The command with one more subcommand.
@@ -178,16 +203,16 @@ fn flag<'a>(alloc: Global, name: &'a str, about: &'a str) -> Arg<'a>
         .help(about)
 }
 
-/// The option `--trace C`.
-fn trace_option<'a>(alloc: Global) -> Arg<'a>
-    ensures rule { rule_of result ≡ trace_rule }
+/// An option of this name, whose value is a `u32`.
+fn number_option<'a>(alloc: Global, name: &'a str, value: &'a str, about: &'a str) -> Arg<'a>
+    ensures rule { rule_of result ≡ number_rule name.entry.now }
     ensures local { result.global ≡ false }
 {
-    Arg::new(alloc, "trace")
-        .long("trace")
-        .value_name("CHANNEL")
+    Arg::new(alloc, name)
+        .long(name)
+        .value_name(value)
         .value_parser(value_parser!(u32))
-        .help("Writes the trace of this channel in place of the replies")
+        .help(about)
 }
 
 /// A subcommand with the flag `--sample`, and with what its help says first and last.

@@ -111,6 +111,9 @@ const ERRORS: &[(&str, ErrorKind)] = &[
     ("ddr sim --trace=-1", ErrorKind::ValueValidation),
     ("ddr sim --trace=4294967296", ErrorKind::ValueValidation),
     ("ddr sim --trace", ErrorKind::InvalidValue),
+    ("ddr check --most x", ErrorKind::ValueValidation),
+    ("ddr check --all --most", ErrorKind::InvalidValue),
+    ("ddr sim --all", ErrorKind::UnknownArgument),
     ("ddr sim --sample=true", ErrorKind::TooManyValues),
     ("ddr map --sample --sample", ErrorKind::ArgumentConflict),
     // Requests for help.
@@ -118,6 +121,34 @@ const ERRORS: &[(&str, ErrorKind)] = &[
     ("ddr -h", ErrorKind::DisplayHelp),
     ("ddr sim --help", ErrorKind::DisplayHelp),
 ];
+
+/// Words behind `ddr check`, and how many faults they ask for. Beside `--all` `--explain` adds nothing, and `--most` asks for it.
+const ALL_FAULTS: &[(&str, Option<u32>)] = &[
+    ("--all", None),
+    ("--explain --all", None),
+    ("--all --most 3", Some(3)),
+    ("--most 0 --all", Some(0)),
+    ("--most=4294967295", Some(4_294_967_295)),
+    ("--explain --most 1", Some(1)),
+];
+
+#[test]
+fn all_faults(rt: HostRuntime) -> Result<(), Fail> {
+    let alloc = rt.alloc();
+    for (words, most) in ALL_FAULTS {
+        let most = *most;
+        let line = format!(in alloc; "ddr check {words}")?;
+        let wanted = Job::All {
+            sample: false,
+            most,
+        };
+        states(&rt, alloc, line.as_str(), wanted)?;
+        let line = format!(in alloc; "ddr check --sample {words}")?;
+        let wanted = Job::All { sample: true, most };
+        states(&rt, alloc, line.as_str(), wanted)?;
+    }
+    Ok(())
+}
 
 #[test]
 fn errors(rt: HostRuntime) -> Result<(), Fail> {
