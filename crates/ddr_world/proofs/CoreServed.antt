@@ -1,5 +1,5 @@
 -- When the requests were served whose completions come to the ports.
-use Rattle.std.proofs.Common.{◌≡◌, ℕ, zero, suc, ◌+◌, Bool, true, false, cond, eqb, List, [], ◌∷◌, ◌++◌, Option, Some, None, IfSome, map, take, refl, sym, ap, subst, ◌∙◌, inl, inr, arith}
+use Rattle.std.proofs.Common.{◌≡◌, ℕ, zero, suc, ◌+◌, Bool, true, false, cond, List, [], ◌∷◌, ◌++◌, Option, Some, None, IfSome, map, take, refl, sym, ap, subst, ◌∙◌, inl, inr}
 use Rattle.std.specs.List.{filter, slice_get}
 use Rattle.std.specs.Option.{option_map, option_map_or, option_and_then}
 use Rattle.std.proofs.lemmas.Bool.Decides.{eqb_tells}
@@ -9,8 +9,6 @@ use Rattle.ddr_timing.specs.declared.config.Config.{Config}
 use Rattle.ddr_trace.specs.declared.command.Entry.{Entry}
 use Rattle.ddr_trace.specs.Commands.{entry, is_column}
 use Rattle.ddr_address_map.specs.declared.request.Echo.{Echo}
-use Rattle.ddr_address_map.specs.declared.place.Place.{Place}
-use Rattle.ddr_address_map.specs.Map.{place_of}
 use Rattle.ddr_address_map.specs.Requests.{Request, Completion}
 use Rattle.ddr_arbiter.specs.Commands.{column_at, column_of}
 use Rattle.ddr_channel.specs.Cycle.{service_time}
@@ -22,7 +20,7 @@ use Rattle.ddr_channel.proofs.ListLemmas.{at_map, mapped_at}
 use Rattle.ddr_channel.proofs.PromiseLemmas.{promise_kept}
 use Rattle.ddr_reorder.specs.declared.reply.Service.{Service}
 use Rattle.ddr_reorder.specs.Replies.{Answer, answer_of, filled_prefix, lent_bytes, nth_answer, nth_service}
-use Rattle.ddr_reorder.specs.State.{Outstanding, ReorderState}
+use Rattle.ddr_reorder.specs.State.{Outstanding}
 use Rattle.ddr_ports.specs.State.{service_of}
 use Rattle.ddr_world.specs.History.{Opening, History}
 use Rattle.ddr_world.specs.Promise.{trace_at}
@@ -30,7 +28,7 @@ use Rattle.ddr_world.specs.Served.{WasServed}
 use Rattle.ddr_world.specs.State.{PortSide, ChannelSide, State}
 use Rattle.ddr_world.specs.Step.{with_channel}
 use Rattle.ddr_world.proofs.CoreKeeps.{PortServed, CoreKeeps, requests_in, Grows, grows_by, grows_none, there_still}
-use Rattle.ddr_world.proofs.CoreReplies.{done_answer, some_of_map}
+use Rattle.ddr_world.proofs.CoreReplies.{done_answer}
 
 -- what is told stays, as the traces grow
 

@@ -1,5 +1,5 @@
 -- What the calls of a port or a channel make of its side.
-use Rattle.std.proofs.Common.{◌≡◌, ◌↔◌, IsTrue, ℕ, Bool, true, false, cond, eqb, List, Result, Ok, Err, length, drop, refl, sym, ap, subst, ◌∙◌, arith}
+use Rattle.std.proofs.Common.{◌≡◌, ◌↔◌, IsTrue, Bool, true, false, cond, eqb, List, Result, Ok, Err, length, drop, refl, sym, ap, subst, ◌∙◌, arith}
 use Rattle.std.specs.List.{All}
 use Rattle.std.specs.Result.{IsOk, IsErr, IsErrOf, IsErrAnd, IfErr, OnOk}
 use Rattle.std.specs.Global.{Vec}

@@ -1,5 +1,5 @@
 -- What a channel does with an item that it takes, beside the Ends that it noted.
-use Rattle.std.specs.Prelude.{◌≡◌, ℕ, ◌<◌, Bool, true, false, List, [], ◌∷◌, ◌++◌, length, slice_set}
+use Rattle.std.specs.Prelude.{◌≡◌, ◌<◌, Bool, true, false, List, [], ◌∷◌, ◌++◌, length, slice_set}
 use Rattle.ddr_address_map.specs.Requests.{Request}
 use Rattle.ddr_channel.specs.History.{Call, Admit}
 use Rattle.ddr_channel.specs.Kept.{Kept, state_of}

@@ -1,7 +1,7 @@
 -- What the channel does with the item that it pops.
-use Rattle.std.proofs.Common.{Bool, List, Some, length, sym, ap, subst, ◌∙◌}
+use Rattle.std.proofs.Common.{Bool, List, length, sym, ap, subst, ◌∙◌}
 use Rattle.std.proofs.lemmas.List.{with_items_is}
-use Rattle.ddr_world.specs.Items.{MayTake, Takes}
+use Rattle.ddr_world.specs.Items.{MayTake}
 use Rattle.ddr_world.specs.View.{IsServedItem}
 use Rattle.ddr_channel.proofs.ListLemmas.{All-at}
 use Rattle.ddr_world.proofs.SideLemmas.{may_take, taken_in, whole_popped}
