@@ -13,6 +13,7 @@ use std::test::Fail;
 
 mod chance;
 mod replies;
+mod told;
 
 /// A read of a byte at address 0, from port 0.
 const READ: Event<'static> = Event::Submit(0, Request::Read { addr: 0, len: 1 });
