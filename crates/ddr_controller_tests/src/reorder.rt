@@ -86,7 +86,10 @@ fn takes_back_the_newest_number_and_no_stray_line(rt: HostRuntime) -> Result<(),
     assert_eq!(rt; reorder.outstanding(), 0);
     let (number, line) = reorder.issue(write()).ok().ok_or("no number")?;
     assert_eq!(rt; number, CLOCK_STOP - 1);
-    let (line, stray) = reorder.fill(number, read(), FIRST, line).err().ok_or("filled")?;
+    let (line, stray) = reorder
+        .fill(number, read(), FIRST, line)
+        .err()
+        .ok_or("filled")?;
     assert_eq!(rt; stray, Stray);
     let (line, _) = reorder.fill(0, write(), FIRST, line).err().ok_or("filled")?;
     assert!(rt; reorder.fill(number, write(), SECOND, line).is_ok());
