@@ -1,5 +1,5 @@
 -- What a call finds in its slot, and what it leaves there.
-use Rattle.std.specs.Prelude.{◌≡◌, ◌≢◌, ◌+◌, ◌<◌, ◌≤◌, ◌-◌, ℕ, ℤ, List, ◌↔◌, ◌⊎◌, drop, length, min, slice_get, Bool, true, false, is_some, if◌then◌else◌, IfSome, Option, Some, None, Result}
+use Rattle.std.specs.Prelude.{◌≡◌, ◌+◌, ◌<◌, ◌-◌, ℕ, ℤ, List, drop, length, min, slice_get, IfSome, Option, Some, None, Result}
 use Rattle.std.specs.Option.{option_map}
 use Rattle.ddr_ports.specs.Asked.{Asked}
 use Rattle.ddr_trace.specs.declared.command.Entry.{Entry}

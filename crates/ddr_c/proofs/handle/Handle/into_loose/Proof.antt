@@ -1,6 +1,6 @@
 -- `into_loose` takes out the box's pointer with what it owns, whatever value that is.
-use Rattle.std.proofs.Common.{◌≡◌, List, [], ◌∷◌, ◌++◌, refl, sym, ap, subst, true}
-use Rattle.std.specs.Prelude.{Option, None, Some}
+use Rattle.std.proofs.Common.{◌≡◌, List, [], ◌∷◌, ◌++◌, refl, sym, subst, true}
+use Rattle.std.specs.Prelude.{Option, Some}
 use Rattle.std.specs.Option.{is_some}
 use mir.Val.{Val, vptr}
 use mir.Raw.{raw as bare}
@@ -8,28 +8,27 @@ use base.Logic.{SProp, ent, emp, never, fst∗, id⊢}
 use base.Fml.{ftrue}
 use prog.Wp.{WpFn}
 use types.Logic.{sem}
-use types.Kit.{‵, raw, ◌⊛◌, ◌$◌, ◌∵◌, !, qed, by, move, keep, drop, split, fsplit, fjoin, fpick, fpack, suffices, rewrite, use0, feq_l}
+use types.Kit.{‵, raw, ◌⊛◌, ◌$◌, ◌∵◌, !, qed, by, move, keep, drop, split, fsplit, fjoin, fpick, suffices, rewrite, use0, feq_l}
 use types.Run.{stop, fld, of_opd, no_more, and_then, returns, enter}
 use types.ByLocal.{alloc_all, pass_all, free_all, look_at, get, get_in, sets}
 use types.Part.{agg, sub, whole}
 use contract.Monad.{fact, fact_i}
 use contract.Running.{tables}
-use denote.Exit.{yes, no}
+use denote.Exit.{yes}
 use denote.RattleType.{RattleType, owns}
 use denote.Signature.{types_at, plain}
-use denote.Builtin.{RawPtr}
-use denote.RawPtr.{Ptr, block_ptr, null_ptr, ptr_val, in_a_block, rawptr_Lawful}
+use denote.RawPtr.{Ptr, block_ptr, null_ptr, ptr_val, in_a_block}
 use denote.Memory.{lone}
 use denote.Steps.{nothing, heard}
 use denote.Triple.Walked.{Stays, stay_dropped, Goes-dropped, walk_of}
-use Rattle.std.proofs.alloc.Calls.{handle_tells, Goes-blank}
+use Rattle.std.proofs.alloc.Calls.{handle_tells}
 use Rattle.std.specs.Box.Ownership.{box_owns}
 use Rattle.std.proofs.raw_atomic.Walks.{proved_at, leaves}
 use Rattle.ddr_c.specs.contracts.host.Core as kept
 use Rattle.std.specs.contracts.impls.GlobalAllocator.TheImpl.{ghosts}
 use Rattle.ddr_c.specs.Held.{held}
 use Rattle.ddr_c.specs.contracts.handle.Handle as handle
-use Rattle.ddr_c.proofs.Values.{both, Loose, loose_good, loose_out, loose_in, Z, LZ, heap_al, held_some}
+use Rattle.ddr_c.proofs.Values.{both, loose_good, loose_in, Z, LZ, heap_al, held_some}
 use Rattle.ddr_c.specs.contracts.handle.Handle.into_loose.{ended, clauses}
 use Rattle.ddr_c.specs.contracts.handle.Handle.into_loose.Key.{name as #self}
 use Rattle.ddr_c.proofs.handle.Handle.into_loose.Statement.{statement}

@@ -1,35 +1,27 @@
 -- `of` keeps what the box's pointer owns, and forgets its value.
-use Rattle.std.proofs.Common.{◌≡◌, List, [], ◌∷◌, ◌++◌, refl, sym, ap, subst, true}
-use Rattle.std.specs.Prelude.{Option, None, Some}
-use Rattle.std.specs.Option.{is_some}
+use Rattle.std.proofs.Common.{◌≡◌, List, [], ◌∷◌, ◌++◌, refl, sym, subst}
+use Rattle.std.specs.Prelude.{Option, Some}
 use mir.Val.{Val, vptr}
-use mir.Raw.{raw as bare}
-use base.Logic.{SProp, ent, emp, never, fst∗, id⊢}
+use base.Logic.{SProp, ent, emp, id⊢}
 use base.Fml.{ftrue}
 use prog.Wp.{WpFn}
-use types.Logic.{sem}
-use types.Kit.{‵, raw, ◌⊛◌, ◌$◌, ◌∵◌, !, qed, by, move, keep, drop, split, fsplit, fjoin, fpick, fpack, suffices, rewrite, use0, use1, feq_l}
+use types.Kit.{‵, raw, ◌⊛◌, ◌$◌, ◌∵◌, !, qed, by, move, keep, split, fsplit, fjoin, suffices, use0, use1}
 use types.Run.{stop, fld, of_opd, no_more, and_then, returns, enter}
 use types.ByLocal.{alloc_all, pass_all, free_all, look_at, get, get_in, sets}
 use types.Part.{agg, sub, whole}
 use contract.Monad.{fact, fact_i}
 use contract.Running.{tables}
-use denote.Exit.{yes, no}
+use denote.Exit.{yes}
 use denote.RattleType.{RattleType, owns}
 use denote.Signature.{types_at, plain}
-use denote.Builtin.{RawPtr}
-use denote.RawPtr.{Ptr, block_ptr, null_ptr, ptr_val, in_a_block, rawptr_Lawful}
-use denote.Memory.{lone}
-use denote.Steps.{nothing, heard}
+use denote.RawPtr.{block_ptr}
+use denote.Steps.{nothing}
 use denote.Triple.Walked.{Stays, stay_dropped, Goes-dropped, walk_of}
-use Rattle.std.proofs.alloc.Calls.{handle_tells, Goes-blank}
-use Rattle.std.specs.Box.Ownership.{box_owns}
 use Rattle.std.proofs.raw_atomic.Walks.{proved_at, leaves}
 use Rattle.ddr_c.specs.contracts.host.Core as kept
 use Rattle.std.specs.contracts.impls.GlobalAllocator.TheImpl.{ghosts}
-use Rattle.ddr_c.specs.Held.{held}
 use Rattle.ddr_c.specs.contracts.handle.Handle as handle
-use Rattle.ddr_c.proofs.Values.{both, Loose, loose_good, loose_out, loose_in, Z, LZ, heap_al, handle_good}
+use Rattle.ddr_c.proofs.Values.{both, Loose, loose_good, loose_out, loose_in, Z, LZ}
 use Rattle.ddr_c.specs.contracts.handle.Handle.of.{ended, clauses}
 use Rattle.ddr_c.specs.contracts.handle.Handle.of.Key.{name as #self}
 use Rattle.ddr_c.proofs.handle.Handle.of.Statement.{statement}
