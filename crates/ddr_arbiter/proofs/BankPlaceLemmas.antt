@@ -85,30 +85,3 @@ all_listed rank group bank waiting j place there =
     let within = slice_get_within (places_from rank group bank 0 waiting) j place there in
     let few = few_places rank group bank 0 waiting in
     omega (arith, within, few)
-
--- a later request of the list has a higher place
-rising : (rank group bank n j k a b : ℕ) (ws : List Waiting) → j ≤ k → slice_get (places_from rank group bank n ws) j ≡ Some a → slice_get (places_from rank group bank n ws) k ≡ Some b → a ≤ b
-rising rank group bank n j k a b [] below one two = absurd (cc)
-rising rank group bank n j k a b (w ∷ ws) below one two =
-    by_bank (is_in_bank rank group bank w) refl j k below one two (λ i m less first second. rising rank group bank (n + 1) i m a b ws less first second)
-  where
-    by_bank : (t : Bool) → is_in_bank rank group bank w ≡ t → (i m : ℕ) → i ≤ m → slice_get (places_from rank group bank n (w ∷ ws)) i ≡ Some a →
-        slice_get (places_from rank group bank n (w ∷ ws)) m ≡ Some b →
-        ((x y : ℕ) → x ≤ y → slice_get (places_from rank group bank (n + 1) ws) x ≡ Some a → slice_get (places_from rank group bank (n + 1) ws) y ≡ Some b → a ≤ b) → a ≤ b
-    by_bank true e zero m less first second rest =
-        let same : Some n ≡ Some a = rw e at first in
-        let it : n ≡ a = cc in
-        let at : IsPlace rank group bank n (w ∷ ws) b = place_from rank group bank n m b (w ∷ ws) second in
-        omega (arith, it, at.2)
-    by_bank true e (suc i) zero less first second rest = absurd (omega (arith, less))
-    by_bank true e (suc i) (suc m) less first second rest =
-        let one : slice_get (places_from rank group bank (n + 1) ws) i ≡ Some a = rw e at first in
-        let two : slice_get (places_from rank group bank (n + 1) ws) m ≡ Some b = rw e at second in
-        rest i m (omega (arith, less)) one two
-    by_bank false e i m less first second rest =
-        let one : slice_get (places_from rank group bank (n + 1) ws) i ≡ Some a = rw e at first in
-        let two : slice_get (places_from rank group bank (n + 1) ws) m ≡ Some b = rw e at second in
-        rest i m less one two
-
-pub in_order : (rank group bank j k a b : ℕ) (waiting : List Waiting) → j ≤ k → in_bank rank group bank j waiting ≡ Some a → in_bank rank group bank k waiting ≡ Some b → a ≤ b
-in_order rank group bank j k a b waiting below one two = rising rank group bank 0 j k a b waiting below one two

@@ -10,6 +10,3 @@ pub mod QuietLemmas
 pub mod RefreshLemmas
 pub mod RowLemmas
 pub mod StuckLemmas
-mod FirstLemmas
-mod BankFirstLemmas
-mod PutOffLemmas

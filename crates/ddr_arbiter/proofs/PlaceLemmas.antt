@@ -181,15 +181,3 @@ any_taken_here test (x ∷ xs) (suc i) passes = rw (any_taken_here test xs i pas
     or_last : (a : Bool) → (a || true) ≡ true
     or_last true = refl
     or_last false = refl
-
--- what is found passes
-pub find_passes : (test : ℕ → Bool) (xs : List ℕ) (y : ℕ) → find test xs ≡ Some y → test y ≡ true
-find_passes test [] y found = absurd (cc)
-find_passes test (x ∷ xs) y found = by_test (test x) refl (λ later. find_passes test xs y later)
-  where
-    by_test : (w : Bool) → test x ≡ w → (find test xs ≡ Some y → test y ≡ true) → test y ≡ true
-    by_test true is rest =
-        let here : Some x ≡ Some y = rw is at found in
-        let same : x ≡ y = cc in
-        sym (ap test same) ∙ is
-    by_test false is rest = let later : find test xs ≡ Some y = rw is at found in rest later

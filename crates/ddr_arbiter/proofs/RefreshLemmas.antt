@@ -58,28 +58,6 @@ refresh_waits b rank r other broken = elim (cases_Bool (some_bank_active b rank)
   ]
 ]
 
--- one that breaks none of the first three rules finds all banks idle
-
-order_first : (b : Bus) (rank : ℕ) → breaks_order b.start (b.now + 1) b.trace (entry b.now (refresh rank)) ≡ true → broken_now b (refresh rank) ≡ Some rule.Order
-unfolding lowest_rule
-order_first b rank broken = rw broken refl
-
-place_first : (b : Bus) (rank : ℕ) → breaks_order b.start (b.now + 1) b.trace (entry b.now (refresh rank)) ≡ false → ltb rank b.config.geometry.ranks ≡ false → broken_now b (refresh rank) ≡ Some rule.Place
-unfolding lowest_rule
-place_first b rank kept beyond = rw (kept, beyond) refl
-
-pub refresh_idle : (b : Bus) (rank : ℕ) (r : Rule) → r ≢ rule.Order → r ≢ rule.Place → r ≢ rule.State → broken_now b (refresh rank) ≡ Some r → some_bank_active b rank ≡ false
-refresh_idle b rank r no_order no_place no_state broken = elim (cases_Bool (some_bank_active b rank)) [
-  | inr idle ↦ idle
-  | inl active ↦ elim (cases_Bool (breaks_order b.start (b.now + 1) b.trace (entry b.now (refresh rank)))) [
-    | inl late ↦ (let same : Some r ≡ Some rule.Order = sym broken ∙ order_first b rank late in absurd (no_order (cc)))
-    | inr kept ↦ elim (cases_Bool (ltb rank b.config.geometry.ranks)) [
-      | inr beyond ↦ (let same : Some r ≡ Some rule.Place = sym broken ∙ place_first b rank kept beyond in absurd (no_place (cc)))
-      | inl inside ↦ (let same : Some r ≡ Some rule.State = sym broken ∙ active_breaks_state b rank kept inside active in absurd (no_state (cc)))
-    ]
-  ]
-]
-
 -- a debt
 
 -- what is forced with something pending is forced

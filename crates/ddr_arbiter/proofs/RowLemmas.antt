@@ -71,12 +71,12 @@ own_waits b waiting places p row is own =
     let stays : is_on_other_row b p ≡ false = on_row b p row is ∙ ap not own in
     (active_no_act b p row is, rw stays refl)
 
-pub one_precharge : (b : Bus) (p q : Place) → AreInOneBank p q → is_legal_now b (precharge_at q) ≡ is_legal_now b (precharge_at p)
+one_precharge : (b : Bus) (p q : Place) → AreInOneBank p q → is_legal_now b (precharge_at q) ≡ is_legal_now b (precharge_at p)
 one_precharge b p q same =
     ap (λ (r : ℕ). is_legal_now b (Pre r q.group q.bank)) (sym same.0) ∙ ap (λ (g : ℕ). is_legal_now b (Pre p.rank g q.bank)) (sym same.1)
     ∙ ap (λ (k : ℕ). is_legal_now b (Pre p.rank p.group k)) (sym same.2)
 
-pub one_wanted : (b : Bus) (waiting : List Waiting) (places : List ℕ) (p q : Place) → AreInOneBank p q → is_open_row_wanted b waiting places q ≡ is_open_row_wanted b waiting places p
+one_wanted : (b : Bus) (waiting : List Waiting) (places : List ℕ) (p q : Place) → AreInOneBank p q → is_open_row_wanted b waiting places q ≡ is_open_row_wanted b waiting places p
 one_wanted b waiting places p q same =
     ap (λ (r : ℕ). is_open_row_wanted b waiting places (record q { rank = r })) (sym same.0)
     ∙ ap (λ (g : ℕ). is_open_row_wanted b waiting places (record q { rank = p.rank; group = g })) (sym same.1)
@@ -119,7 +119,7 @@ any_none test (suc n) fails =
     ap (λ k. list_any test (range_with_len 0 k)) next ∙ any_none_more test n (any_none test n (λ k within. fails k (omega (arith, within)))) (fails n (omega arith))
 
 -- a request of the bank of the place
-pub of_bank : (p : Place) (w : Waiting) → is_in_bank p.rank p.group p.bank w ≡ true → AreInOneBank p w.request.place
+of_bank : (p : Place) (w : Waiting) → is_in_bank p.rank p.group p.bank w ≡ true → AreInOneBank p w.request.place
 of_bank p w is =
     let parts = and_parts (eqb w.request.place.rank p.rank) (eqb w.request.place.group p.group && eqb w.request.place.bank p.bank) is in
     let last = and_parts (eqb w.request.place.group p.group) (eqb w.request.place.bank p.bank) parts.1 in

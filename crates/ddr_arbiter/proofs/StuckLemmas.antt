@@ -24,7 +24,7 @@ use Rattle.ddr_arbiter.specs.Choice.{can_column, can_precharge, is_open_row_want
 use Rattle.ddr_arbiter.specs.Commands.{activate_at, column_at, column_of, precharge_at}
 use Rattle.ddr_arbiter.specs.Known.{AreInOneBank}
 use Rattle.ddr_arbiter.specs.Served.{is_free_of_marks, is_of_kind, places_of}
-use Rattle.ddr_arbiter.specs.Until.{IsBankStuckUntil, IsCandidate, IsStuck, IsStuckUntil}
+use Rattle.ddr_arbiter.specs.Until.{AreStuckUntil, IsBankStuckUntil, IsCandidate, IsStuck, IsStuckUntil, MarkTellsUntil}
 use Rattle.ddr_arbiter.proofs.ClosingLemmas.{closed_when_legal}
 use Rattle.ddr_arbiter.proofs.CommandLemmas.{closed_no_column, column_bank, first_row, legal_keeps}
 use Rattle.ddr_arbiter.proofs.KnownLemmas.{bank_refused, row_is}
@@ -130,9 +130,25 @@ wanted_stuck b c waiting room p row end ready wanted refused = λ place w candid
 pub sooner : (later end : ℕ) (b : Bus) (c : Served) (waiting : List Waiting) (room : Bool) (p : Place) → end ≤ later → IsStuckUntil later b c waiting room p → IsStuckUntil end b c waiting room p
 sooner later end b c waiting room p below stuck = λ count before. stuck count (omega (arith, below, before))
 
+pub bank_sooner : (later end : ℕ) (b : Bus) (c : Served) (waiting : List Waiting) (room : Bool) (p : Place) → end ≤ later → IsBankStuckUntil later b c waiting room p → IsBankStuckUntil end b c waiting room p
+bank_sooner later end b c waiting room p below stuck = λ place w candidate same. sooner later end b c waiting room w.request.place below (stuck place w candidate same)
+
+-- what holds of a bank, by another place of it
+pub bank_shared : (end : ℕ) (b : Bus) (c : Served) (waiting : List Waiting) (room : Bool) (p q : Place) → AreInOneBank p q → IsBankStuckUntil end b c waiting room p → IsBankStuckUntil end b c waiting room q
+bank_shared end b c waiting room p q same stuck = λ place w candidate there. stuck place w candidate (same.0 ∙ there.0, same.1 ∙ there.1, same.2 ∙ there.2)
+
+pub marks_sooner : (later end : ℕ) (b : Bus) (c : Served) (waiting : List Waiting) (room : Bool) (marks : List Bool) → end ≤ later → AreStuckUntil later b c waiting room marks →
+    AreStuckUntil end b c waiting room marks
+marks_sooner later end b c waiting room marks below told = λ p inside. by_mark p _ (told p inside)
+  where
+    by_mark : (p : Place) (o : Option Bool) → MarkTellsUntil later b c waiting room p o → MarkTellsUntil end b c waiting room p o
+    by_mark p (Some true) stuck = bank_sooner later end b c waiting room p below stuck
+    by_mark p (Some false) stuck = tt
+    by_mark p None stuck = tt
+
 -- a candidate for which nothing can be chosen
 
-pub same_kind : (k l : Kind) → is_same_kind k l ≡ true → k ≡ l
+same_kind : (k l : Kind) → is_same_kind k l ≡ true → k ≡ l
 same_kind Read Read same = refl
 same_kind Write Write same = refl
 same_kind Read Write same = absurd (false≢true same)

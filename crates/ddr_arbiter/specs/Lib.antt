@@ -8,4 +8,3 @@ pub mod Quiet
 pub mod Served
 pub mod Situation
 pub mod Until
-pub mod Firsts

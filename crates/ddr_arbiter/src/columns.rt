@@ -1,19 +1,33 @@
 //! The oldest candidate that may be read or written.
-ghost use Rattle.std.specs.Prelude.{◌≡◌, ◌≤◌, All, length};
+ghost use Rattle.std.specs.Prelude.{◌≡◌, ◌<◌, ◌≤◌, ◌&&◌, true, false, All, length};
+ghost use Rattle.ddr_legality.specs.Bus.{is_legal_now};
 ghost use Rattle.ddr_hazards.specs.PendingList.{IsInRank};
-ghost use Rattle.ddr_arbiter.specs.Choice.{can_column, column_place};
-ghost use Rattle.ddr_arbiter.specs.Firsts.{IsFirst};
-ghost use Rattle.ddr_arbiter.specs.Known.{AreInOneBank};
-ghost use Rattle.ddr_arbiter.specs.Served.{places_of};
+ghost use Rattle.ddr_arbiter.specs.Choice.{can_column, column_place, is_row_open};
+ghost use Rattle.ddr_arbiter.specs.Commands.{column_at};
+ghost use Rattle.ddr_arbiter.specs.Known.{AreKnown};
+ghost use Rattle.ddr_arbiter.specs.Served.{is_candidate, places_of};
 
-use crate::banks::{bank_place, lowest, without};
-use crate::candidates::Served;
+use crate::banks::{BANKS, bank_number};
+use crate::candidates::{Served, is_free, is_same_kind};
 use crate::commands::{column_at, may};
-use crate::firsts::{Ask, first_in_bank, older};
-use crate::rows::is_wanted;
 use ddr_address_map::place::Place;
+use ddr_address_map::request::Kind;
 use ddr_hazards::pending::Pending;
 use ddr_legality::legality::Legality;
+
+/// What is known of a bank while the candidates are gone through.
+#[derive(Clone, Copy)]
+pub(crate) enum Bank {
+    /// No request of it was met.
+    Unmet,
+    /// This row is open.
+    Open(u32),
+    /// None of its lines may be read or written now.
+    Refused,
+}
+
+/// What is known of each bank that a channel may have.
+type Banks = [Bank; BANKS];
 
 /// The oldest candidate whose column command is legal now, where there is room for it.
 pub(crate) fn column_place(
@@ -29,39 +43,82 @@ pub(crate) fn column_place(
     if !room {
         return None;
     }
-    let mut found = None;
-    let mut left = pending.busy_banks();
-    'banks: while left != 0 {
-        let number = lowest(left);
-        let here = bank_column(pending, legality, candidates, bank_place(number));
-        found = older(found, here);
-        left = without(left, number);
+    let mut banks = [Bank::Unmet; BANKS];
+    for place in 0..candidates.count {
+        if is_ready(pending, legality, candidates, &mut banks, place) {
+            return Some(place);
+        }
     }
-    found
+    None
 }
 
-/// The oldest candidate in the bank of the place whose column command is legal now. What one line of the open row may, each
-/// may that the geometry has: so the first is asked for.
-fn bank_column(
+/// Whether the request at the place is a candidate whose column command is legal now.
+fn is_ready(
     pending: &Pending,
     legality: &Legality,
     candidates: &Served,
-    at: Place,
-) -> Option<usize>
+    banks: &mut Banks,
+    place: usize,
+) -> bool
     requires inside { All (λ w. IsInRank w.request.place) pending.now.waiting }
-    requires count { candidates.now.count ≤ length pending.now.waiting }
-    requires at { IsInRank at }
-    ensures { IsFirst candidates.now pending.now.waiting (can_column legality.entry.now.bus pending.now.waiting) (AreInOneBank at) result }
+    requires place { place < length pending.now.waiting }
+    requires known { AreKnown legality.now.bus candidates.now.kind banks.old }
+    ensures ready { result ≡ (is_candidate candidates.now pending.now.waiting place && can_column legality.entry.now.bus pending.now.waiting place) }
+    ensures known { AreKnown legality.entry.now.bus candidates.now.kind banks.new }
 {
-    let Some(row) = legality.open_row(at.rank, at.group, at.bank) else {
-        return None;
+    let Some((request, _)) = pending.get(place) else {
+        return false;
     };
-    if !is_wanted(pending, candidates, at, row) {
-        return None;
+    let kind = candidates.kind;
+    let at = request.place;
+    if !is_same_kind(kind, request.echo.kind) {
+        return false;
     }
-    let first = Place { row, line: 0, ..at };
-    if !may(legality, column_at(false, candidates.kind, first)) {
-        return None;
+    if !is_hit(legality, kind, banks, at) {
+        return false;
     }
-    first_in_bank(pending, legality, candidates, at, Ask::Column(row))
+    is_free(&candidates.forced, pending, place) && can_hit(legality, kind, banks, at)
+}
+
+/// Whether the place's row is open in its bank, and a line of it may be read or written, as far as is known.
+fn is_hit(legality: &Legality, kind: Kind, banks: &mut Banks, at: Place) -> bool
+    requires inside { IsInRank at }
+    requires known { AreKnown legality.now.bus kind banks.old }
+    ensures hit { result ≡ true → is_row_open legality.entry.now.bus at ≡ true }
+    ensures other { result ≡ false → is_legal_now legality.entry.now.bus (column_at false kind at) ≡ false }
+    ensures known { AreKnown legality.entry.now.bus kind banks.new }
+{
+    let number = bank_number(at);
+    match banks[number] {
+        Bank::Unmet => {
+            match legality.open_row(at.rank, at.group, at.bank) {
+                Some(row) => {
+                    banks[number] = Bank::Open(row);
+                    row == at.row
+                }
+                None => {
+                    banks[number] = Bank::Refused;
+                    false
+                }
+            }
+        }
+        Bank::Open(row) => row == at.row,
+        Bank::Refused => false,
+    }
+}
+
+/// Whether the line of the place, whose row is open, may be read or written now. What one line of an open row may,
+/// each may that the geometry has: so the first is asked for, once for the bank where it may not.
+fn can_hit(legality: &Legality, kind: Kind, banks: &mut Banks, at: Place) -> bool
+    requires inside { IsInRank at }
+    requires opened { is_row_open legality.now.bus at ≡ true }
+    requires known { AreKnown legality.now.bus kind banks.old }
+    ensures can { result ≡ is_legal_now legality.entry.now.bus (column_at false kind at) }
+    ensures known { AreKnown legality.entry.now.bus kind banks.new }
+{
+    if may(legality, column_at(false, kind, Place { line: 0, ..at })) {
+        return may(legality, column_at(false, kind, at));
+    }
+    banks[bank_number(at)] = Bank::Refused;
+    false
 }

@@ -7,8 +7,8 @@
 //! one, and `rows` its ACT or PRE. `quiet` is for how long nothing is chosen. `commands` are the commands that serve a
 //! request, and `banks` numbers the banks.
 //!
-//! No list of candidates is made: each of the last two steps goes once through the banks that have pending requests, so that
-//! what holds of all requests of a bank is asked for once, and takes the oldest of what `firsts` finds in each.
+//! No list of candidates is made: each of the last two steps goes once through the pending requests, the oldest first, and
+//! keeps a table of the banks, so that what holds of all requests of a bank is asked for once.
 #![tactic(auto)]
 
 mod banks;
@@ -16,7 +16,6 @@ mod candidates;
 pub mod choice;
 mod columns;
 pub mod commands;
-mod firsts;
 pub mod policy;
 pub mod quiet;
 mod refresh;

@@ -2,8 +2,7 @@
 //!
 //! Where no command is issued, what it looks at changes by itself in four ways: a refresh falls due, the oldest request
 //! reaches the cap, an auto-precharge closes a bank, and a distance to an earlier command is kept. The first two end what is
-//! known of the candidates. Of the others the legality tells the first cycle of each command, once for each bank. A rank that
-//! has to be refreshed and whose banks are idle waits for its REF.
+//! known of the candidates. Of the others the legality tells the first cycle of each command, once for each bank.
 ghost use Rattle.std.specs.Prelude.{◌≡◌, ℕ, ◌<◌, ◌≤◌, None, Bool, List, All, length};
 ghost use Rattle.ddr_timing.specs.declared.units.TheConstants.{CLOCK_STOP};
 ghost use Rattle.ddr_trace.specs.Banks.{bank_behind, ready_row};
@@ -14,24 +13,24 @@ ghost use Rattle.ddr_arbiter.specs.declared.candidates.Served.{Served};
 ghost use Rattle.ddr_arbiter.specs.Commands as commands;
 ghost use Rattle.ddr_arbiter.specs.Quiet.{IsQuietUntil};
 ghost use Rattle.ddr_arbiter.specs.Situation.{situation};
-ghost use Rattle.ddr_arbiter.specs.Until.{ArePutOffUntil, AreSteadyUntil, IsPutOffUntil, IsAgeSteadyUntil, IsBankStuckUntil, IsCandidate, IsStuckUntil};
+ghost use Rattle.ddr_arbiter.specs.Until.{AreSteadyUntil, AreStuckUntil, IsAgeSteadyUntil, IsBankStuckUntil, IsCandidate, IsStuckUntil};
 
-use crate::banks::{bank_place, lowest, without};
-use crate::candidates::{Served, candidates};
+use crate::banks::{BANKS, bank_number};
+use crate::candidates::{Served, candidates, is_free, is_same_kind};
 use crate::commands::{activate_at, column_at, precharge_at};
-use crate::firsts::{Ask, first_in_bank};
 use crate::policy::Policy;
-use crate::refresh::{Forced, forced_ranks};
+use crate::refresh::forced_ranks;
 use crate::rows::is_wanted;
 use ddr_address_map::place::Place;
 use ddr_hazards::pending::Pending;
 use ddr_legality::legality::Legality;
 use ddr_refresh::debt::Debt;
-use ddr_trace::command::Command;
-use ddr_trace::rule::Rule;
 
 /// A cycle that no clock reaches.
 const NEVER: u64 = u64::MAX;
+
+/// Of each bank that a channel may have, whether it was asked until when nothing can be chosen for its candidates.
+type Asked = [bool; BANKS];
 
 /// A cycle before which nothing is chosen, in each cycle from the next one of the command bus on, as long as nothing is
 /// admitted, served or completed and the drain mode stays. It is no promise that something is chosen then. The parameters
@@ -50,44 +49,16 @@ pub fn quiet_until(
 {
     let now = legality.now();
     let forced = forced_ranks(pending, debts);
-    let steady = steady_until(now, debts).min(forced_until(legality, &forced));
+    if forced[0] || forced[1] {
+        return now;
+    }
+    let steady = steady_until(now, debts);
     if pending.len() == 0 {
         return steady;
     }
     let end = steady.min(age_steady_until(pending, now, policy.cap));
     let candidates = candidates(pending, now, policy.cap, drain, &forced);
     stuck_until(pending, legality, &candidates, room, end)
-}
-
-/// A cycle before which neither a REF nor a PREA is chosen for a rank that is forced.
-fn forced_until(legality: &Legality, forced: &Forced) -> u64
-    ensures { ArePutOffUntil result legality.entry.now.bus forced.now }
-{
-    let first = if forced[0] {
-        refresh_until(legality, 0)
-    } else {
-        NEVER
-    };
-    let second = if forced[1] {
-        refresh_until(legality, 1)
-    } else {
-        NEVER
-    };
-    first.min(second)
-}
-
-/// A cycle before which neither a REF nor a PREA is chosen for the rank. Where all its banks are idle they stay so, and it
-/// waits for a REF; else nothing is known of it.
-fn refresh_until(legality: &Legality, rank: u32) -> u64
-    ensures { IsPutOffUntil result legality.entry.now.bus rank }
-{
-    match legality.may(Command::Refresh { rank }) {
-        Ok(()) => legality.now(),
-        Err(rule) => match rule {
-            Rule::Order | Rule::Place | Rule::State => legality.now(),
-            _ => legality.allowed_at(Command::Refresh { rank }),
-        },
-    }
 }
 
 /// A cycle before which no further refresh falls due.
@@ -132,37 +103,54 @@ fn stuck_until(
         → IsStuckUntil result legality.entry.now.bus candidates.now pending.now.waiting room w.request.place }
 {
     let now = legality.now();
+    let mut asked = [false; BANKS];
     let mut until = end;
-    let mut left = pending.busy_banks();
-    'banks: while left != 0 {
+    for place in 0..candidates.count {
         if until <= now {
             return until;
         }
-        let number = lowest(left);
-        let here = candidates_until(pending, legality, candidates, room, bank_place(number));
-        until = until.min(here);
-        left = without(left, number);
+        until = place_until(
+            pending, legality, candidates, room, &mut asked, until, place,
+        );
     }
     until
 }
 
-/// A cycle before which nothing can be chosen for any candidate of the place's bank, which may have none.
-fn candidates_until(
+/// A cycle, no later than `until`, before which nothing can be chosen for the request at the place, if it is a candidate.
+fn place_until(
     pending: &Pending,
     legality: &Legality,
     candidates: &Served,
     room: bool,
-    at: Place,
+    asked: &mut Asked,
+    until: u64,
+    place: usize,
 ) -> u64
     requires inside { All (λ w. IsInRank w.request.place) pending.now.waiting }
     requires count { candidates.now.count ≤ length pending.now.waiting }
-    requires at { IsInRank at }
-    ensures { IsBankStuckUntil result legality.entry.now.bus candidates.now pending.now.waiting room at }
+    requires place { place < candidates.now.count }
+    requires asked { AreStuckUntil until legality.now.bus candidates.now pending.now.waiting room asked.old }
+    ensures until { result ≤ until }
+    ensures stuck { (w : Waiting) → IsCandidate candidates.now pending.now.waiting place w
+        → IsStuckUntil result legality.entry.now.bus candidates.now pending.now.waiting room w.request.place }
+    ensures asked { AreStuckUntil result legality.entry.now.bus candidates.now pending.now.waiting room asked.new }
 {
-    match first_in_bank(pending, legality, candidates, at, Ask::Any) {
-        Some(_) => bank_until(pending, legality, candidates, room, at),
-        None => NEVER,
+    let Some((request, _)) = pending.get(place) else {
+        return until;
+    };
+    let at = request.place;
+    if !is_same_kind(candidates.kind, request.echo.kind) {
+        return until;
     }
+    let number = bank_number(at);
+    if asked[number] {
+        return until;
+    }
+    if !is_free(&candidates.forced, pending, place) {
+        return until;
+    }
+    asked[number] = true;
+    until.min(bank_until(pending, legality, candidates, room, at))
 }
 
 /// A cycle before which nothing can be chosen for any candidate of the place's bank. A row for reads and writes stays open:

@@ -1,21 +1,36 @@
 //! The ACT or PRE of the oldest candidate that needs one.
-ghost use Rattle.std.specs.Prelude.{◌≡◌, ◌≤◌, find, None, Some, true, List, ℕ, All, length, slice_get};
+ghost use Rattle.std.specs.Prelude.{◌≡◌, ℕ, ◌<◌, ◌≤◌, if◌then◌else◌, List, All, length, None, Some};
+ghost use Rattle.ddr_timing.specs.declared.units.TheConstants.{GROUP_BANKS};
 ghost use Rattle.ddr_legality.specs.Bus.{Bus};
+ghost use Rattle.ddr_hazards.specs.declared.pending.TheConstants.{RANKS, RANK_GROUPS};
+ghost use Rattle.ddr_hazards.specs.declared.waiting.Waiting.{Waiting};
 ghost use Rattle.ddr_hazards.specs.PendingList.{IsInRank};
-ghost use Rattle.ddr_hazards.specs.Banks.{in_bank, row_in_bank};
-ghost use Rattle.ddr_arbiter.specs.Choice.{is_open_row_wanted, is_something, open_row_at, row_choice, row_choice_at};
-ghost use Rattle.ddr_arbiter.specs.Firsts.{IsFirst};
-ghost use Rattle.ddr_arbiter.specs.Known.{AreInOneBank};
-ghost use Rattle.ddr_arbiter.specs.Served.{places_of, wants, wants_in_bank};
+ghost use Rattle.ddr_arbiter.specs.declared.choice.Choice.TheVariants as choice;
+ghost use Rattle.ddr_arbiter.specs.Choice.{is_open_row_wanted, open_row_at, row_choice, row_choice_at};
+ghost use Rattle.ddr_arbiter.specs.Known.{AreDone, StepTells};
+ghost use Rattle.ddr_arbiter.specs.Served.{is_candidate, places_of, wants};
 
-use crate::banks::{bank_place, lowest, without};
-use crate::candidates::{Served, is_candidate};
-use crate::choice::Choice;
+use crate::banks::{BANKS, bank_number};
+use crate::candidates::{Served, is_candidate, is_free, is_same_kind};
+use crate::choice::{Choice, is_something};
 use crate::commands::{activate_at, may, precharge_at};
-use crate::firsts::{Ask, first_in_bank, older};
 use ddr_address_map::place::Place;
 use ddr_hazards::pending::Pending;
 use ddr_legality::legality::Legality;
+
+/// Of each bank that a channel may have, whether no candidate of it can have an ACT or a PRE now.
+type Done = [bool; BANKS];
+
+/// What can be done now for a request whose bank is idle or has a row open.
+#[derive(Clone, Copy)]
+pub(crate) enum Step {
+    Activate,
+    Precharge,
+    /// Nothing for this one.
+    Wait,
+    /// Nothing for any request of the bank.
+    Done,
+}
 
 /// The ACT or PRE of the oldest candidate that needs one that may be issued now.
 pub(crate) fn row_choice(pending: &Pending, legality: &Legality, candidates: &Served) -> Choice
@@ -23,89 +38,93 @@ pub(crate) fn row_choice(pending: &Pending, legality: &Legality, candidates: &Se
     requires count { candidates.now.count ≤ length pending.now.waiting }
     ensures { result ≡ row_choice legality.entry.now.bus pending.now.waiting (places_of candidates.now pending.now.waiting) }
 {
-    match row_place(pending, legality, candidates) {
-        Some(place) => step_at(pending, legality, place),
-        None => Choice::Nothing,
+    let mut done = [false; BANKS];
+    for place in 0..candidates.count {
+        let choice = row_choice_at(pending, legality, candidates, &mut done, place);
+        if is_something(choice) {
+            return choice;
+        }
     }
+    Choice::Nothing
 }
 
-/// The oldest candidate that needs an ACT or PRE that may be issued now.
-fn row_place(pending: &Pending, legality: &Legality, candidates: &Served) -> Option<usize>
+/// The ACT or PRE that the request at the place needs, if it is a candidate and that may be issued now.
+fn row_choice_at(
+    pending: &Pending,
+    legality: &Legality,
+    candidates: &Served,
+    done: &mut Done,
+    place: usize,
+) -> Choice
     requires inside { All (λ w. IsInRank w.request.place) pending.now.waiting }
     requires count { candidates.now.count ≤ length pending.now.waiting }
-    ensures { let places = places_of candidates.now pending.now.waiting in
-        result ≡ find (λ place. is_something (row_choice_at legality.entry.now.bus pending.now.waiting places place)) places }
-{
-    let mut found = None;
-    let mut left = pending.busy_banks();
-    'banks: while left != 0 {
-        let number = lowest(left);
-        let here = bank_step(pending, legality, candidates, bank_place(number));
-        found = older(found, here);
-        left = without(left, number);
-    }
-    found
-}
-
-/// The ACT or PRE of the request at the place, where one may be issued for it.
-fn step_at(pending: &Pending, legality: &Legality, place: usize) -> Choice
-    ensures { (places : List ℕ) → is_something (row_choice_at legality.entry.now.bus pending.now.waiting places place) ≡ true
-        → result ≡ row_choice_at legality.entry.now.bus pending.now.waiting places place }
+    requires place { place < length pending.now.waiting }
+    requires done { AreDone legality.now.bus pending.now.waiting (places_of candidates.now pending.now.waiting) done.old }
+    ensures choice { result ≡ (if is_candidate candidates.now pending.now.waiting place
+        then row_choice_at legality.entry.now.bus pending.now.waiting (places_of candidates.now pending.now.waiting) place
+        else choice.Nothing) }
+    ensures done { AreDone legality.entry.now.bus pending.now.waiting (places_of candidates.now pending.now.waiting) done.new }
 {
     let Some((request, _)) = pending.get(place) else {
         return Choice::Nothing;
     };
     let at = request.place;
-    match legality.open_row(at.rank, at.group, at.bank) {
-        Some(_) => Choice::Pre { place },
-        None => Choice::Act { place },
+    if !is_same_kind(candidates.kind, request.echo.kind) {
+        return Choice::Nothing;
+    }
+    let number = bank_number(at);
+    if done[number] {
+        return Choice::Nothing;
+    }
+    if !is_free(&candidates.forced, pending, place) {
+        return Choice::Nothing;
+    }
+    match step_at(pending, legality, candidates, at) {
+        Step::Activate => Choice::Act { place },
+        Step::Precharge => Choice::Pre { place },
+        Step::Wait => Choice::Nothing,
+        Step::Done => {
+            done[number] = true;
+            Choice::Nothing
+        }
     }
 }
 
-/// The oldest candidate in the bank of the place that needs an ACT or PRE that may be issued now.
-fn bank_step(
-    pending: &Pending,
-    legality: &Legality,
-    candidates: &Served,
-    at: Place,
-) -> Option<usize>
+/// What can be done now for a request to the place.
+fn step_at(pending: &Pending, legality: &Legality, candidates: &Served, at: Place) -> Step
     requires inside { All (λ w. IsInRank w.request.place) pending.now.waiting }
     requires count { candidates.now.count ≤ length pending.now.waiting }
     requires at { IsInRank at }
-    ensures { IsFirst candidates.now pending.now.waiting
-        (λ place. is_something (row_choice_at legality.entry.now.bus pending.now.waiting (places_of candidates.now pending.now.waiting) place)) (AreInOneBank at) result }
+    ensures { StepTells legality.entry.now.bus pending.now.waiting (places_of candidates.now pending.now.waiting) at result }
 {
     let Some(row) = legality.open_row(at.rank, at.group, at.bank) else {
-        return idle_step(pending, legality, candidates, at);
+        return activate_step(legality, at);
     };
+    if row == at.row {
+        return Step::Wait;
+    }
     if !may(legality, precharge_at(at)) {
-        return None;
+        return Step::Done;
     }
     if is_wanted(pending, candidates, at, row) {
-        return None;
+        return Step::Done;
     }
-    first_in_bank(pending, legality, candidates, at, Ask::Any)
+    Step::Precharge
 }
 
-/// The oldest candidate in the bank of the place, which is idle, whose ACT may be issued now. What one row may, each may
-/// that the geometry has: so the first is asked for, once for the bank where it may not.
-fn idle_step(
-    pending: &Pending,
-    legality: &Legality,
-    candidates: &Served,
-    at: Place,
-) -> Option<usize>
-    requires inside { All (λ w. IsInRank w.request.place) pending.now.waiting }
-    requires count { candidates.now.count ≤ length pending.now.waiting }
-    requires at { IsInRank at }
-    requires idle { open_row_at legality.now.bus at ≡ None }
-    ensures { IsFirst candidates.now pending.now.waiting
-        (λ place. is_something (row_choice_at legality.entry.now.bus pending.now.waiting (places_of candidates.now pending.now.waiting) place)) (AreInOneBank at) result }
+/// Whether the place's bank, which is idle, may be activated now. What one row may, each may that the geometry has: so
+/// the first is asked for, once for the bank where it may not.
+fn activate_step(legality: &Legality, at: Place) -> Step
+    requires { open_row_at legality.now.bus at ≡ None }
+    ensures { (waiting : List Waiting) (places : List ℕ) → StepTells legality.entry.now.bus waiting places at result }
 {
     if !may(legality, activate_at(Place { row: 0, ..at })) {
-        return None;
+        Step::Done
+    } else if may(legality, activate_at(at)) {
+        Step::Activate
+    } else {
+        Step::Wait
     }
-    first_in_bank(pending, legality, candidates, at, Ask::Activate)
 }
 
 /// Whether a candidate wants this row, which is open in the bank of the place.
@@ -116,38 +135,14 @@ pub(crate) fn is_wanted(pending: &Pending, candidates: &Served, at: Place, row: 
     ensures { (b : Bus) → open_row_at b at ≡ Some row → result ≡ is_open_row_wanted b pending.now.waiting (places_of candidates.now pending.now.waiting) at }
 {
     for k in 0..pending.len() {
-        let Some(its) = pending.row_in_bank(at.rank, at.group, at.bank, k) else {
+        let Some(place) = pending.in_bank(at.rank, at.group, at.bank, k) else {
             return false;
         };
-        if wants_in_bank(pending, candidates, at, row, k, its) {
+        if wants(pending, candidates, row, place) {
             return true;
         }
     }
     false
-}
-
-/// Whether the `k`-th oldest request in the bank of the place, which is to the row `its`, is a candidate that wants this row.
-fn wants_in_bank(
-    pending: &Pending,
-    candidates: &Served,
-    at: Place,
-    row: u32,
-    k: usize,
-    its: u32,
-) -> bool
-    requires inside { All (λ w. IsInRank w.request.place) pending.now.waiting }
-    requires count { candidates.now.count ≤ length pending.now.waiting }
-    requires at { IsInRank at }
-    requires its { row_in_bank at.rank at.group at.bank k pending.now.waiting ≡ Some its }
-    ensures { result ≡ wants_in_bank candidates.now row pending.now.waiting (in_bank at.rank at.group at.bank k pending.now.waiting) }
-{
-    if its != row {
-        return false;
-    }
-    match pending.in_bank(at.rank, at.group, at.bank, k) {
-        Some(place) => wants(pending, candidates, row, place),
-        None => false,
-    }
 }
 
 /// Whether the request at the place is a candidate that wants the row.

@@ -13,7 +13,6 @@ use ddr_address_map::request::{Echo, Kind, Req};
 use ddr_arbiter::choice::{Choice, choose};
 use ddr_arbiter::commands::command_of;
 use ddr_arbiter::policy::Policy;
-use ddr_arbiter::quiet::quiet_until;
 use ddr_hazards::pending::Pending;
 use ddr_legality::legality::Legality;
 use ddr_refresh::debt::Debt;
@@ -101,36 +100,14 @@ impl Scene {
         }
     }
 
-    /// Goes on to a cycle, with what rank 0 owes then.
-    fn debt(&mut self, cycle: u32) -> Debt {
+    /// The choice of a cycle.
+    fn choice(&mut self, cycle: u32) -> Result<Choice, Fail> {
         self.wait_until(u64::from(cycle));
         let mut debt = Debt::open(&self.config);
         tick_times(&mut debt, u64::from(cycle) + 1);
         if self.refreshed && debt.debt() >= 1 {
             debt.issued();
         }
-        debt
-    }
-
-    /// The cycle up to which nothing is known to be chosen, from this one on.
-    fn quiet(&mut self, cycle: u32) -> Result<u64, Fail> {
-        let debt = self.debt(cycle);
-        if !are_admitted(&self.pending, self.legality.now()) {
-            return Err("admitted in a later cycle".into());
-        }
-        Ok(quiet_until(
-            &self.pending,
-            &self.legality,
-            &[debt],
-            &self.policy,
-            self.drain,
-            self.room,
-        ))
-    }
-
-    /// The choice of a cycle.
-    fn choice(&mut self, cycle: u32) -> Result<Choice, Fail> {
-        let debt = self.debt(cycle);
         if !are_admitted(&self.pending, self.legality.now()) {
             return Err("admitted in a later cycle".into());
         }
@@ -474,25 +451,6 @@ const PUT_OFF: &[Step] = &[
 #[test]
 fn refresh_is_put_off_twice_and_then_forced(rt: HostRuntime) -> Result<(), Fail> {
     play(&rt, rt.alloc(), PUT_OFF)
-}
-
-const CLOSED_FOR_REFRESH: &[Step] = &[
-    Act(0, 0, 0, 0),
-    // the first falls due in cycle 200
-    Chooses(199, Choice::Nothing),
-    Chooses(200, Choice::PreAll { rank: 0 }),
-    PreAll(200),
-];
-
-/// RP holds the REF up to cycle 204; of a bank that is open the present cycle is told.
-#[test]
-fn forced_rank_sleeps_up_to_its_refresh(rt: HostRuntime) -> Result<(), Fail> {
-    let mut scene = Scene::open(rt.alloc())?;
-    scene.take_all(&rt, rt.alloc(), &CLOSED_FOR_REFRESH[..3])?;
-    assert_eq!(rt; scene.quiet(200)?, 200);
-    scene.take_all(&rt, rt.alloc(), &CLOSED_FOR_REFRESH[3..])?;
-    assert_eq!(rt; scene.quiet(201)?, 204);
-    Ok(())
 }
 
 const READ_FIRST: &[Step] = &[

@@ -5,4 +5,3 @@ mod Lines
 mod Order
 mod SlotLemmas
 mod Soundness
-mod BusyLemmas

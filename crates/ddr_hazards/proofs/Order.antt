@@ -1,11 +1,11 @@
 -- The order of the slots after a request is put into one, or taken out.
-use Rattle.std.proofs.Common.{◌≡◌, ◌≢◌, ℕ, zero, suc, ◌+◌, ◌-◌, ◌<◌, ◌≤◌, cond, eqb, ltb, List, [], ◌∷◌, ◌++◌, length, map, take, drop, get_or, set, Option, Some, None, refl, sym, ap, ◌∙◌, inl, inr, arith, add-one, get_or-set_other, get_or-set_same}
+use Rattle.std.proofs.Common.{◌≡◌, ◌≢◌, ℕ, zero, suc, ◌+◌, ◌-◌, ◌<◌, ◌≤◌, Bool, true, false, cond, eqb, ltb, List, [], ◌∷◌, ◌++◌, length, map, take, drop, get_or, set, Option, Some, None, refl, sym, ap, ◌∙◌, inl, inr, arith, add-one, get_or-set_other, get_or-set_same}
 use Rattle.std.specs.List.{filter_map, slice_get, remove}
-use Rattle.std.specs.Option.{option_flatten}
+use Rattle.std.specs.Option.{option_flatten, option_map}
 use Rattle.std.proofs.lemmas.Bool.{cases_Bool, cond-true, cond-false, eqb-true, eq-eqb, ltb-false, ltb-true, lt-ltb, le-ltb}
-use Rattle.std.proofs.lemmas.List.{map-append, take_more, drop_more, take-append-le, append_assoc, get_or_append_left, get_or_push, length-set, length-map, length_push}
+use Rattle.std.proofs.lemmas.List.{map-append, take_more, drop_more, take-append-le, append_assoc, get_or_append_left, get_or_push, length-set, length-map, length-append, length_push, length-take-le}
 use Rattle.std.proofs.lemmas.List.Edits.{length-remove, get_or-remove_below, get_or-remove_above}
-use Rattle.std.proofs.lemmas.Option.{get_or_from_slice_get}
+use Rattle.std.proofs.lemmas.Option.{get_or_from_slice_get, slice_get_within}
 use Rattle.ddr_hazards.specs.declared.slots.Slots.{Slots}
 use Rattle.ddr_hazards.specs.declared.slots.TheConstants.{CAPACITY}
 use Rattle.ddr_hazards.specs.declared.waiting.Waiting.{Waiting}

@@ -1,8 +1,8 @@
 -- What the fields keep, and what admission and removal leave of it.
-use Rattle.std.proofs.Common.{◌≡◌, ◌≢◌, ℕ, suc, ◌+◌, ◌-◌, ◌<◌, ◌≤◌, Bool, true, false, cond, eqb, ltb, List, [], ◌∷◌, ◌++◌, length, get_or, set, All, Option, Some, None, refl, sym, ap, ◌∙◌, inl, inr, arith, take, drop, get_or-set_other, get_or-set_same}
+use Rattle.std.proofs.Common.{◌≡◌, ◌≢◌, ℕ, suc, ◌+◌, ◌*◌, ◌-◌, ◌<◌, ◌≤◌, Bool, true, false, cond, eqb, ltb, List, [], ◌∷◌, ◌++◌, length, map, get_or, set, All, Option, Some, None, refl, sym, ap, ◌∙◌, inl, inr, arith, take, drop, get_or-set_other, get_or-set_same}
 use Rattle.std.specs.List.{filter, count_by, position_or_len, remove, slice_get}
-use Rattle.std.specs.Option.{option_and_then, option_map, option_map_or}
-use Rattle.std.proofs.lemmas.Bool.{cases_Bool, cond-true, cond-false, leb-false, ltb-true, ltb-false, eqb-true, eq-eqb, false≢true}
+use Rattle.std.specs.Option.{option_map_or}
+use Rattle.std.proofs.lemmas.Bool.{cases_Bool, cond-true, cond-false, leb-false, ltb-true, ltb-false, eqb-true, eq-eqb, and_parts, false≢true}
 use Rattle.std.proofs.lemmas.List.{length-set, length-append, append-nil}
 use Rattle.std.proofs.lemmas.List.Elements.{All-append, All-take, All-drop, All-push, All-filter, filter-append}
 use Rattle.std.proofs.lemmas.List.Sums.{length-filter, count_by-le-length}
@@ -14,11 +14,11 @@ use Rattle.ddr_address_map.specs.declared.request.Kind.TheVariants.{Read, Write}
 use Rattle.ddr_hazards.specs.declared.banks.TheConstants.{BANKS}
 use Rattle.ddr_hazards.specs.declared.counts.Counts.{Counts}
 use Rattle.ddr_hazards.specs.declared.pending.Pending.TheInside.{Inside}
-use Rattle.ddr_hazards.specs.declared.pending.TheConstants.{RANK_GROUPS}
+use Rattle.ddr_hazards.specs.declared.pending.TheConstants.{KIND_CAPACITY, RANK_GROUPS}
 use Rattle.ddr_hazards.specs.declared.slots.TheConstants.{CAPACITY}
 use Rattle.ddr_hazards.specs.declared.waiting.Waiting.{Waiting}
 use Rattle.ddr_timing.specs.declared.units.TheConstants.{GROUP_BANKS}
-use Rattle.ddr_hazards.specs.Banks.{bank_number, bank_slots, in_bank, number, row_in_bank, with_slots}
+use Rattle.ddr_hazards.specs.Banks.{bank_number, bank_slots, in_bank, number, with_slots}
 use Rattle.ddr_hazards.specs.Counts.{count_of, one_of}
 use Rattle.ddr_hazards.specs.Hazards.{hazard_count, is_same_line}
 use Rattle.ddr_hazards.specs.PendingList.{PendingList, pending_count, is_full, IsInRank, IsWithinLimits}
@@ -29,7 +29,7 @@ use Rattle.ddr_hazards.proofs.CountLemmas.{one_of-same, both_kinds, pending_coun
 use Rattle.ddr_hazards.proofs.HazardLemmas.{hazard_count-front, hazard_count-last, hazard_count-remove_below, hazard_count-remove_from, get_or-count_less, slice_get-front, slice_get-last}
 use Rattle.ddr_hazards.proofs.Lines.{same_line, same_line-comm, SameLine}
 use Rattle.ddr_hazards.proofs.Order.{taken_apart, stands}
-use Rattle.ddr_hazards.proofs.SlotLemmas.{Holds, held_at, filter-same, filter-remove_out, without, slice_get-remove_below, slice_get-remove_from, count_behind, count_before, count-filter, count-within, count-held, length-held, length-holds}
+use Rattle.ddr_hazards.proofs.SlotLemmas.{Holds, held_at, none_held, filter-same, filter-remove_out, without, Without, slice_get-remove_below, slice_get-remove_from, count_behind, count_before, count-filter, count-within, count-held, length-held, length-holds}
 
 pub within_limits : (a : Inside) → IsSound a → IsWithinLimits (pending_list a)
 within_limits a sound =
@@ -87,10 +87,10 @@ in_rank-remove waiting place in_rank =
     All-append InRank (take place waiting) (drop (suc place) waiting) (All-take InRank place waiting in_rank) (All-drop InRank (suc place) waiting in_rank)
 
 -- the list of a bank after a write to that of one
-pub slots_same : (lists : List (ArrayVec ℕ)) (n : ℕ) (xs : List ℕ) → n < length lists → bank_slots (with_slots lists n xs) n ≡ xs
+slots_same : (lists : List (ArrayVec ℕ)) (n : ℕ) (xs : List ℕ) → n < length lists → bank_slots (with_slots lists n xs) n ≡ xs
 slots_same lists n xs within = ap (λ v. v.items) (get_or-set_same lists n (record { items = xs }) (record { items = [] }) within)
 
-pub slots_other : (lists : List (ArrayVec ℕ)) (n m : ℕ) (xs : List ℕ) → m ≢ n → bank_slots (with_slots lists n xs) m ≡ bank_slots lists m
+slots_other : (lists : List (ArrayVec ℕ)) (n m : ℕ) (xs : List ℕ) → m ≢ n → bank_slots (with_slots lists n xs) m ≡ bank_slots lists m
 slots_other lists n m xs other = ap (λ v. v.items) (get_or-set_other lists n m (record { items = xs }) (record { items = [] }) other)
 
 -- a request to the line of a place is to its bank
@@ -446,21 +446,3 @@ not_found a rank group bank k sound mid low below none =
     let nth = number rank group bank in
     none_at (at a.slots) rank group bank nth 0 k (taken a.slots) (in_slots a.slots) sound.ordered.full (numbers a rank group bank sound mid low)
     (ap (λ xs. slice_get xs k) (sym (sound.listed nth below)) ∙ none)
-
--- the request in that slot
-pub found_request : (a : Inside) (rank group bank k slot : ℕ) → IsSound a → group < RANK_GROUPS → bank < GROUP_BANKS → number rank group bank < BANKS →
-    slice_get (bank_slots a.banks.lists (number rank group bank)) k ≡ Some slot →
-    (w : Waiting) × (at a.slots slot ≡ Some w) × (row_in_bank rank group bank k (in_slots a.slots) ≡ Some w.request.place.row)
-found_request a rank group bank k slot sound mid low below there =
-    let nth = number rank group bank in
-    let f = at a.slots in
-    let at_place = some_at f rank group bank nth 0 k slot (taken a.slots) (in_slots a.slots) sound.ordered.full (numbers a rank group bank sound mid low)
-    (ap (λ xs. slice_get xs k) (sym (sound.listed nth below)) ∙ there) in
-    let held = held_at f (taken a.slots) (in_slots a.slots) at_place.0 slot sound.ordered.full at_place.1 in
-    let same : 0 + at_place.0 ≡ at_place.0 = omega arith in
-    let request : slice_get (in_slots a.slots) (0 + at_place.0) ≡ Some held.0 = ap (slice_get (in_slots a.slots)) same ∙ held.2 in (
-      held.0,
-      held.1,
-      ap (option_and_then (λ place. option_map (λ (w : Waiting). w.request.place.row) (slice_get (in_slots a.slots) place))) at_place.2
-          ∙ ap (option_map (λ (w : Waiting). w.request.place.row)) request,
-    )

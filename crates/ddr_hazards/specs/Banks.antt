@@ -1,7 +1,6 @@
 -- The pending requests of one bank.
-use Rattle.std.specs.Prelude.{ℕ, ◌+◌, ◌*◌, Bool, ◌&&◌, ◌==◌, List, [], ◌∷◌, map, slice_get, slice_index_or, slice_set, Option}
+use Rattle.std.specs.Prelude.{ℕ, ◌+◌, ◌*◌, Bool, ◌&&◌, ◌==◌, List, [], map, slice_get, slice_index_or, slice_set, Option}
 use Rattle.std.specs.List.{enumerate_from, filter}
-use Rattle.std.specs.Option.{option_and_then, option_map}
 use Rattle.arrayvec.specs.ArrayVec.{ArrayVec}
 use Rattle.ddr_timing.specs.declared.units.TheConstants.{GROUP_BANKS}
 use Rattle.ddr_address_map.specs.declared.place.Place.{Place}
@@ -20,10 +19,6 @@ bank_places rank group bank waiting = map (λ at. at.0) (filter (λ at. is_in_ba
 abbrev pub in_bank : ℕ → ℕ → ℕ → ℕ → List Waiting → Option ℕ
 in_bank rank group bank k waiting = slice_get (bank_places rank group bank waiting) k
 
--- the row that it wants
-abbrev pub row_in_bank : ℕ → ℕ → ℕ → ℕ → List Waiting → Option ℕ
-row_in_bank rank group bank k waiting = option_and_then (λ place. option_map (λ w. w.request.place.row) (slice_get waiting place)) (in_bank rank group bank k waiting)
-
 -- the number of a bank among those of all ranks
 abbrev pub number : ℕ → ℕ → ℕ → ℕ
 number rank group bank = (rank * RANK_GROUPS + group) * GROUP_BANKS + bank
@@ -34,11 +29,6 @@ bank_number p = number p.rank p.group p.bank
 -- the slots that are kept for a bank, which no caller sees
 abbrev pub bank_slots : List (ArrayVec ℕ) → ℕ → List ℕ
 bank_slots lists bank = (slice_index_or lists bank (record { items = [] })).items
-
--- 1 where a bank has a slot
-abbrev pub busy_bit : List ℕ → ℕ
-busy_bit [] = 0
-busy_bit (slot ∷ slots) = 1
 
 abbrev pub with_slots : List (ArrayVec ℕ) → ℕ → List ℕ → List (ArrayVec ℕ)
 with_slots lists bank slots = slice_set lists bank (record { items = slots })

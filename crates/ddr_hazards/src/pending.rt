@@ -1,13 +1,11 @@
 //! The pending requests in the order of their admission. How many older ones hold up a request is counted when it is
 //! admitted, and counted down when one of them is removed.
-ghost use Rattle.std.specs.Prelude.{◌≡◌, ◌<◌, ◌≤◌, ◌↔◌, [], length, nat_lt, if◌then◌else◌, ℕ, slice_get, IsTrue, IsErr, IfErr, OnOk};
+ghost use Rattle.std.specs.Prelude.{◌≡◌, ◌<◌, ◌≤◌, ◌↔◌, [], length, nat_lt, slice_get, IsTrue, IsErr, IfErr, OnOk};
 ghost use Rattle.std.specs.Option.{option_map};
 ghost use Rattle.ddr_timing.specs.declared.units.TheConstants.{GROUP_BANKS};
 ghost use Rattle.ddr_address_map.specs.declared.request.Kind.TheVariants.{Read, Write};
 ghost use Rattle.ddr_hazards.specs.declared.pending.TheConstants.{KIND_CAPACITY, RANKS, RANK_GROUPS};
-ghost use Rattle.std.specs.Int.{bit_at};
-ghost use Rattle.std.specs.Option.{is_some};
-ghost use Rattle.ddr_hazards.specs.Banks.{in_bank, number, row_in_bank};
+ghost use Rattle.ddr_hazards.specs.Banks.{in_bank};
 ghost use Rattle.ddr_hazards.specs.PendingList.{opened, pending_count, is_full, after_admit, request_at, after_remove, waiting_of, IsInRank, IsWithinLimits};
 ghost use Rattle.ddr_hazards.specs.Hazards.{hazard_count, is_blocked};
 
@@ -200,25 +198,5 @@ impl Pending {
     {
         let slot = self.banks.slot(number(rank, group, bank), k)?;
         Some(self.slots.place(slot))
-    }
-
-    /// The row of the `k`-th oldest request of a bank, `k` from 0. `None` exactly where the bank has fewer.
-    pub fn row_in_bank(&self, rank: u32, group: u32, bank: u32, k: usize) -> Option<u32>
-        requires rank_in { rank < RANKS }
-        requires group_in { group < RANK_GROUPS }
-        requires bank_in { bank < GROUP_BANKS }
-        ensures { result ≡ row_in_bank rank group bank k self.now.waiting }
-    {
-        let number = number(rank, group, bank);
-        let slot = self.banks.slot(number, k)?;
-        self.slots.row(slot)
-    }
-
-    /// Which banks have pending requests: the bit of bank `b` of group `g` of rank `r` is that of 1 << (16 r + 4 g + b).
-    pub fn busy_banks(&self) -> u32
-        ensures { (rank group bank : ℕ) → rank < RANKS → group < RANK_GROUPS → bank < GROUP_BANKS
-            → bit_at result (number rank group bank) ≡ (if is_some (in_bank rank group bank 0 self.now.waiting) then 1 else 0) }
-    {
-        self.banks.busy()
     }
 }

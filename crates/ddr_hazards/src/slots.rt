@@ -71,16 +71,6 @@ impl Slots {
         }
     }
 
-    /// The row of the request that the slot holds.
-    pub fn row(&self, slot: u8) -> Option<u32>
-        ensures { result ≡ option_map (λ w. w.request.place.row) (at self.now slot) }
-    {
-        match self.get(slot) {
-            Some(waiting) => Some(waiting.request.place.row),
-            None => None,
-        }
-    }
-
     /// Whether the slot holds a request to the line of the place.
     pub fn is_on_line(&self, slot: u8, place: Place) -> bool
         ensures { result ≡ is_line (at self.now) place slot }

@@ -220,18 +220,6 @@ impl Run {
         let found = self.pending.in_bank(rank, group, bank, k);
         let expected = place_in_bank(&self.list, rank, group, bank, k);
         assert_eq!(rt; found, expected, "{k} of bank {bank} of {group} of {rank}");
-        let row = match expected {
-            Some(place) => self.list.get(place).map(|listed| listed.place.row),
-            None => None,
-        };
-        assert_eq!(rt;
-            self.pending.row_in_bank(rank, group, bank, k),
-            row,
-            "{k} of bank {bank} of {group} of {rank}"
-        );
-        let is_busy = place_in_bank(&self.list, rank, group, bank, 0).is_some();
-        let bit = self.pending.busy_banks() >> (16 * rank + 4 * group + bank) & 1;
-        assert_eq!(rt; bit == 1, is_busy, "bank {bank} of {group} of {rank}");
     }
 
     fn check_counts(&mut self, rt: &impl Abort) {

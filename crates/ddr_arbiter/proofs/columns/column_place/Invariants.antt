@@ -1,9 +1,11 @@
 use Rattle.ddr_arbiter.specs.Choice.{can_column}
-use Rattle.ddr_arbiter.proofs.FirstLemmas.{AreFirst}
+use Rattle.ddr_arbiter.specs.Known.{AreKnown}
+use Rattle.ddr_arbiter.specs.Served.{is_candidate}
+use Rattle.ddr_arbiter.proofs.PlaceLemmas.{NoneAmong}
 use Rattle.ddr_arbiter.proofs.columns.column_place.Given as goal
 
-abbrev pub invariant-banks : goal.invariant-banks
-invariant-banks l = AreFirst l.candidates l.pending.waiting (can_column l.legality.bus l.pending.waiting) l.left l.found
-
-abbrev pub decreases-banks : goal.decreases-banks
-decreases-banks l = l.left
+abbrev pub invariant-loop-place : goal.invariant-loop-place
+invariant-loop-place l = record {
+  none : NoneAmong (is_candidate l.candidates l.pending.waiting) (can_column l.legality.bus l.pending.waiting) l.place;
+  known : AreKnown l.legality.bus l.candidates.kind l.banks;
+}

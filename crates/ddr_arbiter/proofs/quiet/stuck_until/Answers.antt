@@ -1,38 +1,35 @@
--- One more bank, and none left at the end.
-use Rattle.std.proofs.Common.{sym, ap, ◌∙◌, inl, inr, arith}
-use Rattle.std.specs.Int.{bit_at}
+-- One more place, of a candidate or not.
+use Rattle.std.proofs.Common.{ℕ, Option, Bool, false, subst, inl, inr, arith}
 use Rattle.std.proofs.lemmas.Bool.{cases_eq}
-use Rattle.std.proofs.lemmas.Nat.Bits.{bit_at-zero}
-use Rattle.ddr_hazards.specs.Banks.{bank_number}
-use Rattle.ddr_arbiter.proofs.FirstLemmas.{busy_bank}
-use Rattle.ddr_arbiter.proofs.KnownLemmas.{in_rank_at, number_below, same_bank}
+use Rattle.ddr_address_map.specs.declared.place.Place.{Place}
+use Rattle.ddr_arbiter.specs.Until.{IsCandidate, MarkTellsUntil}
+use Rattle.ddr_arbiter.proofs.KnownLemmas.{table_start}
 use Rattle.ddr_arbiter.proofs.StuckLemmas.{sooner}
 use Rattle.ddr_arbiter.proofs.quiet.stuck_until.Goals as goal
 
-pub banks-init : goal.banks-init
-banks-init c = record {
-  end = omega arith;
-  stuck = λ place w candidate out. absurd (busy_bank c.busy_banks-left.result c.args.pending.now.waiting place w c.busy_banks-left.ensures (in_rank_at c.args.pending.now.waiting place w c.requires.inside candidate.here) candidate.here out);
-}
-
-pub banks-preserved : goal.banks-preserved
-banks-preserved c = record {
-  end = omega (arith, c.min-until.ensures, c.banks.invariant.end);
-  stuck = λ place w candidate out.
-      let in_p = in_rank_at c.args.pending.now.waiting place w c.requires.inside candidate.here in
-      elim (cases_eq (bank_number w.request.place) c.lowest-number.result) [
-        | inl same ↦
-            sooner c.candidates_until-here.result c.min-until.result c.args.legality.now.bus c.args.candidates.now c.args.pending.now.waiting c.args.room w.request.place (omega (arith, c.min-until.ensures))
-            (c.candidates_until-here.ensures place w candidate (same_bank c.bank_place.result w.request.place c.bank_place.ensures.inside in_p (c.bank_place.ensures.number ∙ sym same)))
+pub loop-place-preserved : goal.loop-place-preserved
+loop-place-preserved c =
+    let served = c.args.candidates.now in
+    let waiting = c.args.pending.now.waiting in record {
+      end = omega (arith, c.place_until-until.ensures.until, c.loop-place.invariant.end);
+      stuck = λ place w below candidate. elim (cases_eq place c.loop-place.place) [
+        | inl last ↦ c.place_until-until.ensures.stuck w (subst (λ (k : ℕ). IsCandidate served waiting k w) last candidate)
         | inr other ↦
-            sooner c.banks.until c.min-until.result c.args.legality.now.bus c.args.candidates.now c.args.pending.now.waiting c.args.room w.request.place (omega (arith, c.min-until.ensures))
-            (c.banks.invariant.stuck place w candidate (sym (c.without-left.ensures.others (bank_number w.request.place) (number_below w.request.place in_p) other) ∙ out))
+            sooner c.loop-place.until c.place_until-until.result c.args.legality.now.bus served waiting c.args.room w.request.place c.place_until-until.ensures.until
+            (c.loop-place.invariant.stuck place w (omega (arith, below, other)) candidate)
       ];
+      asked = c.place_until-until.ensures.asked;
+    }
+
+pub loop-place-init : goal.loop-place-init
+loop-place-init c = record {
+  end = omega arith;
+  stuck = λ place w below. absurd (omega (arith, below));
+  asked = table_start (λ (p : Place) (o : Option Bool). MarkTellsUntil c.args.end c.args.legality.now.bus c.args.candidates.now c.args.pending.now.waiting c.args.room p o) false (λ p. tt);
 }
 
 pub returns : goal.returns
 returns c = record {
-  end = c.banks.invariant.end;
-  stuck = λ place w candidate.
-      c.banks.invariant.stuck place w candidate (ap (λ banks. bit_at banks (bank_number w.request.place)) (omega (arith, c.banks-test.false)) ∙ bit_at-zero (bank_number w.request.place));
+  end = c.loop-place.invariant.end;
+  stuck = λ place w candidate. c.loop-place.invariant.stuck place w (omega (arith, candidate.within, c.loop-place-test.false)) candidate;
 }

@@ -1,4 +1,4 @@
-use Rattle.std.proofs.Common.{◌≤◌, eqb, length, arith, sym, eq-eqb}
+use Rattle.std.proofs.Common.{◌≡◌, ℕ, ◌<◌, ◌≤◌, eqb, length, arith, sym, eq-eqb}
 use Rattle.std.proofs.lemmas.List.Sums.{position_or_len_is}
 use Rattle.ddr_hazards.proofs.hazards.position.Goals as goal
 

@@ -1,5 +1,6 @@
-use Rattle.std.proofs.Common.{ltb, sym, ap, ◌∙◌}
-use Rattle.ddr_hazards.specs.Hazards.{hazard_count}
+use Rattle.std.proofs.Common.{◌≡◌, ltb, None, refl, sym, ap, ◌∙◌}
+use Rattle.std.specs.List.{slice_get}
+use Rattle.ddr_hazards.specs.Hazards.{hazard_count, is_blocked}
 use Rattle.ddr_hazards.specs.Slots.{at, in_slots, taken}
 use Rattle.ddr_hazards.proofs.HazardLemmas.{blocked_counted, hazard_count-none}
 use Rattle.ddr_hazards.proofs.SlotLemmas.{none_held}

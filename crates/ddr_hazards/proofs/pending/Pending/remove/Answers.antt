@@ -1,7 +1,8 @@
-use Rattle.std.proofs.Common.{◌≡◌, ℕ, ◌<◌, eqb, length, drop, refl, ap, sym, ◌∙◌, subst, arith}
+use Rattle.std.proofs.Common.{◌≡◌, ℕ, ◌<◌, eqb, length, drop, Some, refl, ap, sym, ◌∙◌, subst, arith}
 use Rattle.std.specs.List.{position_or_len, remove}
 use Rattle.std.specs.Option.{option_map}
 use Rattle.std.proofs.lemmas.List.Edits.{length-remove}
+use Rattle.ddr_hazards.specs.declared.pending.Pending.TheInside.{Inside}
 use Rattle.ddr_hazards.specs.declared.banks.TheConstants.{BANKS}
 use Rattle.ddr_hazards.specs.declared.slots.Slots.{Slots}
 use Rattle.ddr_hazards.specs.declared.waiting.Waiting.{Waiting}

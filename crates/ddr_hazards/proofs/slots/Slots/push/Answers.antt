@@ -1,5 +1,6 @@
 use Rattle.std.proofs.Common.{refl}
-use Rattle.ddr_hazards.proofs.Order.{IsOrdered-push, in_slots-push, new-push, others-push}
+use Rattle.ddr_hazards.specs.declared.slots.Slots.{Slots}
+use Rattle.ddr_hazards.proofs.Order.{Pushed, IsOrdered-push, in_slots-push, new-push, others-push}
 use Rattle.ddr_hazards.proofs.slots.Slots.push.Goals as goal
 
 pub returns-clause-held : goal.returns-clause-held

@@ -1,7 +1,9 @@
-use Rattle.std.proofs.Common.{◌≡◌, ℕ, ◌+◌, ◌-◌, ◌<◌, set, sym, ap, ◌∙◌, arith}
-use Rattle.ddr_hazards.specs.Slots.{at, in_slots, taken}
+use Rattle.std.proofs.Common.{◌≡◌, ℕ, ◌+◌, ◌-◌, ◌<◌, set, Some, None, refl, sym, ap, ◌∙◌, arith}
+use Rattle.std.specs.List.{slice_get}
+use Rattle.ddr_hazards.specs.declared.slots.Slots.{Slots}
+use Rattle.ddr_hazards.specs.Slots.{at, in_slots, taken, IsOrdered}
 use Rattle.ddr_hazards.proofs.SlotLemmas.{held_at, none_held, remove_none}
-use Rattle.ddr_hazards.proofs.Order.{stands, taken-remove, in_slots-remove, others-remove, IsOrdered-remove}
+use Rattle.ddr_hazards.proofs.Order.{stands, Removed, taken-remove, in_slots-remove, others-remove, IsOrdered-remove}
 use Rattle.ddr_hazards.proofs.slots.Slots.remove.Goals as goal
 
 pub returns-in_err-slot-clause-order : goal.returns-in_err-slot-clause-order
