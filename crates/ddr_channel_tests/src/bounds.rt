@@ -26,8 +26,8 @@ const START: u64 = 77;
 /// The cycles of a run.
 const CYCLES: u32 = 2500;
 
-/// The configurations that a test tries. Sixteen tests make a million cycles together.
-const CONFIGS: u64 = 25;
+/// The configurations that a test tries. Four tests make a million cycles together.
+const CONFIGS: u64 = 100;
 
 /// A count of clocks from 1 to this one.
 fn clocks(chance: &mut Chance, most: u64) -> u64
@@ -365,15 +365,9 @@ fn start(alloc: Global, seed: u64, ranks: u64, postpone: u64) -> Result<Run, Fai
     })
 }
 
-/// Runs of configurations by chance with so many ranks, and so many REFs that may be put off: those of one part of all seeds.
-fn keeps_bounds(
-    rt: &impl Abort,
-    alloc: Global,
-    (ranks, postpone): (u64, u64),
-    part: u64,
-) -> Result<(), Fail> {
-    let first = part.wrapping_mul(CONFIGS);
-    for seed in first..first.wrapping_add(CONFIGS) {
+/// Runs of configurations by chance with so many ranks, and so many REFs that may be put off.
+fn keeps_bounds(rt: &impl Abort, alloc: Global, ranks: u64, postpone: u64) -> Result<(), Fail> {
+    for seed in 0..CONFIGS {
         let mut run = start(alloc, seed, ranks, postpone)?;
         run.turns(rt)?;
         run.check_overtakers(rt);
@@ -383,81 +377,21 @@ fn keeps_bounds(
 }
 
 #[test]
-fn bounds_of_one_rank_with_no_refresh_postponed_1(rt: HostRuntime) -> Result<(), Fail> {
-    keeps_bounds(&rt, rt.alloc(), (1, 0), 0)
+fn bounds_of_one_rank_with_no_refresh_postponed(rt: HostRuntime) -> Result<(), Fail> {
+    keeps_bounds(&rt, rt.alloc(), 1, 0)
 }
 
 #[test]
-fn bounds_of_one_rank_with_no_refresh_postponed_2(rt: HostRuntime) -> Result<(), Fail> {
-    keeps_bounds(&rt, rt.alloc(), (1, 0), 1)
+fn bounds_of_one_rank_with_seven_refreshes_postponed(rt: HostRuntime) -> Result<(), Fail> {
+    keeps_bounds(&rt, rt.alloc(), 1, 7)
 }
 
 #[test]
-fn bounds_of_one_rank_with_no_refresh_postponed_3(rt: HostRuntime) -> Result<(), Fail> {
-    keeps_bounds(&rt, rt.alloc(), (1, 0), 2)
+fn bounds_of_two_ranks_with_no_refresh_postponed(rt: HostRuntime) -> Result<(), Fail> {
+    keeps_bounds(&rt, rt.alloc(), 2, 0)
 }
 
 #[test]
-fn bounds_of_one_rank_with_no_refresh_postponed_4(rt: HostRuntime) -> Result<(), Fail> {
-    keeps_bounds(&rt, rt.alloc(), (1, 0), 3)
-}
-
-#[test]
-fn bounds_of_one_rank_with_seven_refreshes_postponed_1(rt: HostRuntime) -> Result<(), Fail> {
-    keeps_bounds(&rt, rt.alloc(), (1, 7), 0)
-}
-
-#[test]
-fn bounds_of_one_rank_with_seven_refreshes_postponed_2(rt: HostRuntime) -> Result<(), Fail> {
-    keeps_bounds(&rt, rt.alloc(), (1, 7), 1)
-}
-
-#[test]
-fn bounds_of_one_rank_with_seven_refreshes_postponed_3(rt: HostRuntime) -> Result<(), Fail> {
-    keeps_bounds(&rt, rt.alloc(), (1, 7), 2)
-}
-
-#[test]
-fn bounds_of_one_rank_with_seven_refreshes_postponed_4(rt: HostRuntime) -> Result<(), Fail> {
-    keeps_bounds(&rt, rt.alloc(), (1, 7), 3)
-}
-
-#[test]
-fn bounds_of_two_ranks_with_no_refresh_postponed_1(rt: HostRuntime) -> Result<(), Fail> {
-    keeps_bounds(&rt, rt.alloc(), (2, 0), 0)
-}
-
-#[test]
-fn bounds_of_two_ranks_with_no_refresh_postponed_2(rt: HostRuntime) -> Result<(), Fail> {
-    keeps_bounds(&rt, rt.alloc(), (2, 0), 1)
-}
-
-#[test]
-fn bounds_of_two_ranks_with_no_refresh_postponed_3(rt: HostRuntime) -> Result<(), Fail> {
-    keeps_bounds(&rt, rt.alloc(), (2, 0), 2)
-}
-
-#[test]
-fn bounds_of_two_ranks_with_no_refresh_postponed_4(rt: HostRuntime) -> Result<(), Fail> {
-    keeps_bounds(&rt, rt.alloc(), (2, 0), 3)
-}
-
-#[test]
-fn bounds_of_two_ranks_with_seven_refreshes_postponed_1(rt: HostRuntime) -> Result<(), Fail> {
-    keeps_bounds(&rt, rt.alloc(), (2, 7), 0)
-}
-
-#[test]
-fn bounds_of_two_ranks_with_seven_refreshes_postponed_2(rt: HostRuntime) -> Result<(), Fail> {
-    keeps_bounds(&rt, rt.alloc(), (2, 7), 1)
-}
-
-#[test]
-fn bounds_of_two_ranks_with_seven_refreshes_postponed_3(rt: HostRuntime) -> Result<(), Fail> {
-    keeps_bounds(&rt, rt.alloc(), (2, 7), 2)
-}
-
-#[test]
-fn bounds_of_two_ranks_with_seven_refreshes_postponed_4(rt: HostRuntime) -> Result<(), Fail> {
-    keeps_bounds(&rt, rt.alloc(), (2, 7), 3)
+fn bounds_of_two_ranks_with_seven_refreshes_postponed(rt: HostRuntime) -> Result<(), Fail> {
+    keeps_bounds(&rt, rt.alloc(), 2, 7)
 }

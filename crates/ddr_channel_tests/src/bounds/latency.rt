@@ -317,7 +317,7 @@ fn share_by_chance(rt: &impl Abort, alloc: Global, seed: u64, ranks: u64) -> Res
     load.finish(most)?;
     let slowest = load.slowest;
     assert!(rt; slowest <= most, "seed {seed}: {slowest} of {most}");
-    Ok(slowest.wrapping_mul(100) / more(most, 1))
+    Ok(slowest.wrapping_mul(100).checked_div(most).unwrap_or(0))
 }
 
 /// Looks at runs, and that the slowest request of all of them took so many hundredths of its bound.
