@@ -1,0 +1,9 @@
+mod LegalLemmas
+mod NumberLemmas
+mod QuietLemmas
+mod ReplayLemmas
+mod StepLemmas
+mod StreamLemmas
+mod SubmitLemmas
+mod TurnLemmas
+mod WaitLemmas

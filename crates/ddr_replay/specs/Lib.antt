@@ -1,0 +1,9 @@
+pub mod Asks
+pub mod Line
+pub mod Numbers
+pub mod Replays
+pub mod Report
+pub mod Runs
+pub mod Stream
+pub mod View
+pub mod Waits
