@@ -151,7 +151,7 @@ fn parse_five(
 }
 
 /// What stands between the spaces of a line.
-pub fn fields(alloc: Global, line: &str) -> Result<Vec<&str>, AllocError>
+fn fields(alloc: Global, line: &str) -> Result<Vec<&str>, AllocError>
     ensures { IfOk result (λ v. map (λ field. field.now) v.items ≡ fields_of line.now) }
 {
     line.split(' ')
@@ -220,7 +220,7 @@ fn parse_cycle(count: &str) -> Result<Instruction, LineError>
 }
 
 /// The number that a field spells: 1 to 20 decimal digits, below 2^64.
-pub fn number(field: &str) -> Result<u64, LineError>
+pub(crate) fn number(field: &str) -> Result<u64, LineError>
     ensures { Gives (λ n. n) result (number_of LARGEST field.now) }
 {
     number_up_to(u64::MAX, field)
@@ -235,7 +235,7 @@ fn number_up_to(most: u64, field: &str) -> Result<u64, LineError>
 }
 
 /// Of so many ports, the one that a field names.
-pub fn port_of(ports: u32, field: &str) -> Result<u32, LineError>
+fn port_of(ports: u32, field: &str) -> Result<u32, LineError>
     ensures { Gives (λ port. port) result (port_of ports field.now) }
 {
     let port = number(field)?;

@@ -1,9 +1,0 @@
-mod LegalLemmas
-mod NumberLemmas
-mod QuietLemmas
-mod ReplayLemmas
-mod StepLemmas
-mod StreamLemmas
-mod SubmitLemmas
-mod TurnLemmas
-mod WaitLemmas

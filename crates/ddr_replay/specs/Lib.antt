@@ -1,9 +1,0 @@
-pub mod Asks
-pub mod Line
-pub mod Numbers
-pub mod Replays
-pub mod Report
-pub mod Runs
-pub mod Stream
-pub mod View
-pub mod Waits
