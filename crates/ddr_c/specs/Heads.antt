@@ -18,8 +18,8 @@ head_of front clock = record {
   bytes = front.length;
   length = front.echo.len;
   kind = kind_of front.echo.kind;
-  accepted = front.stamp.accepted;
-  issued = front.stamp.issued;
-  due = front.stamp.due;
+  accepted = front.accepted;
+  issued = front.service.issued;
+  due = front.service.due;
   released = clock;
 }

@@ -43,9 +43,9 @@ pub(crate) fn head_of(front: &Front, clock: u64) -> Head
             Kind::Read => READ,
             Kind::Write => WRITE,
         },
-        accepted: front.stamp.accepted,
-        issued: front.stamp.issued,
-        due: front.stamp.due,
+        accepted: front.accepted,
+        issued: front.service.issued,
+        due: front.service.due,
         released: clock,
     }
 }

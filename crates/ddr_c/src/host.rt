@@ -1,4 +1,4 @@
-//! A core that a host drives by calls: that of `ddr_world`, with rounds, and with the cycles of its requests.
+//! A core that a host drives by calls: that of `ddr_world`, with rounds, and with when its requests were accepted.
 //!
 //! `ddr_world` and `stamps` stand below, and `lib` above, whose exports call this.
 ghost use Rattle.std.specs.Prelude.{◌≡◌, ◌+◌, ◌<◌, ◌≤◌, [], ◌∷◌, ◌++◌, List, true, false, IfErr, IfNone, IfOk, IfSome, IsTrue, OnOk, None, Ok, Some, length, slice_get};
@@ -16,17 +16,17 @@ ghost use Rattle.ddr_c.specs.Continues.{Continues};
 ghost use Rattle.ddr_c.specs.Front.{IsNextOf};
 ghost use Rattle.ddr_c.specs.Rounds.{IsStopped, channel_served, channels_served, is_popping, ports_collected, round, rounds, until_refused};
 
-use crate::stamps::{Stamp, Stamps};
+use crate::stamps::Stamps;
 use ddr_address_map::request::Echo;
-use ddr_channel::issued::Issued;
 use ddr_ports::request::Request;
+use ddr_reorder::reply::Service;
 use ddr_timing::config::Config;
 use ddr_trace::command::Entry;
 use ddr_world::event::{Event, Outcome, Refusal};
 use ddr_world::world::{Counts, World};
 use std::alloc::{AllocError, Global};
 
-/// A core with what its host is told of the requests.
+/// A core with when its outstanding requests were accepted, which its host is told.
 #[derive(Drop)]
 pub(crate) struct Core {
     pub(crate) world: World,
@@ -51,7 +51,10 @@ pub(crate) struct Front {
     pub(crate) echo: Echo,
     /// How many bytes it has.
     pub(crate) length: usize,
-    pub(crate) stamp: Stamp,
+    /// The clock when its port accepted the request.
+    pub(crate) accepted: u64,
+    /// When its request was served.
+    pub(crate) service: Service,
 }
 
 /// What the oldest reply of a port came to.
@@ -199,26 +202,9 @@ impl Core {
         ensures continues { Continues self.old.world self.new.world }
     {
         self.repeat(Event::Take(channel));
-        let issued = self.world.cycle(channel)?;
-        self.note(issued);
+        self.world.cycle(channel)?;
         self.repeat(Event::Deliver(channel));
         Ok(())
-    }
-
-    /// Notes the cycles of the request that a command serves.
-    fn note(&mut self, issued: Option<Issued>)
-        ensures { self.new.world ≡ self.old.world }
-    {
-        if let Some(
-            Issued {
-                entry,
-                served: Some(served),
-            },
-        ) = issued
-        {
-            self.stamps
-                .serve(served.port, served.number, entry.cycle, served.due);
-        }
     }
 
     /// Makes an event that pops something until it is refused.
@@ -245,7 +231,11 @@ impl Core {
             number: reply.number,
             echo: reply.echo,
             length,
-            stamp: self.stamps.at(port, reply.number),
+            accepted: self.stamps.at(port, reply.number),
+            service: Service {
+                issued: reply.issued,
+                due: reply.due,
+            },
         };
         if buffer.len() < length {
             return Next::TooShort(front);
