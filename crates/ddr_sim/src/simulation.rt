@@ -385,6 +385,7 @@ impl Simulation {
     }
 
     /// Makes an event that pops something until it is refused.
+    #[inline(always)]
     fn repeat(&mut self, event: Event<'_>)
         requires { IsTrue (is_popping (event_of event)) }
         ensures state { state_of self.new.world ≡ until_refused (event_of event.entry) (state_of self.old.world) }
@@ -395,6 +396,7 @@ impl Simulation {
     }
 
     /// Makes an event, and counts what is outstanding.
+    #[inline(always)]
     fn make(&mut self, event: Event<'_>) -> Result<Outcome, Refusal>
         requires { added (event_of event) ≤ 2 ^ 64 - 1 - self.old.waiting }
         ensures answer { IsAnswered self.old.world self.new.world (event_of event.entry) result }

@@ -130,6 +130,7 @@ impl World {
 
     /// Makes an event, or says why not. Memory is asked for in `Cycle` alone, and there only where the channel issues a
     /// command for which there is no room.
+    #[inline(always)]
     pub fn step(&mut self, event: Event<'_>) -> Result<Outcome, Refusal>
         ensures answer { IsAnswered self.old self.new (event_of event.entry) result }
         ensures stands { (opening : Opening) (earlier : List Answered) → StandsFor self.old opening earlier
@@ -182,12 +183,14 @@ impl World {
         Ok(issued)
     }
 
+    #[inline(always)]
     fn has_port(&self, port: u32) -> bool
         ensures { IsTrue result ↔ (port < length self.now.ports) }
     {
         (port as usize) < self.ports.len()
     }
 
+    #[inline(always)]
     fn has_channel(&self, channel: u32) -> bool
         ensures { IsTrue result ↔ (channel < length self.now.channels) }
     {
@@ -214,6 +217,7 @@ impl World {
     }
 
     /// The channel pops an item of its queue.
+    #[inline]
     fn take(&mut self, channel: u32) -> Result<Outcome, Refusal>
         ensures { IsAnswered self.old self.new (events.Take channel) result }
     {
@@ -225,6 +229,7 @@ impl World {
     }
 
     /// The channel pushes its oldest completion on the queue of the port that it is for.
+    #[inline]
     fn deliver(&mut self, channel: u32) -> Result<Outcome, Refusal>
         ensures { IsAnswered self.old self.new (events.Deliver channel) result }
     {
@@ -243,6 +248,7 @@ impl World {
     }
 
     /// The port pops a completion and puts its line in its place.
+    #[inline]
     fn collect(&mut self, port: u32) -> Result<Outcome, Refusal>
         ensures { IsAnswered self.old self.new (events.Collect port) result }
     {
@@ -256,6 +262,7 @@ impl World {
     }
 
     /// The port gives up its oldest reply.
+    #[inline]
     fn release(&mut self, port: u32) -> Result<Outcome, Refusal>
         ensures { IsAnswered self.old self.new (events.Release port) result }
     {
