@@ -229,11 +229,11 @@ impl Simulation {
         ensures within { result ≤ most }
         ensures quiet { 0 < result → AreQuiet self.now.config result (state_of self.now.world) self.now.left }
     {
-        if self.has_front() {
+        let quiet = self.world.quiet();
+        if quiet == 0 || self.has_front() {
             return 0;
         }
         let most = most.min(self.left);
-        let quiet = self.world.quiet();
         if quiet < u64::from(most) {
             quiet as u32
         } else {
