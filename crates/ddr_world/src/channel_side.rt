@@ -83,6 +83,7 @@ impl ChannelSide {
     }
 
     /// Pops an item, where both queues of the channel have a free place: admits a request, notes an End.
+    #[inline(always)]
     pub(crate) fn take(&mut self) -> Result<(), Refusal>
         ensures ok { OnOk result (taken (side_of self.old) ≡ Ok (side_of self.new)) }
         ensures refused { IfErr result (λ cause. taken (side_of self.old) ≡ Err cause) }
@@ -135,6 +136,7 @@ impl ChannelSide {
     }
 
     /// The port that the oldest completion is for, if one is done.
+    #[inline(always)]
     pub(crate) fn next_port(&self) -> Option<u32>
         ensures { result ≡ option_map (λ d. d.port) (slice_get self.now.channel.done 0) }
     {

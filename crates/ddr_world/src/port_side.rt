@@ -112,6 +112,7 @@ impl PortSide {
     }
 
     /// Pops the oldest completion, if there is one, puts its line in its place, and tells its number.
+    #[inline(always)]
     pub(crate) fn collect(&mut self) -> Option<u64>
         ensures number { result ≡ option_map (λ d. d.number) (slice_get self.old.completions 0) }
         ensures collected { IfSome (slice_get self.old.completions 0) (λ done. self.new ≡ after_collect done self.old) }

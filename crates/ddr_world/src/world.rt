@@ -217,7 +217,7 @@ impl World {
     }
 
     /// The channel pops an item of its queue.
-    #[inline]
+    #[inline(always)]
     fn take(&mut self, channel: u32) -> Result<Outcome, Refusal>
         ensures { IsAnswered self.old self.new (events.Take channel) result }
     {
@@ -229,7 +229,7 @@ impl World {
     }
 
     /// The channel pushes its oldest completion on the queue of the port that it is for.
-    #[inline]
+    #[inline(always)]
     fn deliver(&mut self, channel: u32) -> Result<Outcome, Refusal>
         ensures { IsAnswered self.old self.new (events.Deliver channel) result }
     {
@@ -248,7 +248,7 @@ impl World {
     }
 
     /// The port pops a completion and puts its line in its place.
-    #[inline]
+    #[inline(always)]
     fn collect(&mut self, port: u32) -> Result<Outcome, Refusal>
         ensures { IsAnswered self.old self.new (events.Collect port) result }
     {
@@ -262,7 +262,7 @@ impl World {
     }
 
     /// The port gives up its oldest reply.
-    #[inline]
+    #[inline(always)]
     fn release(&mut self, port: u32) -> Result<Outcome, Refusal>
         ensures { IsAnswered self.old self.new (events.Release port) result }
     {
