@@ -186,6 +186,7 @@ impl Channel {
     }
 
     /// Looks up to which cycle nothing is chosen.
+    #[inline(never)]
     fn sleep(&mut self)
         ensures { self.new ≡ self.old }
     {
@@ -216,6 +217,7 @@ impl Channel {
     /// Makes the cycle `now` as `cycle` does, and tells what it issued: nothing, or the trace's new entry, with the
     /// request that it serves where it is a column command. The completion of that request comes in its turn behind
     /// those of all column commands before, with the `issued` and the `due` that are told here.
+    #[inline(always)]
     pub fn cycle_observed(&mut self) -> Result<Option<Issued>, CycleError>
         ensures ok { OnOk result (state_of self.new ≡ after_cycle (state_of self.old)) }
         ensures spent { IsErrOf result ClockSpent ↔ (self.old.now ≡ CLOCK_STOP) }
@@ -254,6 +256,7 @@ impl Channel {
 
     /// Makes a cycle in which nothing is chosen: what is due completes, and the refresh debts, the drain mode and the clock
     /// go on.
+    #[inline(always)]
     fn still_cycle(&mut self)
         requires clock { self.old.now < CLOCK_STOP }
         requires chosen { choice_of (at_choice (state_of self.old)) ≡ choice.Nothing }
@@ -271,6 +274,7 @@ impl Channel {
     }
 
     /// Makes a cycle, before the clock is spent, and tells what it issued.
+    #[inline(never)]
     fn make_cycle(&mut self) -> Result<Option<Issued>, AllocError>
         requires { self.old.now < CLOCK_STOP }
         ensures ok { OnOk result (state_of self.new ≡ after_cycle (state_of self.old)) }

@@ -103,6 +103,7 @@ impl ChannelSide {
 
     /// Makes a cycle, and tells what it issued. A refusal leaves the side in the state that it was in. Memory is asked for
     /// only where a command is issued for which there is no room.
+    #[inline(always)]
     pub(crate) fn cycle(&mut self) -> Result<Option<Issued>, Refusal>
         ensures ok { OnOk result (cycled (side_of self.old) ≡ Ok (side_of self.new)) }
         ensures refused { IfErr result (λ cause. IsRefusedFor cause (cycled (side_of self.old))) }

@@ -170,6 +170,7 @@ impl World {
 
     /// Makes a cycle of the channel, or says why not, as `step` does by `Event::Cycle`, and tells what the channel issued:
     /// nothing, or its trace's new entry, with the request that it serves where it is a column command.
+    #[inline(always)]
     pub fn cycle(&mut self, channel: u32) -> Result<Option<Issued>, Refusal>
         ensures answer { IsAnswered self.old self.new (events.Cycle channel) (cycle_answer result) }
         ensures told { IfOk result (TellsOf channel self.old self.new) }
