@@ -1,2 +1,4 @@
+pub mod BackLemmas
 pub mod FindLemmas
 pub mod PlaceLemmas
+pub mod RecentLemmas

@@ -33,12 +33,12 @@ split_whole history = sym (ap (λ d. history ++ d) (drop-length history) ∙ app
 pub left_length : (earlier before : List Entry) (last : Entry) → earlier ≡ before ++ last ∷ [] → length earlier ≡ length before + 1
 left_length earlier before last e = ap length e ∙ length-append before (last ∷ [])
 
-split_more : (history earlier before : List Entry) (last : Entry) → IsSplit history earlier → earlier ≡ before ++ last ∷ [] → history ≡ before ++ (last ∷ drop (length earlier) history)
+pub split_more : (history earlier before : List Entry) (last : Entry) → IsSplit history earlier → earlier ≡ before ++ last ∷ [] → history ≡ before ++ (last ∷ drop (length earlier) history)
 split_more history earlier before last split e =
     split ∙ ap (λ xs. xs ++ drop (length earlier) history) e ∙ append_assoc before (last ∷ []) (drop (length earlier) history)
 
 -- the newest entry of what is left, and what was walked through
-rest_is : (history earlier before : List Entry) (last : Entry) → IsSplit history earlier → earlier ≡ before ++ last ∷ [] → drop (length before) history ≡ last ∷ drop (length earlier) history
+pub rest_is : (history earlier before : List Entry) (last : Entry) → IsSplit history earlier → earlier ≡ before ++ last ∷ [] → drop (length before) history ≡ last ∷ drop (length earlier) history
 rest_is history earlier before last split e =
     ap (drop (length before)) (split_more history earlier before last split e) ∙ drop-append_seam before (last ∷ drop (length earlier) history)
 

@@ -1,2 +1,3 @@
 pub mod Evidence
 pub mod Places
+pub mod Recent

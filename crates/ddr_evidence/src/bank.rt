@@ -1,10 +1,11 @@
 //! Rules on the state of banks: the command that last changed the bank.
 //!
 //! `evidence`, `kind` and `ddr_trace` stand below, and `state` above.
-ghost use Rattle.std.specs.Prelude.{◌≡◌, ◌-◌, ◌<◌, ◌&&◌, if◌then◌else◌, IfNone, None, Some, length, slice_get};
+ghost use Rattle.std.specs.Prelude.{◌≡◌, ◌+◌, ◌-◌, ◌<◌, ◌≤◌, ◌&&◌, if◌then◌else◌, IfNone, None, Some, drop, length, slice_get};
 ghost use Rattle.ddr_trace.specs.Banks.{auto_start, bank_after, bank_behind, recovery};
 ghost use Rattle.ddr_trace.specs.Commands.{is_same_bank};
 ghost use Rattle.ddr_evidence.specs.Places.{IsLastChange, IsLastChangeAt, changes};
+ghost use Rattle.ddr_evidence.specs.Recent.{StartsAtAct, decides, opens};
 
 use crate::evidence::Placed;
 use crate::kind::{is_activate, is_auto, is_precharge, is_same_bank};
@@ -27,15 +28,72 @@ pub(crate) fn history_of(history: &[Entry], command: &Command) -> BankHistory
     ensures changed { IsLastChange command.now history.now result.changed }
     ensures idle { IfNone result.changed (result.bank ≡ None) }
 {
-    let seen = walk(history, command);
+    let from = last_act(history, command);
+    let seen = walk(&history[from..], command);
     let changed = match seen.changed {
-        Some(place) => Some(placed(history, place)),
+        Some(place) => Some(placed(history, from + place)),
         None => None,
     };
     BankHistory {
         bank: seen.bank,
         changed,
     }
+}
+
+/// What the history makes of the bank that the command is for, as `history_of` without the entry that last changed it. It looks
+/// back no further than to the last entry that decides it.
+pub(crate) fn bank_of(history: &[Entry], command: &Command) -> Option<OpenBank>
+    ensures { result ≡ bank_behind command.now history.now }
+{
+    let from = last_decided(history, command);
+    walk(&history[from..], command).bank
+}
+
+/// The place of the last ACT of the bank that the command is for, and 0 where there is none. What stands before it leaves no
+/// mark on the bank.
+fn last_act(history: &[Entry], command: &Command) -> usize
+    ensures within { result ≤ length history.now }
+    ensures starts { StartsAtAct command.now history.now result }
+{
+    let mut earlier = history;
+    while let Some((last, before)) = earlier.split_last() {
+        if opens(last, command) {
+            return before.len();
+        }
+        earlier = before;
+    }
+    0
+}
+
+/// The place of the last ACT or precharge of the bank that the command is for, and 0 where there is none. What stands before it
+/// is nothing to what the bank is.
+fn last_decided(history: &[Entry], command: &Command) -> usize
+    ensures within { result ≤ length history.now }
+    ensures same { bank_behind command.now (drop result history.now) ≡ bank_behind command.now history.now }
+{
+    let mut earlier = history;
+    while let Some((last, before)) = earlier.split_last() {
+        if decides(last, command) {
+            return before.len();
+        }
+        earlier = before;
+    }
+    0
+}
+
+/// Whether the entry is an ACT of the bank that the command is for.
+fn opens(entry: &Entry, command: &Command) -> bool
+    ensures { result ≡ opens command.now entry.now }
+{
+    is_activate(&entry.command) && is_same_bank(&entry.command, command)
+}
+
+/// Whether the entry decides what the bank that the command is for is, whatever it was.
+fn decides(entry: &Entry, command: &Command) -> bool
+    ensures { result ≡ decides command.now entry.now }
+{
+    (is_activate(&entry.command) || is_precharge(&entry.command))
+        && is_same_bank(&entry.command, command)
 }
 
 /// The entry at the place.

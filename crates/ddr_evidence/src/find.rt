@@ -72,7 +72,12 @@ pub fn evidence_at_end(
 }
 
 /// That the entry stands too close behind an earlier one, if so.
-fn too_close(rule: Rule, history: &[Entry], entry: &Entry, timing: &Timing) -> Option<Evidence>
+pub(crate) fn too_close(
+    rule: Rule,
+    history: &[Entry],
+    entry: &Entry,
+    timing: &Timing,
+) -> Option<Evidence>
     ensures broken { is_some result ≡ pair_breaks timing.now rule history.now entry.now }
     ensures some { IfSome result (IsPair timing.now rule history.now entry.now) }
 {

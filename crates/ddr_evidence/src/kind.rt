@@ -3,6 +3,7 @@
 //! `ddr_trace` stands below, and the modules for each kind of rule above.
 ghost use Rattle.std.specs.Prelude.{◌≡◌, ◌&&◌};
 ghost use Rattle.ddr_trace.specs.Commands.{is_activate, is_auto, is_column, is_precharge, is_refresh, is_same_bank, is_same_rank};
+ghost use Rattle.ddr_trace.specs.Spacing.{is_of_kind};
 
 use ddr_trace::command::Command;
 use ddr_trace::spacing::{CommandKind, Scope, Spacing};
@@ -38,6 +39,21 @@ pub(crate) fn is_refresh(command: &Command) -> bool
     ensures { result ≡ is_refresh command.now }
 {
     matches!(command, Command::Refresh { .. })
+}
+
+/// Whether the command is of the kind.
+pub(crate) fn is_of_kind(kind: CommandKind, command: &Command) -> bool
+    ensures { result ≡ is_of_kind kind command.now }
+{
+    match kind {
+        CommandKind::Activate => is_activate(command),
+        CommandKind::Column => is_column(command),
+        CommandKind::Read => matches!(command, Command::Rd { .. } | Command::RdAuto { .. }),
+        CommandKind::Write => matches!(command, Command::Wr { .. } | Command::WrAuto { .. }),
+        CommandKind::Precharge => is_precharge(command),
+        CommandKind::Refresh => is_refresh(command),
+        CommandKind::Any => true,
+    }
 }
 
 /// Whether both are of one bank; PREA is of every bank of its rank.

@@ -8,6 +8,7 @@
 
 pub mod bank;
 mod bounds;
+pub mod broken;
 pub mod evidence;
 pub mod find;
 mod kind;

@@ -1,8 +1,8 @@
-//! The rule on when a REF is due.
+//! The rules on when a REF is due.
 //!
 //! `evidence`, `kind` and `ddr_trace` stand below, and `find` above.
 ghost use Rattle.std.specs.Prelude.{◌≡◌, ◌+◌, ◌*◌, ◌^◌, ◌≤◌, IfSome, MatchOption, is_some, nat_lt};
-ghost use Rattle.ddr_trace.specs.Rules.{breaks_ref_late, refresh_count};
+ghost use Rattle.ddr_trace.specs.Rules.{breaks_ref_gap, breaks_ref_late, refresh_count};
 ghost use Rattle.ddr_evidence.specs.declared.evidence.Evidence.TheVariants.{Late};
 ghost use Rattle.ddr_evidence.specs.Evidence.{IsLate};
 
@@ -10,6 +10,7 @@ use crate::evidence::Evidence;
 use crate::kind::{is_refresh, is_refresh_of_rank};
 use ddr_timing::timing::Timing;
 use ddr_trace::command::{Command, Entry};
+use ddr_trace::refresh::is_gap_too_long;
 
 /// Why the entry breaks REF_LATE, if it does.
 pub(crate) fn ref_late(
@@ -26,6 +27,23 @@ pub(crate) fn ref_late(
     }
     let (refreshes, due) = late(history, &entry.command, timing, start, entry.cycle)?;
     Some(Evidence::Late { refreshes, due })
+}
+
+/// Whether the entry is a REF too far behind the one before. It looks back no further than to that one.
+pub(crate) fn breaks_gap(history: &[Entry], entry: &Entry, timing: &Timing) -> bool
+    ensures { result ≡ breaks_ref_gap timing.now history.now entry.now }
+{
+    if !is_refresh(&entry.command) {
+        return false;
+    }
+    let mut earlier = history;
+    while let Some((last, before)) = earlier.split_last() {
+        if is_refresh_of_rank(&last.command, &entry.command) {
+            return is_gap_too_long(last.cycle, entry.cycle, timing);
+        }
+        earlier = before;
+    }
+    false
 }
 
 /// How many REFs of the command's rank the history has, and the deadline of the next one, where the cycle lies behind it.

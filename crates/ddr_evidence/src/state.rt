@@ -10,7 +10,7 @@ ghost use Rattle.ddr_evidence.specs.declared.evidence.Evidence.TheVariants.{Bank
 ghost use Rattle.ddr_evidence.specs.Evidence.{IsActiveBank, IsFirstBank, IsOwnBank, IsStartOf, IsStartOfRank, IsState, bank_test, is_behind_start, is_behind_start_of_rank};
 ghost use Rattle.ddr_evidence.specs.Places.{bank_at};
 
-use crate::bank::{BankHistory, clocks_since_start, history_of};
+use crate::bank::{BankHistory, bank_of, clocks_since_start, history_of};
 use crate::evidence::Evidence;
 use crate::kind::{is_activate, is_column, is_refresh};
 use ddr_timing::config::Config;
@@ -67,8 +67,8 @@ fn first_bank(
         (IsFirstBank config.now (bank_test test config.now.timing cycle) rank history.now) }
 {
     for number in 0..config.geometry.groups * GROUP_BANKS {
-        let seen = history_of(history, &bank_at(rank, number));
-        if test.holds(&seen.bank, cycle, &config.timing) {
+        let bank = bank_of(history, &bank_at(rank, number));
+        if test.holds(&bank, cycle, &config.timing) {
             return Some(number);
         }
     }
@@ -84,12 +84,12 @@ pub(crate) fn state(history: &[Entry], entry: &Entry, config: &Config) -> Option
     if is_refresh(command) {
         return active_bank(history, entry, config);
     }
-    let seen = history_of(history, command);
+    let bank = bank_of(history, command);
     let is_wrong = (is_activate(command)
-        && BankTest::Active.holds(&seen.bank, entry.cycle, &config.timing))
-        || (is_column(command) && !is_ready(&seen.bank));
+        && BankTest::Active.holds(&bank, entry.cycle, &config.timing))
+        || (is_column(command) && !is_ready(&bank));
     if is_wrong {
-        Some(own_bank(command, seen))
+        Some(own_bank(command, history_of(history, command)))
     } else {
         None
     }
@@ -118,9 +118,9 @@ pub(crate) fn row(history: &[Entry], entry: &Entry, timing: &Timing) -> Option<E
     ensures some { IfSome result (IsOwnBank history.now entry.now) }
 {
     let command = &entry.command;
-    let seen = history_of(history, command);
-    if is_column(command) && open_row(&seen.bank, entry.cycle, timing) != Some(row_of(command)) {
-        Some(own_bank(command, seen))
+    let bank = bank_of(history, command);
+    if is_column(command) && open_row(&bank, entry.cycle, timing) != Some(row_of(command)) {
+        Some(own_bank(command, history_of(history, command)))
     } else {
         None
     }
@@ -161,13 +161,12 @@ fn start_of(
     ensures broken { is_some result ≡ is_auto_within timing.now timing.now.rp entry.now.cycle (bank_behind command.now history.now) }
     ensures some { IfSome result (IsStartOf timing.now command.now history.now entry.now) }
 {
-    let seen = history_of(history, command);
-    let open = seen.bank?;
+    let open = bank_of(history, command)?;
     let auto = open.auto?;
-    let earlier = seen.changed?;
     if !open.is_auto_within(entry.cycle, timing) {
         return None;
     }
+    let earlier = history_of(history, command).changed?;
     Some(Evidence::TooCloseToStart {
         earlier,
         distance: clocks_since_start(&open, &auto, entry.cycle, timing),

@@ -1,0 +1,117 @@
+-- A bank by the entries from the last one on that decides it.
+use Rattle.std.proofs.Common.{◌≡◌, ℕ, zero, suc, ◌+◌, ◌-◌, ◌<◌, ◌≤◌, ◌⊎◌, inl, inr, Bool, true, false, ◌&&◌, ◌||◌, cond, List, [], ◌∷◌, ◌++◌, length, take, drop, Option, Some, None, refl, sym, subst, ap, ◌∙◌, arith, zero-add}
+use Rattle.std.specs.Prelude.{slice_get}
+use Rattle.std.specs.List.{fold}
+use Rattle.std.specs.Option.{option_map_or}
+use Rattle.std.proofs.Math.Seq.{take-append-add}
+use Rattle.std.proofs.lemmas.List.Sums.{fold-append}
+use Rattle.ddr_trace.specs.declared.bank.OpenBank.{OpenBank}
+use Rattle.ddr_trace.specs.declared.command.Command.{Command}
+use Rattle.ddr_trace.specs.declared.command.Entry.{Entry}
+use Rattle.ddr_trace.specs.Banks.{bank_after, bank_behind}
+use Rattle.ddr_trace.specs.Commands.{is_activate, is_auto, is_precharge, is_same_bank}
+use Rattle.ddr_evidence.specs.Places.{IsLast, IsLastChangeAt, changes, changes_at}
+use Rattle.ddr_evidence.specs.Recent.{StartsAtAct, decides, opens}
+use Rattle.ddr_evidence.proofs.PlaceLemmas.{IsSplit, rest_is, split_more}
+
+-- what an entry that decides makes of a bank, whatever it was
+no_matter : (act pre same : Bool) (x y z b n : Option OpenBank) → ((act || pre) && same) ≡ true → cond same (cond act x (cond pre None y)) b ≡ cond same (cond act x (cond pre None z)) n
+no_matter true pre true x y z b n e = refl
+no_matter true pre false x y z b n e = cc
+no_matter false true true x y z b n e = refl
+no_matter false true false x y z b n e = cc
+no_matter false false same x y z b n e = cc
+
+decided : (command : Command) (bank : Option OpenBank) (a : Entry) → decides command a ≡ true → bank_after command bank a ≡ bank_after command None a
+decided command bank a is = no_matter (is_activate a.command) (is_precharge a.command) (is_same_bank a.command command) _ _ _ _ _ is
+
+-- so what stands before it is nothing to the bank
+bank_from : (command : Command) (before : List Entry) (a : Entry) (rest : List Entry) → decides command a ≡ true → bank_behind command (a ∷ rest) ≡ bank_behind command (before ++ a ∷ rest)
+unfolding bank_behind
+bank_from command before a rest is =
+    ap (λ b. fold (bank_after command) b rest) (sym (decided command (fold (bank_after command) None before) a is))
+    ∙ sym (fold-append (bank_after command) None before (a ∷ rest))
+
+pub bank_here : (command : Command) (history earlier before : List Entry) (last : Entry) → IsSplit history earlier → earlier ≡ before ++ last ∷ [] → decides command last ≡ true
+    → bank_behind command (drop (length before) history) ≡ bank_behind command history
+bank_here command history earlier before last split e is =
+    ap (bank_behind command) (rest_is history earlier before last split e)
+    ∙ bank_from command before last (drop (length earlier) history) is
+    ∙ sym (ap (bank_behind command) (split_more history earlier before last split e))
+
+-- ---- from an ACT on
+
+opens_decides : (act pre same : Bool) → (act && same) ≡ true → ((act || pre) && same) ≡ true
+opens_decides true pre same e = e
+opens_decides false pre same e = cc
+
+act_changes : (act same u : Bool) → (act && same) ≡ true → (same && (act || u)) ≡ true
+act_changes true true u e = refl
+act_changes true false u e = cc
+act_changes false same u e = cc
+
+-- the entry at a place, and what stands before it and behind it
+parts : (history : List Entry) (from : ℕ) (a : Entry) → slice_get history from ≡ Some a → (drop from history ≡ a ∷ drop (from + 1) history) × (history ≡ take from history ++ a ∷ drop (from + 1) history) × (length (take from history) ≡ from)
+parts [] from a e = cc
+parts (x ∷ history) zero a e = let same : x ≡ a = cc in (ap (λ y. y ∷ history) same, ap (λ y. y ∷ history) same, refl)
+parts (x ∷ history) (suc from) a e =
+    let r = parts history from a e in
+    let next : suc (from + 1) ≡ suc from + 1 = omega arith in
+    (r.0 ∙ ap (λ n. a ∷ drop n (x ∷ history)) next, ap (λ h. x ∷ h) r.1 ∙ ap (λ n. x ∷ (take from history ++ a ∷ drop n (x ∷ history))) next, ap suc r.2)
+
+get_behind : (before ys : List Entry) (p : ℕ) → slice_get (before ++ ys) (length before + p) ≡ slice_get ys p
+get_behind [] ys p = ap (slice_get ys) (zero-add p)
+get_behind (x ∷ before) ys p =
+    let next : suc (length before) + p ≡ suc (length before + p) = omega arith in
+    ap (slice_get (x ∷ before ++ ys)) next ∙ get_behind before ys p
+
+-- which entry changes the bank is told by the entries from the ACT on
+change_from : (command : Command) (before : List Entry) (a : Entry) (rest : List Entry) → opens command a ≡ true → (p : ℕ) → changes_at command (before ++ a ∷ rest) (length before + p) ≡ changes_at command (a ∷ rest) p
+change_from command before a rest is zero =
+    let here = get_behind before (a ∷ rest) zero in
+    let always : (b : Option OpenBank) → (is_same_bank a.command command && changes a b) ≡ true = λ b. act_changes (is_activate a.command) (is_same_bank a.command command) _ is in
+    ap (λ o. option_map_or (λ x. is_same_bank x.command command && changes x (bank_behind command (take (length before + zero) (before ++ a ∷ rest)))) o false) here
+    ∙ always (bank_behind command (take (length before + zero) (before ++ a ∷ rest)))
+    ∙ sym (always (bank_behind command []))
+change_from command before a rest is (suc q) =
+    let decided = opens_decides (is_activate a.command) (is_precharge a.command) (is_same_bank a.command command) is in
+    ap (λ o. option_map_or (λ x. is_same_bank x.command command && changes x (bank_behind command (take (length before + suc q) (before ++ a ∷ rest)))) o false) (get_behind before (a ∷ rest) (suc q))
+    ∙ ap (λ b. option_map_or (λ x. is_same_bank x.command command && changes x b) (slice_get rest q) false)
+    (ap (bank_behind command) (take-append-add before (a ∷ rest) (suc q)) ∙ sym (bank_from command before a (take q rest) decided))
+
+change_shift : (command : Command) (history : List Entry) (from : ℕ) → StartsAtAct command history from → (p : ℕ) → changes_at command history (from + p) ≡ changes_at command (drop from history) p
+change_shift command history from (inl e) p =
+    let same : from + p ≡ p = omega (arith, e) in
+    ap (changes_at command history) same ∙ ap (λ n. changes_at command (drop n history) p) (sym e)
+change_shift command history from (inr (a, at, is)) p =
+    let r = parts history from a at in
+    ap (λ n. changes_at command history (n + p)) (sym r.2)
+    ∙ ap (λ h. changes_at command h (length (take from history) + p)) r.1
+    ∙ change_from command (take from history) a (drop (from + 1) history) is p
+    ∙ sym (ap (λ h. changes_at command h p) r.0)
+
+pub bank_started : (command : Command) (history : List Entry) (from : ℕ) → StartsAtAct command history from → bank_behind command (drop from history) ≡ bank_behind command history
+bank_started command history from (inl e) = rw e refl
+bank_started command history from (inr (a, at, is)) =
+    let r = parts history from a at in
+    let decided = opens_decides (is_activate a.command) (is_precharge a.command) (is_same_bank a.command command) is in
+    ap (bank_behind command) r.0 ∙ bank_from command (take from history) a (drop (from + 1) history) decided ∙ sym (ap (bank_behind command) r.1)
+
+-- the last change from there on is the last of all
+pub last_started : (command : Command) (history : List Entry) (from place : ℕ) → StartsAtAct command history from → IsLast (changes_at command (drop from history)) place → IsLast (changes_at command history) (from + place)
+last_started command history from place starts found = record {
+  passes = change_shift command history from starts place ∙ found.passes;
+  last = λ later above.
+  let same : later ≡ from + (later - from) = omega arith in
+  ap (changes_at command history) same ∙ change_shift command history from starts (later - from) ∙ found.last (later - from) (omega arith);
+}
+
+-- and where there is none from there on, there is none
+pub none_started : (command : Command) (history : List Entry) (from : ℕ) → StartsAtAct command history from → ((place : ℕ) → changes_at command (drop from history) place ≡ false) → (place : ℕ) → changes_at command history place ≡ false
+none_started command history from (inl e) none place = rw e at none place
+none_started command history from (inr (a, at, is)) none place =
+    let r = parts history from a at in
+    let first = none 0 in
+    let here : changes_at command (drop from history) 0 ≡ true =
+    ap (λ h. changes_at command h 0) r.0 ∙ act_changes (is_activate a.command) (is_same_bank a.command command) _ is in
+    absurd (cc)
