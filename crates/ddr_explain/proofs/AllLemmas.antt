@@ -45,14 +45,18 @@ flat_map-range f a (suc n) =
 flat_map-below : {X : Type 0} (f : ℕ → List X) (n : ℕ) → flat_map f (range_with_len 0 (suc n)) ≡ flat_map f (range_with_len 0 n) ++ f n
 flat_map-below f n = flat_map-range f 0 n ∙ ap (λ k. flat_map f (range_with_len 0 n) ++ f k) (zero-add n)
 
-pub place_more : (c : Config) (start end : ℕ) (entries : List Entry) (place : ℕ) (d : Entry) (old new : List Fault) → place < length entries
-    → new ≡ old ++ map (fault_at place) (filter (λ r. breaks c start end r (take place entries) (get_or entries place d)) ALL)
+pub place_more : (c : Config) (start end : ℕ) (entries : List Entry) (place : ℕ) (old new : List Fault) → new ≡ old ++ faults_at c start end entries place
     → old ≡ flat_map (faults_at c start end entries) (range_with_len 0 place) → new ≡ flat_map (faults_at c start end entries) (range_with_len 0 (place + 1))
-place_more c start end entries place d old new within added so_far =
-    added ∙ ap (λ fs. fs ++ map (fault_at place) (filter (λ r. breaks c start end r (take place entries) (get_or entries place d)) ALL)) so_far
-    ∙ ap (λ (o : Option Entry). flat_map (faults_at c start end entries) (range_with_len 0 place) ++ map (fault_at place) (filter (λ r. breaks_where c start end entries o place r) ALL)) (sym (slice_get-get_or entries place d within))
+place_more c start end entries place old new added so_far =
+    added ∙ ap (λ fs. fs ++ faults_at c start end entries place) so_far
     ∙ sym (flat_map-below (faults_at c start end entries) place)
     ∙ ap (λ n. flat_map (faults_at c start end entries) (range_with_len 0 n)) (sym (add-one place))
+
+-- the faults at a place, by the entry there
+pub faults_here : (c : Config) (start end : ℕ) (entries : List Entry) (place : ℕ) (d : Entry) → place < length entries
+    → map (fault_at place) (filter (λ r. breaks c start end r (take place entries) (get_or entries place d)) ALL) ≡ faults_at c start end entries place
+faults_here c start end entries place d within =
+    ap (λ (o : Option Entry). map (fault_at place) (filter (λ r. breaks_where c start end entries o place r) ALL)) (sym (slice_get-get_or entries place d within))
 
 -- a place at which none is broken
 pub place_kept : (c : Config) (start end : ℕ) (entries : List Entry) (place : ℕ) (old : List Fault) → ((r : Rule) → breaks_at c start end entries place r ≡ false)

@@ -1,12 +1,12 @@
 //! Every fault of a trace.
 //!
 //! `ddr_evidence`, `ddr_legality` and `ddr_trace` stand below, and `all` above.
-ghost use Rattle.std.specs.Prelude.{◌≡◌, ◌++◌, IfOk, OnOk, filter, map};
-ghost use Rattle.ddr_trace.specs.declared.rule.TheConstants.Rule.{ALL};
-ghost use Rattle.ddr_trace.specs.Rules.{breaks};
-ghost use Rattle.ddr_explain.specs.AllFaults.{all_faults, fault_at, faults_at, told_of};
+ghost use Rattle.std.specs.Prelude.{◌≡◌, ◌<◌, ◌++◌, IfOk, OnOk, length};
+ghost use Rattle.ddr_evidence.specs.Recent.{IsReach};
+ghost use Rattle.ddr_explain.specs.AllFaults.{all_faults, faults_at, told_of};
 
-use ddr_evidence::find::{evidence_at_end, evidence_of};
+use ddr_evidence::broken::{breaks, reach_of};
+use ddr_evidence::find::evidence_at_end;
 use ddr_legality::checker::kept_places;
 use ddr_timing::config::Config;
 use ddr_trace::checker::Fault;
@@ -15,7 +15,8 @@ use ddr_trace::rule::Rule;
 use std::alloc::{AllocError, Global};
 
 /// Every fault of the trace, in the order of the places, and at a place in that of the rules. The trace goes from `start` to
-/// `end`, which is the first cycle behind it. A place that is known to break none costs no look at its history.
+/// `end`, which is the first cycle behind it. A place that is known to break none costs no look at its history, and
+/// any other mostly a look at its newest entries.
 pub fn all_faults(
     alloc: Global,
     entries: &[Entry],
@@ -26,11 +27,11 @@ pub fn all_faults(
     ensures { IfOk result (λ faults. faults.items ≡ all_faults config.now start end entries.now) }
 {
     let kept = kept_places(alloc, entries, config, start, end)?;
+    let reach = reach_of(alloc, entries)?;
     let mut faults = Vec::new(alloc);
-    for (place, entry) in entries.iter().enumerate() {
+    for place in 0..entries.len() {
         if !kept[place] {
-            let history = &entries[..place];
-            add_faults(&mut faults, place, history, entry, config, start, end)?;
+            add_faults(&mut faults, place, entries, reach.as_slice(), config, start, end)?;
         }
     }
     if evidence_at_end(entries, config, start, end).is_some() {
@@ -46,17 +47,20 @@ pub fn all_faults(
 fn add_faults(
     faults: &mut Vec<Fault>,
     place: usize,
-    history: &[Entry],
-    entry: &Entry,
+    entries: &[Entry],
+    reach: &[u64],
     config: &Config,
     start: u64,
     end: u64,
 ) -> Result<(), AllocError>
-    ensures { OnOk result (faults.new.items
-        ≡ faults.old.items ++ map (fault_at place) (filter (λ r. breaks config.now start end r history.now entry.now) ALL)) }
+    requires within { place < length entries.now }
+    requires reach { IsReach entries.now reach.now }
+    ensures { OnOk result (faults.new.items ≡ faults.old.items ++ faults_at config.now start end entries.now place) }
 {
+    let history = &entries[..place];
+    let entry = &entries[place];
     for rule in Rule::ALL {
-        if evidence_of(rule, history, entry, config, start, end).is_some() {
+        if breaks(rule, history, reach, entry, config, start, end) {
             faults.push(Fault { place, rule })?;
         }
     }

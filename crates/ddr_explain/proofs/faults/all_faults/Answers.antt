@@ -15,7 +15,7 @@ loop-place-preserved c =
     let items = c.in_ok-kept.kept.items in
     elim c.if-not-index.branch [
       | then-not-index+in_ok-add_faults w ↦
-          rw w.faults-is (place_more a.config.now a.start a.end a.entries.now place _ c.loop-place.faults.items w.add_faults.new.faults.items c.loop-place-test.true w.in_ok-add_faults.ensures c.loop-place.invariant)
+          rw w.faults-is (place_more a.config.now a.start a.end a.entries.now place c.loop-place.faults.items w.add_faults.new.faults.items w.in_ok-add_faults.ensures c.loop-place.invariant)
       | else-not-index w ↦
           let within : place < length items = omega (arith, c.in_ok-kept.kept.ok.0, c.in_ok-kept.ensures.each) in
           let is : c.index.result.now ≡ true = w.if-not-index.false in
