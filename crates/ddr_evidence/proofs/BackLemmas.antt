@@ -102,8 +102,8 @@ pub last_started : (command : Command) (history : List Entry) (from place : ℕ)
 last_started command history from place starts found = record {
   passes = change_shift command history from starts place ∙ found.passes;
   last = λ later above.
-  let same : later ≡ from + (later - from) = omega arith in
-  ap (changes_at command history) same ∙ change_shift command history from starts (later - from) ∙ found.last (later - from) (omega arith);
+      let same : later ≡ from + (later - from) = omega arith in
+      ap (changes_at command history) same ∙ change_shift command history from starts (later - from) ∙ found.last (later - from) (omega arith);
 }
 
 -- and where there is none from there on, there is none

@@ -1,11 +1,10 @@
 -- An entry that stands far enough behind an earlier one breaks no rule with it.
-use Rattle.std.proofs.Common.{◌≡◌, ℕ, zero, suc, ◌+◌, ◌-◌, ◌<◌, ◌≤◌, Bool, true, false, ◌&&◌, ◌||◌, cond, nat_lt, List, [], ◌∷◌, take, drop, length, Option, Some, None, refl, sym, ap, subst, ◌∙◌, arith}
+use Rattle.std.proofs.Common.{◌≡◌, ℕ, zero, suc, ◌+◌, ◌-◌, ◌<◌, ◌≤◌, Bool, true, false, ◌&&◌, ◌||◌, cond, nat_lt, List, [], ◌∷◌, take, drop, Option, Some, None, refl, sym, ap, subst, ◌∙◌, arith}
 use Rattle.std.specs.Prelude.{max, not, ◌==◌, slice_get}
-use Rattle.std.specs.List.{All, count_by, list_any, slice_index_or}
+use Rattle.std.specs.List.{All, count_by, list_any}
 use Rattle.std.specs.Option.{option_map_or}
 use Rattle.std.proofs.lemmas.Bool.Decides.{nat_tests}
-use Rattle.std.proofs.lemmas.List.Elements.{All-head, All-same, All-tail, All-weaker}
-use Rattle.std.proofs.lemmas.List.{length-take, take-take}
+use Rattle.std.proofs.lemmas.List.Elements.{All-head, All-tail, All-weaker}
 use Rattle.ddr_timing.specs.declared.timing.Timing.{Timing}
 use Rattle.ddr_timing.specs.declared.units.TheConstants.{BURST_CLOCKS}
 use Rattle.ddr_trace.specs.declared.command.Command.{Command}
@@ -15,7 +14,7 @@ use Rattle.ddr_trace.specs.declared.rule.Rule.TheVariants as rule
 use Rattle.ddr_trace.specs.Commands.{is_activate, is_column, is_read, is_refresh, is_same_rank}
 use Rattle.ddr_trace.specs.Rules.{is_switched_too_soon, is_too_close, latency, rank_switch, some_earlier, spacing_of, speaks_of}
 use Rattle.ddr_evidence.specs.Places.{are_breaking, breaks_from, counts, pair_breaks}
-use Rattle.ddr_evidence.specs.Recent.{IsReach, is_later, is_of_near, span_of}
+use Rattle.ddr_evidence.specs.Recent.{is_later, is_of_near, span_of}
 use Rattle.ddr_evidence.proofs.FindLemmas.{pair_kept}
 
 -- ---- a command that is not the later one of a pair
@@ -120,15 +119,3 @@ pair_behind t rule.RefGap history e k near far = cc
 pair_behind t r history e k near far =
     any_behind (λ a. is_too_close (spacing_of t r) a e) k history
     (All-weaker (IsFar t r e) (λ a. is_too_close (spacing_of t r) a e ≡ false) (λ a here. none_far t r e a 0 near here) (take k history) far)
-
--- ---- the reach of a trace is one of each of its histories
-
-pub reach_before : (history : List Entry) (reach : List ℕ) (n : ℕ) → IsReach history reach → IsReach (take n history) reach
-reach_before history reach n whole = record {
-  long = let short = length-take n history in let long = whole.long in omega (arith, short, long);
-  above = λ place below.
-  let short = length-take n history in
-  let inside : place < length history = omega (arith, short, below) in
-  let same : take (place + 1) (take n history) ≡ take (place + 1) history = take-take (place + 1) n history (omega (arith, short, below)) in
-  All-same (λ (a : Entry). a.cycle ≤ slice_index_or reach place 0) _ _ same (whole.above place inside);
-}

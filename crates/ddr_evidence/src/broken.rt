@@ -1,7 +1,7 @@
-//! Whether an entry breaks a rule, by no more of its history than can tell it.
+//! Whether an entry breaks a rule, by no more of its history than tells it.
 //!
-//! An entry breaks most rules together with an earlier one that stands few clocks before it, or by what its bank is. So of a long
-//! history mostly its newest entries tell: `Reach` bounds what stands before them. `find`, `refresh` and `kind` stand below.
+//! Most rules an entry breaks by what its bank is, or together with an earlier one that stands few clocks before it. So of a long
+//! history the newest entries mostly tell; a trace's reach says which of them. `find`, `refresh`, `state` and `kind` stand below.
 ghost use Rattle.std.specs.Prelude.{◌≡◌, ◌+◌, ◌≤◌, All, IfOk, length, take, true};
 ghost use Rattle.ddr_trace.specs.Rules.{breaks, spacing_of};
 ghost use Rattle.ddr_evidence.specs.Places.{pair_breaks};
@@ -65,13 +65,7 @@ pub fn breaks(
 }
 
 /// Whether the entry stands too close behind an earlier one.
-fn breaks_pair(
-    rule: Rule,
-    history: &[Entry],
-    reach: &[u64],
-    entry: &Entry,
-    timing: &Timing,
-) -> bool
+fn breaks_pair(rule: Rule, history: &[Entry], reach: &[u64], entry: &Entry, timing: &Timing) -> bool
     requires reach { IsReach history.now reach.now }
     requires rule { is_of_near rule ≡ true }
     ensures { result ≡ pair_breaks timing.now rule history.now entry.now }

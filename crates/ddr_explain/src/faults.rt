@@ -31,7 +31,15 @@ pub fn all_faults(
     let mut faults = Vec::new(alloc);
     for place in 0..entries.len() {
         if !kept[place] {
-            add_faults(&mut faults, place, entries, reach.as_slice(), config, start, end)?;
+            add_faults(
+                &mut faults,
+                place,
+                entries,
+                reach.as_slice(),
+                config,
+                start,
+                end,
+            )?;
         }
     }
     if evidence_at_end(entries, config, start, end).is_some() {
