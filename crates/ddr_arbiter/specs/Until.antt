@@ -35,6 +35,10 @@ pub record IsCandidate (c : Served) (waiting : List Waiting) (place : ℕ) (w : 
   pub passes : is_candidate c waiting place ≡ true
   pub here : slice_get waiting place ≡ Some w
 
+-- some candidate is for this place
+abbrev pub HasCandidateAt : Served → List Waiting → Place → Type 0
+HasCandidateAt c waiting p = (place : ℕ) × (w : Waiting) × IsCandidate c waiting place w × (w.request.place ≡ p)
+
 -- so for each candidate of the place's bank
 abbrev pub IsBankStuckUntil : ℕ → Bus → Served → List Waiting → Bool → Place → Type 0
 IsBankStuckUntil end b c waiting room p =

@@ -128,6 +128,7 @@ pub(crate) fn is_same_kind(kind: Kind, other: Kind) -> bool
 }
 
 /// Whether no older request has the line of the request at the place, and its rank is not forced.
+#[inline(always)]
 pub(crate) fn is_free(forced: &Forced, pending: &Pending, place: usize) -> bool
     requires inside { All (λ w. IsInRank w.request.place) pending.now.waiting }
     requires place { place < length pending.now.waiting }
@@ -138,9 +139,13 @@ pub(crate) fn is_free(forced: &Forced, pending: &Pending, place: usize) -> bool
 
 /// Whether the rank of the request at the place is not forced.
 fn is_of_free_rank(forced: &Forced, pending: &Pending, place: usize) -> bool
-    requires { All (λ w. IsInRank w.request.place) pending.now.waiting }
+    requires inside { All (λ w. IsInRank w.request.place) pending.now.waiting }
+    requires place { place < length pending.now.waiting }
     ensures { result ≡ is_of_unmarked_rank forced.now pending.now.waiting place }
 {
+    if !forced[0] && !forced[1] {
+        return true;
+    }
     match pending.get(place) {
         Some((request, _)) => !forced[request.place.rank as usize],
         None => false,

@@ -106,6 +106,7 @@ pub fn command_of(pending: &Pending, choice: Choice) -> Option<Command>
 }
 
 /// Whether the command is legal now.
+#[inline(always)]
 pub(crate) fn may(legality: &Legality, command: Command) -> bool
     ensures { result ≡ is_legal_now legality.entry.now.bus command }
 {

@@ -3,7 +3,7 @@
 //! Where no command is issued, what it looks at changes by itself in four ways: a refresh falls due, the oldest request
 //! reaches the cap, an auto-precharge closes a bank, and a distance to an earlier command is kept. The first two end what is
 //! known of the candidates. Of the others the legality tells the first cycle of each command, once for each bank.
-ghost use Rattle.std.specs.Prelude.{◌≡◌, ℕ, ◌<◌, ◌≤◌, None, Bool, List, All, length};
+ghost use Rattle.std.specs.Prelude.{◌≡◌, ℕ, ◌<◌, ◌≤◌, None, Some, Bool, List, All, length};
 ghost use Rattle.ddr_timing.specs.declared.units.TheConstants.{CLOCK_STOP};
 ghost use Rattle.ddr_trace.specs.Banks.{bank_behind, ready_row};
 ghost use Rattle.ddr_hazards.specs.declared.pending.TheConstants.{RANKS};
@@ -13,7 +13,10 @@ ghost use Rattle.ddr_arbiter.specs.declared.candidates.Served.{Served};
 ghost use Rattle.ddr_arbiter.specs.Commands as commands;
 ghost use Rattle.ddr_arbiter.specs.Quiet.{IsQuietUntil};
 ghost use Rattle.ddr_arbiter.specs.Situation.{situation};
-ghost use Rattle.ddr_arbiter.specs.Until.{AreSteadyUntil, AreStuckUntil, IsAgeSteadyUntil, IsBankStuckUntil, IsCandidate, IsStuckUntil};
+ghost use Rattle.ddr_legality.specs.Bus.{Bus};
+ghost use Rattle.ddr_arbiter.specs.Choice.{is_open_row_wanted, open_row_at};
+ghost use Rattle.ddr_arbiter.specs.Served.{places_of};
+ghost use Rattle.ddr_arbiter.specs.Until.{AreSteadyUntil, AreStuckUntil, HasCandidateAt, IsAgeSteadyUntil, IsBankStuckUntil, IsCandidate, IsStuckUntil};
 
 use crate::banks::{BANKS, bank_number};
 use crate::candidates::{Served, candidates, is_free, is_same_kind};
@@ -166,12 +169,13 @@ fn bank_until(
     requires inside { All (λ w. IsInRank w.request.place) pending.now.waiting }
     requires count { candidates.now.count ≤ length pending.now.waiting }
     requires at { IsInRank at }
+    requires here { HasCandidateAt candidates.now pending.now.waiting at }
     ensures { IsBankStuckUntil result legality.entry.now.bus candidates.now pending.now.waiting room at }
 {
     let Some(row) = legality.ready_row(at.rank, at.group, at.bank) else {
         return idle_until(legality, at);
     };
-    if !is_wanted(pending, candidates, at, row) {
+    if !is_row_wanted(pending, candidates, at, row) {
         return legality.allowed_at(precharge_at(at));
     }
     if !room {
@@ -179,6 +183,21 @@ fn bank_until(
     }
     let first = Place { row, line: 0, ..at };
     legality.allowed_at(column_at(false, candidates.kind, first))
+}
+
+/// Whether a candidate wants this row, which is open in the bank of the place, where some candidate is for this place: it may be
+/// that one.
+fn is_row_wanted(pending: &Pending, candidates: &Served, at: Place, row: u32) -> bool
+    requires inside { All (λ w. IsInRank w.request.place) pending.now.waiting }
+    requires count { candidates.now.count ≤ length pending.now.waiting }
+    requires at { IsInRank at }
+    requires here { HasCandidateAt candidates.now pending.now.waiting at }
+    ensures { (b : Bus) → open_row_at b at ≡ Some row → result ≡ is_open_row_wanted b pending.now.waiting (places_of candidates.now pending.now.waiting) at }
+{
+    if row == at.row {
+        return true;
+    }
+    is_wanted(pending, candidates, at, row)
 }
 
 /// A cycle before which nothing can be chosen for any request of the place's bank, which has no row for reads and writes: the

@@ -287,6 +287,7 @@ impl Issued {
     }
 
     /// The open row of a bank in this cycle, if it is active then. `None` also outside the geometry.
+    #[inline(always)]
     pub fn open_row(&self, cycle: u64, rank: u32, group: u32, bank: u32) -> Option<u32>
         ensures { (history : List Entry) → HasIssued self.now history
             → result ≡ open_row self.now.config.timing cycle (bank_behind (Pre rank group bank) history) }
@@ -298,6 +299,7 @@ impl Issued {
         }
     }
     /// The row of a bank that reads and writes find. `None` also outside the geometry.
+    #[inline(always)]
     pub fn ready_row(&self, rank: u32, group: u32, bank: u32) -> Option<u32>
         ensures { (history : List Entry) → HasIssued self.now history
             → result ≡ ready_row (bank_behind (Pre rank group bank) history) }

@@ -170,6 +170,7 @@ impl Legality {
     }
 
     /// The open row of a bank now, if it is active. `None` also outside the geometry.
+    #[inline(always)]
     pub fn open_row(&self, rank: u32, group: u32, bank: u32) -> Option<u32>
         ensures { result ≡ open_row_now self.entry.now.bus (Pre rank group bank) }
     {
@@ -178,6 +179,7 @@ impl Legality {
 
     /// The row of a bank that reads and writes find. It stays open as long as nothing is issued; the open row of a bank
     /// that has none is to be closed by an auto-precharge. `None` also outside the geometry.
+    #[inline(always)]
     pub fn ready_row(&self, rank: u32, group: u32, bank: u32) -> Option<u32>
         ensures { result ≡ ready_row (bank_behind (Pre rank group bank) self.entry.now.bus.trace) }
     {
