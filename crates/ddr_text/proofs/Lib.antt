@@ -1,5 +1,7 @@
 pub mod BodyLemmas
 pub mod CheckLemmas
+pub mod DigitLemmas
+pub mod FieldLemmas
 pub mod Inputs
 pub mod JobLemmas
 pub mod Lines

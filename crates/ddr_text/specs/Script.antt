@@ -108,6 +108,10 @@ of_fields ports _ = None
 abbrev pub fields_of : List ℕ → List (List ℕ)
 fields_of text = filter (λ field. nat_lt 0 (length field)) (slice_split (λ byte. byte == 32) text)
 
+-- what stands between two spaces is a field, unless nothing does
+abbrev pub kept_field : List ℕ → List (List ℕ)
+kept_field field = filter (λ field. nat_lt 0 (length field)) (field ∷ [])
+
 abbrev pub has_space_at_end : List ℕ → Bool
 has_space_at_end text = slice_index text 0 == 32 || slice_index text (length text - 1) == 32
 

@@ -3,15 +3,16 @@
 //! Below stand `ddr_timing`, `ddr_trace`, `ddr_legality` and `ddr_address_map`, and the words of `ddr_ports`; above stand
 //! `ddr_sim` and `ddr_run`, the two other commands, and `ddr_tool`, which performs what is asked for. `job` says which
 //! `command` the words of the command line ask for, with the texts of `help`. An input goes from module to module: `source`
-//! is where it comes from, `input` makes a text of its bytes, `body` takes the configuration off it, `script` reads a line
-//! and `instructions` a whole script, and `requests` looks for what no port takes. `check` and `map` are commands over a
-//! reader and a writer; `writing` gives text out, and `sink` is where it goes. `fault` is what can go wrong in a command,
-//! and `ending` what ends the program.
+//! is where it comes from, `input` makes a text of its bytes, `body` takes the configuration off it, `script` reads a line,
+//! whose numbers are read by `digits`, and `instructions` a whole script, and `requests` looks for what no port takes.
+//! `check` and `map` are commands over a reader and a writer; `writing` gives text out, and `sink` is where it goes. `fault`
+//! is what can go wrong in a command, and `ending` what ends the program.
 #![tactic(auto)]
 
 pub mod body;
 pub mod check;
 pub mod command;
+mod digits;
 pub mod ending;
 pub mod fault;
 mod help;

@@ -1,17 +1,18 @@
 //! The lines of a script.
 //!
-//! Nothing of the program stands below, and `ddr_trace` reads the numbers. A line that does something is an
+//! `digits` stands below, which reads the numbers, and `instructions` and `map` above. A line that does something is an
 //! instruction: a word and its fields, with one or more spaces between two. Other lines are empty, or comments, which
 //! begin with `#`.
-ghost use Rattle.std.specs.Prelude.{◌≡◌, ◌≤◌, ◌<◌, IfOk, map};
+ghost use Rattle.std.specs.Prelude.{◌≡◌, ◌≤◌, ◌<◌, ◌++◌, IfOk, map, take};
 ghost use Rattle.ddr_trace.specs.Numbers.{number_of};
 ghost use Rattle.ddr_text.specs.declared.script.LineError.TheVariants.{OutOfMemory};
 ghost use Rattle.ddr_text.specs.Lines.{Gives};
-ghost use Rattle.ddr_text.specs.Script.{LARGEST, bytes_of, cycle_of, enable_of, fields_of, instruction_of, is_skipped, just_bytes_of, masked_of, of_five, of_four, of_two, port_of, read_of, view, write_of};
+ghost use Rattle.ddr_text.specs.Script.{LARGEST, bytes_of, cycle_of, enable_of, fields_of, instruction_of, is_skipped, just_bytes_of, kept_field, masked_of, of_fields, of_five, of_four, of_two, port_of, read_of, view, write_of};
 
+use crate::digits::number_in;
+use arrayvec::ArrayVec;
 use ddr_address_map::request::Line;
 use ddr_timing::units::LINE_BYTES;
-use ddr_trace::number::parse_number;
 use hex::FromHexError;
 use std::alloc::{AllocError, AllocFailed, Global};
 
@@ -23,6 +24,9 @@ const MOST_WRITTEN: usize = 128;
 
 /// The most rounds that a line makes.
 const MOST_CYCLES: u64 = 1_000_000;
+
+/// The most fields of a line that are kept: one more than a line has that is read.
+const MOST_FIELDS: usize = 6;
 
 /// What a line of a script says to do.
 #[derive(Debug, Drop)]
@@ -92,8 +96,15 @@ pub fn parse_instruction(alloc: Global, ports: u32, line: &str) -> Result<Instru
     if line.starts_with(' ') || line.ends_with(' ') {
         return Err(LineError::AtFault);
     }
-    let fields = fields(alloc, line)?;
-    match fields.as_slice() {
+    let fields = fields(line);
+    parse_fields(alloc, ports, fields.as_slice())
+}
+
+/// Reads the fields of a line.
+fn parse_fields(alloc: Global, ports: u32, fields: &[&str]) -> Result<Instruction, LineError>
+    ensures { Gives view result (of_fields ports (map (λ field. field.now) fields.now)) }
+{
+    match fields {
         [word, count] => parse_two(word, count),
         [word, port, addr, last] => parse_four(alloc, ports, word, port, addr, last),
         [word, port, addr, enable, hex] => parse_five(alloc, ports, word, port, addr, enable, hex),
@@ -150,13 +161,27 @@ fn parse_five(
     }
 }
 
-/// What stands between the spaces of a line.
-fn fields(alloc: Global, line: &str) -> Result<Vec<&str>, AllocError>
-    ensures { IfOk result (λ v. map (λ field. field.now) v.items ≡ fields_of line.now) }
+/// What stands between the spaces of a line, up to the sixth field: a line with so many is at fault already.
+fn fields(line: &str) -> ArrayVec<&str, MOST_FIELDS>
+    ensures { map (λ field. field.now) result.items ≡ take MOST_FIELDS (fields_of line.now) }
 {
-    line.split(' ')
-        .filter(|field| !field.is_empty())
-        .collect(alloc)
+    let mut fields = ArrayVec::new();
+    let mut rest = line;
+    'fields: while let Some((field, behind)) = rest.split_once(' ') {
+        add_field(&mut fields, field);
+        rest = behind;
+    }
+    add_field(&mut fields, rest);
+    fields
+}
+
+/// Adds a field, unless it is empty or there is no room.
+fn add_field<'a>(fields: &mut ArrayVec<&'a str, MOST_FIELDS>, field: &'a str)
+    ensures { map (λ field. field.now) fields.new.items ≡ take MOST_FIELDS (map (λ field. field.now) fields.old.items ++ kept_field field.now) }
+{
+    if !fields.is_full() && !field.is_empty() {
+        fields.push(field);
+    }
 }
 
 #[tactic(auto, unfolding(crate::specs::Script::read_of))]
@@ -231,7 +256,7 @@ fn number_up_to(most: u64, field: &str) -> Result<u64, LineError>
     ensures said { Gives (λ n. n) result (number_of most field.now) }
     ensures most { IfOk result (λ n. n ≤ most) }
 {
-    parse_number(field.as_bytes(), most).ok_or(LineError::AtFault)
+    number_in(field.as_bytes(), most).ok_or(LineError::AtFault)
 }
 
 /// Of so many ports, the one that a field names.

@@ -1,11 +1,12 @@
-use Rattle.std.proofs.Common.{length, ltb, rules, lit<}
-use Rattle.std.proofs.lemmas.Iterator.Consumers.{YieldsList-at, YieldsList-from_filter, map_from_collect}
-use Rattle.std.proofs.lemmas.Iterator.Splits.{YieldsList-from_str_split}
+use Rattle.std.proofs.Common.{rules, lit<}
+use Rattle.ddr_text.proofs.FieldLemmas.{fields_last, fields_more}
 use Rattle.ddr_text.proofs.script.fields.Goals as goal
 
+pub fields-preserved : goal.fields-preserved
+fields-preserved c = record {
+  utf8 = search rules;
+  said = fields_more _ _ _ c.fields.rest.now c.in-Some.field.now c.in-Some.behind.now (c.in-Some.ensures.byte (lit< tt) (λ w o h. h)) c.add_field.ensures c.fields.invariant.said;
+}
+
 pub returns : goal.returns
-returns c =
-    map_from_collect _ c.collect.ensures.ran
-    (YieldsList-from_filter _ (λ field. ltb 0 (length field))
-    (YieldsList-at c.filter.ensures.source (YieldsList-from_str_split 32 c.args.line.now (lit< tt) c.split.ensures.text c.split.ensures.has_more c.split.ensures.pattern))
-    c.filter.ensures.closure (λ x b q h. search rules))
+returns c = fields_last _ _ _ c.fields.rest.now (c.in_default.ensures.byte (lit< tt) (λ w o h. h)) c.add_field-2.ensures c.fields.invariant.said
