@@ -1,4 +1,5 @@
 pub mod BodyLemmas
+pub mod CanonicalLemmas
 pub mod CheckLemmas
 pub mod DigitLemmas
 pub mod FieldLemmas

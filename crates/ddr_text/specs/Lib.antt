@@ -1,4 +1,5 @@
 pub mod Body
+pub mod Canonical
 pub mod Check
 pub mod Ending
 pub mod Fault

@@ -1,7 +1,7 @@
 //! Whether a trace is legal: a configuration and a trace's text in, a verdict out.
 //!
-//! `input`, `body`, `writing`, `ddr_legality` and `ddr_trace` stand below, and the program above. `ddr_explain` reads and
-//! judges a trace by the functions here.
+//! `input`, `body`, `canonical`, `writing`, `ddr_legality` and `ddr_trace` stand below, and the program above. `ddr_explain`
+//! reads and judges a trace by the functions here.
 ghost use Rattle.std.specs.Prelude.{◌≡◌, ◌≢◌, IfErr, IfOk, IfSome, IsErrOf, IsTrue, Ok, string_bytes};
 ghost use Rattle.ddr_trace.specs.declared.checker.Fault as checker;
 ghost use Rattle.ddr_trace.specs.Reader.{IsAnswer, records_in, trace_of};
@@ -9,6 +9,7 @@ ghost use Rattle.ddr_text.specs.Check.{HasCheckFault, IsChecked, IsVerdict, Says
 ghost use Rattle.ddr_text.specs.Fault.{is_before_output};
 
 use crate::body::open;
+use crate::canonical::canonical_trace;
 use crate::fault::Fault;
 use crate::input::{read_source, text_of};
 use crate::sink::Sink;
@@ -16,6 +17,7 @@ use crate::source::Source;
 use crate::writing::write_whole;
 use ddr_legality::checker::first_fault;
 use ddr_timing::config::Config;
+use ddr_timing::geometry::Geometry;
 use ddr_timing::profile::PROFILE_S;
 use ddr_trace::checker;
 use ddr_trace::reader::read_trace;
@@ -73,15 +75,19 @@ pub fn read_checked<R: Source>(
     let input = read_source(alloc, reader)?;
     let text = text_of(input.as_slice())?;
     let (config, body) = open(alloc, sample, text)?;
-    let trace = trace_in(alloc, body)?;
+    let trace = trace_in(alloc, &config.geometry, body)?;
     Ok((config, trace))
 }
 
-/// The trace of a body. Its text is in memory, and so it never fails as `Read`.
-fn trace_in(alloc: Global, body: &str) -> Result<Trace, TraceError>
+/// The trace of a body. Its text is in memory, and so it never fails as `Read`. The geometry has no say in the answer: a
+/// text in the form that is written, of commands in it, is read by the shorter way.
+fn trace_in(alloc: Global, geometry: &Geometry, body: &str) -> Result<Trace, TraceError>
     ensures read { IsAnswer (trace_of (records_in body.now)) result }
     ensures sure { IfErr result (λ refusal. refusal ≢ TraceError.Read) }
 {
+    if let Some(trace) = canonical_trace(alloc, geometry, body.as_bytes())? {
+        return Ok(trace);
+    }
     match read_trace(alloc, body.as_bytes()) {
         Ok(trace) => Ok(trace),
         Err(refusal) => Err(in_memory(refusal)),

@@ -1,0 +1,7 @@
+use Rattle.ddr_text.proofs.CanonicalLemmas.{precharge_said}
+use Rattle.ddr_text.proofs.canonical.take_precharge.Goals as goal
+
+pub returns : goal.returns
+returns c =
+    precharge_said c.args.text.now c.in_ok-rest.rest.now c.in_ok-bank.rest.now c.in_ok-rest-2.rest.now c.in_ok-bank.bank
+    c.in_ok-rest.ensures c.in_ok-bank.ensures c.in_ok-rest-2.ensures
