@@ -1,9 +1,10 @@
 //! A run of a script over the core: its instructions, its rounds and its Ends.
 //!
-//! `reply`, `ddr_text` and `ddr_world` stand below, and `sim` above.
+//! `line`, `reply`, `ddr_text` and `ddr_world` stand below, and `sim` above.
 ghost use Rattle.std.specs.Prelude.{◌≡◌, ◌==◌, ℕ, ◌+◌, ◌-◌, ◌<◌, ◌≤◌, ◌^◌, ◌⊎◌, [], true, false, IfErr, IfOk, IsErrOf, IsTrue, OnOk, Ok, Err, Some, None, map};
 ghost use Rattle.std.specs.Io.KnownBytes.{Appends};
 ghost use Rattle.ddr_ports.specs.Asked.{asked_of};
+ghost use Rattle.ddr_reorder.specs.Replies.{said};
 ghost use Rattle.ddr_world.specs.Answer.{IsAnswered};
 ghost use Rattle.ddr_world.specs.Events.{event_of};
 ghost use Rattle.ddr_world.specs.History.{front_of};
@@ -12,15 +13,18 @@ ghost use Rattle.ddr_world.specs.Kept.{state_of};
 ghost use Rattle.ddr_world.specs.Quiet.{passed};
 ghost use Rattle.ddr_world.specs.State.{IsDrained};
 ghost use Rattle.ddr_sim.specs.Quiet.{AreQuiet, HasMade};
+ghost use Rattle.ddr_sim.specs.Replies.{reply_text};
 ghost use Rattle.ddr_sim.specs.Rounds.{channel_served, channels_served, outstanding, port_served, ports_served, round, rounds, until_refused};
 ghost use Rattle.ddr_sim.specs.Runs.{all_followed, begun, channel_text, channels_ended, drained, followed, ports_ended, submitted, whole};
 ghost use Rattle.ddr_text.specs.Script.{view};
 ghost use Rattle.ddr_text.specs.Sink.{write_fault};
 ghost use Rattle.ddr_sim.specs.Simulated.{IsCycleFault, IsFrontPrinted, IsSameRun, Leads, added, is_popping, run_at};
 
+use crate::line::reply_line;
 use crate::reply::{refused_text, reply_text};
 use ddr_channel::channel::Channel;
 use ddr_ports::request::Request;
+use ddr_reorder::reply::Reply;
 use ddr_text::fault::Fault;
 use ddr_text::script::Instruction;
 use ddr_text::sink::Sink;
@@ -355,8 +359,7 @@ impl Simulation {
             return Ok(false);
         };
         if !self.silent {
-            let text = reply_text(alloc, port, &reply)?;
-            write_text(writer, text.as_str())?;
+            write_reply(alloc, port, &reply, writer)?;
         }
         Ok(true)
     }
@@ -453,6 +456,25 @@ fn text_of(alloc: Global, channel: &Channel) -> Result<Vec<u8>, Fault>
         Ok(()) => Ok(text),
         Err(_) => Err(Fault::OutOfMemory),
     }
+}
+
+/// Writes a reply as a line, at once. Where memory runs out nothing is written.
+fn write_reply<W: Sink>(
+    alloc: Global,
+    port: u32,
+    reply: &Reply<'_>,
+    writer: &mut W,
+) -> Result<(), Fault>
+    ensures written { OnOk result (Appends (W.contents writer.old) (W.contents writer.new) (reply_text port (said reply.now))) }
+    ensures taken { IsErrOf result Fault.Write → IsTrue W.may_fail }
+    ensures spared { IfErr result (λ fault. fault ≡ Fault.OutOfMemory → W.contents writer.new ≡ W.contents writer.old) }
+    ensures fault { IfErr result (λ fault. (fault ≡ Fault.Write) ⊎ (fault ≡ Fault.OutOfMemory)) }
+{
+    let Some(line) = reply_line(port, reply) else {
+        let text = reply_text(alloc, port, reply)?;
+        return write_text(writer, text.as_str());
+    };
+    writer.write_bytes(line.as_slice())
 }
 
 /// Writes bytes, and gives them on. Where memory runs out nothing is written.
