@@ -1,5 +1,5 @@
 -- A bank by the entries from the last one on that decides it.
-use Rattle.std.proofs.Common.{◌≡◌, ℕ, zero, suc, ◌+◌, ◌-◌, ◌<◌, ◌≤◌, ◌⊎◌, inl, inr, Bool, true, false, ◌&&◌, ◌||◌, cond, List, [], ◌∷◌, ◌++◌, length, take, drop, Option, Some, None, refl, sym, subst, ap, ◌∙◌, arith, zero-add}
+use Rattle.std.proofs.Common.{◌≡◌, ℕ, zero, suc, ◌+◌, ◌-◌, inl, inr, Bool, true, false, ◌&&◌, ◌||◌, cond, List, [], ◌∷◌, ◌++◌, length, take, drop, Option, Some, None, refl, sym, ap, ◌∙◌, arith, zero-add}
 use Rattle.std.specs.Prelude.{slice_get}
 use Rattle.std.specs.List.{fold}
 use Rattle.std.specs.Option.{option_map_or}
@@ -9,8 +9,8 @@ use Rattle.ddr_trace.specs.declared.bank.OpenBank.{OpenBank}
 use Rattle.ddr_trace.specs.declared.command.Command.{Command}
 use Rattle.ddr_trace.specs.declared.command.Entry.{Entry}
 use Rattle.ddr_trace.specs.Banks.{bank_after, bank_behind}
-use Rattle.ddr_trace.specs.Commands.{is_activate, is_auto, is_precharge, is_same_bank}
-use Rattle.ddr_evidence.specs.Places.{IsLast, IsLastChangeAt, changes, changes_at}
+use Rattle.ddr_trace.specs.Commands.{is_activate, is_precharge, is_same_bank}
+use Rattle.ddr_evidence.specs.Places.{IsLast, changes, changes_at}
 use Rattle.ddr_evidence.specs.Recent.{StartsAtAct, decides, opens}
 use Rattle.ddr_evidence.proofs.PlaceLemmas.{IsSplit, rest_is, split_more}
 

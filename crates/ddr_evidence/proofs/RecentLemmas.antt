@@ -1,5 +1,5 @@
 -- An entry that stands far enough behind an earlier one breaks no rule with it.
-use Rattle.std.proofs.Common.{◌≡◌, ℕ, zero, suc, ◌+◌, ◌-◌, ◌<◌, ◌≤◌, Bool, true, false, ◌&&◌, ◌||◌, cond, nat_lt, List, [], ◌∷◌, take, drop, Option, Some, None, refl, sym, ap, subst, ◌∙◌, arith}
+use Rattle.std.proofs.Common.{◌≡◌, ℕ, zero, suc, ◌+◌, ◌-◌, ◌≤◌, Bool, true, false, ◌&&◌, cond, nat_lt, List, [], ◌∷◌, take, drop, Option, Some, None, refl, arith}
 use Rattle.std.specs.Prelude.{max, not, ◌==◌, slice_get}
 use Rattle.std.specs.List.{All, count_by, list_any}
 use Rattle.std.specs.Option.{option_map_or}
@@ -13,7 +13,7 @@ use Rattle.ddr_trace.specs.declared.rule.Rule.{Rule}
 use Rattle.ddr_trace.specs.declared.rule.Rule.TheVariants as rule
 use Rattle.ddr_trace.specs.Commands.{is_activate, is_column, is_read, is_refresh, is_same_rank}
 use Rattle.ddr_trace.specs.Rules.{is_switched_too_soon, is_too_close, latency, rank_switch, some_earlier, spacing_of, speaks_of}
-use Rattle.ddr_evidence.specs.Places.{are_breaking, breaks_from, counts, pair_breaks}
+use Rattle.ddr_evidence.specs.Places.{are_breaking, counts, pair_breaks}
 use Rattle.ddr_evidence.specs.Recent.{is_later, is_of_near, span_of}
 use Rattle.ddr_evidence.proofs.FindLemmas.{pair_kept}
 

@@ -1,9 +1,9 @@
 -- Every fault of a trace, place by place.
-use Rattle.std.proofs.Common.{◌≡◌, ℕ, zero, suc, ◌+◌, ◌<◌, ◌≤◌, Bool, true, false, ◌&&◌, cond, List, [], ◌∷◌, ◌++◌, length, take, get_or, map, Option, Some, None, refl, sym, ap, subst, ◌∙◌, append_assoc, add-zero, zero-add, add-one, arith}
-use Rattle.std.specs.Prelude.{flat_map, ◌==◌, slice_get}
-use Rattle.std.specs.List.{All, filter, range_with_len}
+use Rattle.std.proofs.Common.{◌≡◌, ℕ, zero, suc, ◌+◌, ◌<◌, Bool, true, false, ◌&&◌, cond, List, [], ◌∷◌, ◌++◌, length, take, get_or, map, Option, refl, sym, ap, ◌∙◌, append_assoc, add-zero, zero-add, add-one, arith}
+use Rattle.std.specs.Prelude.{flat_map, ◌==◌}
+use Rattle.std.specs.List.{filter, range_with_len}
 use Rattle.std.proofs.lemmas.List.{append-nil, map-append}
-use Rattle.std.proofs.lemmas.List.Elements.{All-append, All-map, All-nil, All-take, filter_more, filter_passes}
+use Rattle.std.proofs.lemmas.List.Elements.{filter_more}
 use Rattle.std.proofs.lemmas.Option.{slice_get-get_or, slice_get_past}
 use Rattle.std.proofs.lemmas.Bool.Decides.{nat_tests}
 use Rattle.ddr_timing.specs.declared.config.Config.{Config}
@@ -14,7 +14,7 @@ use Rattle.ddr_trace.specs.declared.rule.Rule.TheVariants as rule
 use Rattle.ddr_trace.specs.declared.rule.TheConstants.Rule.{ALL}
 use Rattle.ddr_trace.specs.Legality.{breaks_at, breaks_at_end, breaks_where}
 use Rattle.ddr_trace.specs.Rules.{breaks, ends_late}
-use Rattle.ddr_explain.specs.AllFaults.{all_faults, fault_at, faults_at, told_of}
+use Rattle.ddr_explain.specs.AllFaults.{all_faults, fault_at, faults_at}
 
 pub filter_empty : {X : Type 0} (p : X → Bool) (xs : List X) → ((x : X) → p x ≡ false) → filter p xs ≡ []
 filter_empty p [] none = refl

@@ -1,10 +1,9 @@
 -- The last change, at its place.
-use Rattle.std.proofs.Common.{◌≡◌, ◌+◌, ◌<◌, drop, length, Some, subst, sym, arith, ◌∙◌}
+use Rattle.std.proofs.Common.{◌≡◌, drop, Some, subst, sym, ◌∙◌}
 use Rattle.std.specs.Prelude.{slice_get}
 use Rattle.std.proofs.lemmas.List.{take_rest}
 use Rattle.ddr_evidence.specs.Places.{IsLast, IsLastChangeAt, changes_at}
 use Rattle.ddr_evidence.proofs.BackLemmas.{bank_started, last_started, none_started}
-use Rattle.ddr_evidence.proofs.PlaceLemmas.{change_within}
 use Rattle.ddr_evidence.proofs.bank.history_of.Goals as goal
 
 pub returns-in-Some-clause-bank : goal.returns-in-Some-clause-bank

@@ -1,6 +1,6 @@
 -- The newest entry of what is left is such an ACT, or is passed.
-use Rattle.std.proofs.Common.{inl, inr, refl, sym, arith}
-use Rattle.ddr_evidence.proofs.PlaceLemmas.{get_here, left_length, split_next, split_whole}
+use Rattle.std.proofs.Common.{inl, inr, refl, sym}
+use Rattle.ddr_evidence.proofs.PlaceLemmas.{get_here, split_next, split_whole}
 use Rattle.ddr_evidence.proofs.bank.last_act.Goals as goal
 
 pub loop-last-init : goal.loop-last-init

@@ -1,7 +1,7 @@
 -- The newest entry of what is left is such an entry, or is passed.
-use Rattle.std.proofs.Common.{refl, sym, arith}
+use Rattle.std.proofs.Common.{refl, sym}
 use Rattle.ddr_evidence.proofs.BackLemmas.{bank_here}
-use Rattle.ddr_evidence.proofs.PlaceLemmas.{left_length, split_next, split_whole}
+use Rattle.ddr_evidence.proofs.PlaceLemmas.{split_next, split_whole}
 use Rattle.ddr_evidence.proofs.bank.last_decided.Goals as goal
 
 pub loop-last-init : goal.loop-last-init
