@@ -8,6 +8,7 @@ pub mod LatestLemmas
 pub mod MayLemmas
 pub mod NotedLemmas
 pub mod OpenLemmas
+pub mod PartLemmas
 pub mod PlaceLemmas
 pub mod ReadyLemmas
 pub mod RuleLemmas

@@ -277,7 +277,7 @@ stands_other r rank history s cycle c after placed other =
     }
 
 -- a list of blanks
-all_blank : {X : Type 0} (n : ℕ) (xs : List X) (d : X) → xs ≡ replicate n d → (i : ℕ) → slice_index_or xs i d ≡ d
+pub all_blank : {X : Type 0} (n : ℕ) (xs : List X) (d : X) → xs ≡ replicate n d → (i : ℕ) → slice_index_or xs i d ≡ d
 all_blank n xs d is i = rw is (blank n i)
   where
     blank : (n i : ℕ) → slice_index_or (replicate n d) i d ≡ d

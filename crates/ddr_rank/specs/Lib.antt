@@ -4,6 +4,7 @@ pub mod First
 pub mod Latest
 pub mod May
 pub mod Noted
+pub mod Parts
 pub mod Readiness
 pub mod Ready
 pub mod Stands

@@ -9,9 +9,6 @@ use Rattle.ddr_trace.specs.declared.command.Entry.{Entry}
 use Rattle.ddr_trace.specs.declared.rule.TheConstants.Rule.{ALL}
 use Rattle.ddr_trace.specs.Commands.{bank_of, entry, group_of}
 use Rattle.ddr_trace.specs.Rules.{breaks_spacing, is_too_close, spacing_of}
-use Rattle.ddr_rank.specs.declared.ready.Asks.{Asks}
-use Rattle.ddr_rank.specs.declared.ready.Near.{Near}
-use Rattle.ddr_rank.specs.declared.ready.Near.TheVariants.{OwnBank, OwnGroup, OtherGroup}
 use Rattle.ddr_rank.specs.declared.ready.Ready.{Ready}
 use Rattle.ddr_rank.specs.declared.ready.ReadyAll.{ReadyAll}
 
@@ -29,6 +26,12 @@ free = record { activate = 0; read = 0; write = 0; precharge = 0 }
 
 abbrev pub all_free : ReadyAll
 all_free = record { precharge = 0; refresh = 0 }
+
+-- where a bank stands, seen from a command
+pub data Near : Type 0 where
+  OwnBank : Near
+  OwnGroup : Near
+  OtherGroup : Near
 
 -- What an ACT asks of the next commands of a bank,
 abbrev pub asked_by_activate : Timing → Near → ℕ → Ready
@@ -85,6 +88,14 @@ asked_of_all t cycle (Pre rank group bank) = record all_free { refresh = after c
 asked_of_all t cycle (PreAll rank) = record all_free { refresh = after cycle t.rp }
 asked_of_all t cycle (Refresh rank) = record { precharge = after cycle t.rfc; refresh = after cycle t.rfc }
 
+-- what a command asks of each bank, by where the bank stands
+pub record Asks : Type 0 where
+  pub group : ℕ
+  pub bank : ℕ
+  pub own_bank : Ready
+  pub own_group : Ready
+  pub other_groups : Ready
+
 abbrev pub asks_of : Timing → Entry → Asks
 asks_of t e = record {
   group = group_of e.command;
@@ -92,7 +103,6 @@ asks_of t e = record {
   own_bank = asked_by t OwnBank e.cycle e.command;
   own_group = asked_by t OwnGroup e.cycle e.command;
   other_groups = asked_by t OtherGroup e.cycle e.command;
-  all = asked_of_all t e.cycle e.command;
 }
 
 abbrev pub asked_of : Asks → ℕ → ℕ → Ready

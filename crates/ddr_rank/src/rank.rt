@@ -18,11 +18,11 @@ ghost use Rattle.ddr_rank.specs.Stands.{IsAfter, StandsFor, lowest_on_rank};
 use crate::bank::Bank;
 use crate::cycles::behind;
 use crate::last::Last;
-use crate::ready::{Asks, Ready, ReadyAll};
+use crate::ready::{FirstCycles, Ready, ReadyAll, ReadyColumns};
 use circular_buffer::HeapCircularBuffer;
 use ddr_timing::bank::number_in_rank;
 use ddr_timing::config::Config;
-use ddr_timing::units::GROUP_BANKS;
+use ddr_timing::units::{GROUP_BANKS, MOST_GROUPS};
 use ddr_trace::command::{Command, Entry};
 use ddr_trace::rule::Rule;
 use std::alloc::{AllocError, Global};
@@ -48,9 +48,8 @@ pub struct Rank {
     activates: HeapCircularBuffer<u64>,
     // The first cycle in which the window of four ACTs has room for the next one.
     window: u64,
-    // Of bank b of group g, at g * GROUP_BANKS + b, the first cycles of its next commands.
-    ready: Vec<Ready>,
-    ready_all: ReadyAll,
+    // The first cycles of the next commands, as far as the rules on two commands go.
+    first_cycles: FirstCycles,
 }
 
 impl Model for Rank {
@@ -79,8 +78,11 @@ impl Rank {
             refresh: None,
             activates: HeapCircularBuffer::with_capacity(alloc, WINDOW)?,
             window: 0,
-            ready: vec![in alloc; Ready::FREE; groups * GROUP_BANKS as usize]?,
-            ready_all: ReadyAll::FREE,
+            first_cycles: FirstCycles {
+                banks: vec![in alloc; Ready::FREE; groups * GROUP_BANKS as usize]?,
+                columns: [ReadyColumns::FREE; MOST_GROUPS as usize],
+                all: ReadyAll::FREE,
+            },
         })
     }
 
@@ -244,12 +246,11 @@ impl Rank {
 
     /// Raises the first cycles of what comes next to what a command asks.
     fn raise(&mut self, entry: &Entry)
+        requires { IsTrue (is_in self.old.config.geometry entry.now.command) }
         ensures rest { self.new ≡ record self.old { ready = self.new.ready; ready_all = self.new.ready_all } }
         ensures raised { IsRaised self.old self.new entry.now }
     {
-        let asks = Asks::of(entry, &self.config.timing);
-        asks.raise(&mut self.ready, self.config.geometry.groups);
-        self.ready_all.raise(&asks.all);
+        self.first_cycles.raise(entry, &self.config);
     }
 
     /// What is kept of a bank.
@@ -261,13 +262,48 @@ impl Rank {
         &self.banks[number_in_rank(group, bank)]
     }
 
-    /// The first cycles of a bank's next commands.
-    fn ready(&self, group: u32, bank: u32) -> &Ready
+    /// The first cycle of a bank's next ACT.
+    #[inline]
+    fn ready_activate(&self, group: u32, bank: u32) -> u64
         requires group_in { group < self.now.config.geometry.groups }
         requires bank_in { bank < GROUP_BANKS }
-        ensures { result.now ≡ ready_at self.now group bank }
+        ensures { result ≡ (ready_at self.now group bank).activate }
     {
-        &self.ready[number_in_rank(group, bank)]
+        self.first_cycles.banks[number_in_rank(group, bank)].activate
+    }
+
+    /// The first cycle of a bank's next read: what its group keeps of reads and writes may be later than what the bank does.
+    #[inline]
+    fn ready_read(&self, group: u32, bank: u32) -> u64
+        requires group_in { group < self.now.config.geometry.groups }
+        requires bank_in { bank < GROUP_BANKS }
+        ensures { result ≡ (ready_at self.now group bank).read }
+    {
+        let first = &self.first_cycles;
+        let own = first.banks[number_in_rank(group, bank)].read;
+        own.max(first.columns[group as usize].read)
+    }
+
+    /// The first cycle of a bank's next write, in the same way.
+    #[inline]
+    fn ready_write(&self, group: u32, bank: u32) -> u64
+        requires group_in { group < self.now.config.geometry.groups }
+        requires bank_in { bank < GROUP_BANKS }
+        ensures { result ≡ (ready_at self.now group bank).write }
+    {
+        let first = &self.first_cycles;
+        let own = first.banks[number_in_rank(group, bank)].write;
+        own.max(first.columns[group as usize].write)
+    }
+
+    /// The first cycle of a bank's next precharge.
+    #[inline]
+    fn ready_precharge(&self, group: u32, bank: u32) -> u64
+        requires group_in { group < self.now.config.geometry.groups }
+        requires bank_in { bank < GROUP_BANKS }
+        ensures { result ≡ (ready_at self.now group bank).precharge }
+    {
+        self.first_cycles.banks[number_in_rank(group, bank)].precharge
     }
 
     /// The cycles of a group's last commands.

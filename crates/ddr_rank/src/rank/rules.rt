@@ -72,7 +72,7 @@ impl Rank {
                 row,
                 ..
             } => {
-                self.ready(group, bank).read <= cycle
+                self.ready_read(group, bank) <= cycle
                     && self.bank(group, bank).ready_row() == Some(row)
             }
             Command::Wr {
@@ -87,11 +87,11 @@ impl Rank {
                 row,
                 ..
             } => {
-                self.ready(group, bank).write <= cycle
+                self.ready_write(group, bank) <= cycle
                     && self.bank(group, bank).ready_row() == Some(row)
             }
-            Command::Pre { group, bank, .. } => self.ready(group, bank).precharge <= cycle,
-            Command::PreAll { .. } => self.ready_all.precharge <= cycle,
+            Command::Pre { group, bank, .. } => self.ready_precharge(group, bank) <= cycle,
+            Command::PreAll { .. } => self.first_cycles.all.precharge <= cycle,
             Command::Refresh { .. } => self.may_refresh(cycle),
         }
     }
@@ -100,7 +100,7 @@ impl Rank {
     fn may_refresh(&self, cycle: u64) -> bool
         ensures { result ≡ may_refresh self.now cycle }
     {
-        self.ready_all.refresh <= cycle
+        self.first_cycles.all.refresh <= cycle
             && !self.is_active(cycle)
             && !self.is_some_auto_within(cycle)
     }
@@ -111,7 +111,7 @@ impl Rank {
         requires bank_in { bank < GROUP_BANKS }
         ensures { result ≡ may_activate self.now cycle group bank }
     {
-        self.ready(group, bank).activate <= cycle
+        self.ready_activate(group, bank) <= cycle
             && self.window <= cycle
             && self.bank(group, bank).is_idle(cycle, &self.config.timing)
     }
@@ -125,14 +125,14 @@ impl Rank {
         match *command {
             Command::Act { group, bank, .. } => self.first_activate(group, bank),
             Command::Rd { group, bank, .. } | Command::RdAuto { group, bank, .. } => {
-                self.ready(group, bank).read
+                self.ready_read(group, bank)
             }
             Command::Wr { group, bank, .. } | Command::WrAuto { group, bank, .. } => {
-                self.ready(group, bank).write
+                self.ready_write(group, bank)
             }
-            Command::Pre { group, bank, .. } => self.ready(group, bank).precharge,
-            Command::PreAll { .. } => self.ready_all.precharge,
-            Command::Refresh { .. } => self.ready_all.refresh.max(self.behind_autos()),
+            Command::Pre { group, bank, .. } => self.ready_precharge(group, bank),
+            Command::PreAll { .. } => self.first_cycles.all.precharge,
+            Command::Refresh { .. } => self.first_cycles.all.refresh.max(self.behind_autos()),
         }
     }
 
@@ -143,7 +143,7 @@ impl Rank {
         ensures { result ≡ first_activate self.now group bank }
     {
         let idle = self.bank(group, bank).behind_auto(&self.config.timing);
-        self.ready(group, bank).activate.max(idle.max(self.window))
+        self.ready_activate(group, bank).max(idle.max(self.window))
     }
 
     /// RP behind the start of each bank's auto-precharge.

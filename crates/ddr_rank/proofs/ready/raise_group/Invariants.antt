@@ -7,7 +7,7 @@ use Rattle.ddr_rank.proofs.ready.raise_group.Given as goal
 abbrev pub invariant-loop-bank : goal.invariant-loop-bank
 invariant-loop-bank l = record {
   size : length l.banks ≡ length l.initial.banks;
-  done : (k : ℕ) → l.group * GROUP_BANKS ≤ k → k < l.group * GROUP_BANKS + l.bank → slice_index_or l.banks k free ≡ raised l.to (slice_index_or l.initial.banks k free);
+  done : (k : ℕ) → l.group * GROUP_BANKS ≤ k → k < l.group * GROUP_BANKS + l.bank → slice_index_or l.banks k free ≡ raised (record free { activate = l.to }) (slice_index_or l.initial.banks k free);
   below : (k : ℕ) → k < l.group * GROUP_BANKS → slice_index_or l.banks k free ≡ slice_index_or l.initial.banks k free;
   above : (k : ℕ) → l.group * GROUP_BANKS + l.bank ≤ k → slice_index_or l.banks k free ≡ slice_index_or l.initial.banks k free;
 }
