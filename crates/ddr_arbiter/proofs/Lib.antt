@@ -10,3 +10,4 @@ pub mod QuietLemmas
 pub mod RefreshLemmas
 pub mod RowLemmas
 pub mod StuckLemmas
+pub mod WaitLemmas

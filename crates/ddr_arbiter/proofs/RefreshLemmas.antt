@@ -16,17 +16,17 @@ use Rattle.ddr_refresh.specs.Refreshes.{Refreshes, debt_of, is_forced}
 use Rattle.ddr_arbiter.proofs.CommandLemmas.{legal_keeps}
 
 -- in a cycle that is out of order nothing is legal
-out_of_order : (b : Bus) (rank : ℕ) → breaks_order b.start (b.now + 1) b.trace (entry b.now (precharge_all rank)) ≡ true → is_legal_now b (precharge_all rank) ≡ false
+pub out_of_order : (b : Bus) (rank : ℕ) → breaks_order b.start (b.now + 1) b.trace (entry b.now (precharge_all rank)) ≡ true → is_legal_now b (precharge_all rank) ≡ false
 unfolding lowest_rule
 out_of_order b rank broken = rw broken refl
 
 -- nor is anything of a rank that is not there
-out_of_place : (b : Bus) (rank : ℕ) → breaks_order b.start (b.now + 1) b.trace (entry b.now (precharge_all rank)) ≡ false → ltb rank b.config.geometry.ranks ≡ false → is_legal_now b (precharge_all rank) ≡ false
+pub out_of_place : (b : Bus) (rank : ℕ) → breaks_order b.start (b.now + 1) b.trace (entry b.now (precharge_all rank)) ≡ false → ltb rank b.config.geometry.ranks ≡ false → is_legal_now b (precharge_all rank) ≡ false
 unfolding lowest_rule
 out_of_place b rank kept beyond = rw (kept, beyond) refl
 
 -- where the order is kept and some bank is active, STATE is the lowest rule that a REF breaks
-active_breaks_state : (b : Bus) (rank : ℕ) → breaks_order b.start (b.now + 1) b.trace (entry b.now (refresh rank)) ≡ false → ltb rank b.config.geometry.ranks ≡ true → some_bank_active b rank ≡ true →
+pub active_breaks_state : (b : Bus) (rank : ℕ) → breaks_order b.start (b.now + 1) b.trace (entry b.now (refresh rank)) ≡ false → ltb rank b.config.geometry.ranks ≡ true → some_bank_active b rank ≡ true →
     broken_now b (refresh rank) ≡ Some rule.State
 unfolding lowest_rule
 active_breaks_state b rank kept inside active = rw (kept, inside, active) refl

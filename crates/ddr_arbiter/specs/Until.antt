@@ -8,7 +8,8 @@ use Rattle.ddr_hazards.specs.Banks.{bank_number}
 use Rattle.ddr_hazards.specs.PendingList.{IsInRank}
 use Rattle.ddr_refresh.specs.Refreshes.{Refreshes, after_ticks, debt_of}
 use Rattle.ddr_arbiter.specs.declared.candidates.Served.{Served}
-use Rattle.ddr_arbiter.specs.Choice.{is_oldest_capped}
+use Rattle.ddr_arbiter.specs.declared.choice.Choice.TheVariants as choice
+use Rattle.ddr_arbiter.specs.Choice.{is_oldest_capped, refresh_choice_at}
 use Rattle.ddr_arbiter.specs.Commands.{column_at}
 use Rattle.ddr_arbiter.specs.Known.{AreInOneBank, HasNoStep}
 use Rattle.ddr_arbiter.specs.Served.{is_candidate, places_of}
@@ -20,6 +21,10 @@ AreSteadyUntil end now refreshes = (count : ℕ) → now + count < end → All (
 -- in each of them the oldest request has reached the cap exactly if it has now
 abbrev pub IsAgeSteadyUntil : ℕ → ℕ → ℕ → List Waiting → Type 0
 IsAgeSteadyUntil end now cap waiting = (count : ℕ) → now + count < end → is_oldest_capped (now + count) cap waiting ≡ is_oldest_capped now cap waiting
+
+-- in each of them neither a REF nor a PREA is chosen for the rank, if it has to be refreshed
+abbrev pub IsRefreshStuckUntil : ℕ → Bus → ℕ → Type 0
+IsRefreshStuckUntil end b rank = (count : ℕ) → b.now + count < end → refresh_choice_at (passed count b) rank ≡ choice.Nothing
 
 -- neither a read or a write, where there is room for one, nor an ACT or a PRE can be chosen for a candidate of the place
 abbrev pub IsStuck : Bus → Served → List Waiting → Bool → Place → Type 0

@@ -2,8 +2,9 @@
 //!
 //! Where no command is issued, what it looks at changes by itself in four ways: a refresh falls due, the oldest request
 //! reaches the cap, an auto-precharge closes a bank, and a distance to an earlier command is kept. The first two end what is
-//! known of the candidates. Of the others the legality tells the first cycle of each command, once for each bank.
-ghost use Rattle.std.specs.Prelude.{◌≡◌, ℕ, ◌<◌, ◌≤◌, None, Some, Bool, List, All, length};
+//! known of the candidates. Of the others the legality tells the first cycle of each command, once for each bank, and for each
+//! rank that has to be refreshed.
+ghost use Rattle.std.specs.Prelude.{◌≡◌, ℕ, ◌<◌, ◌≤◌, None, Some, Bool, true, false, List, All, length, slice_index_or};
 ghost use Rattle.ddr_timing.specs.declared.units.TheConstants.{CLOCK_STOP};
 ghost use Rattle.ddr_trace.specs.Banks.{bank_behind, ready_row};
 ghost use Rattle.ddr_hazards.specs.declared.pending.TheConstants.{RANKS};
@@ -16,18 +17,20 @@ ghost use Rattle.ddr_arbiter.specs.Situation.{situation};
 ghost use Rattle.ddr_legality.specs.Bus.{Bus};
 ghost use Rattle.ddr_arbiter.specs.Choice.{is_open_row_wanted, open_row_at};
 ghost use Rattle.ddr_arbiter.specs.Served.{places_of};
-ghost use Rattle.ddr_arbiter.specs.Until.{AreSteadyUntil, AreStuckUntil, HasCandidateAt, IsAgeSteadyUntil, IsBankStuckUntil, IsCandidate, IsStuckUntil};
+ghost use Rattle.ddr_arbiter.specs.Until.{AreSteadyUntil, AreStuckUntil, HasCandidateAt, IsAgeSteadyUntil, IsBankStuckUntil, IsCandidate, IsRefreshStuckUntil, IsStuckUntil};
 
 use crate::banks::{BANKS, bank_number};
 use crate::candidates::{Served, candidates, is_free, is_same_kind};
 use crate::commands::{activate_at, column_at, precharge_at};
 use crate::policy::Policy;
-use crate::refresh::forced_ranks;
+use crate::refresh::{Forced, forced_ranks};
 use crate::rows::is_wanted;
 use ddr_address_map::place::Place;
 use ddr_hazards::pending::Pending;
 use ddr_legality::legality::Legality;
 use ddr_refresh::debt::Debt;
+use ddr_trace::command::Command;
+use ddr_trace::rule::Rule;
 
 /// A cycle that no clock reaches.
 const NEVER: u64 = u64::MAX;
@@ -52,16 +55,42 @@ pub fn quiet_until(
 {
     let now = legality.now();
     let forced = forced_ranks(pending, debts);
-    if forced[0] || forced[1] {
-        return now;
-    }
-    let steady = steady_until(now, debts);
+    let steady = steady_until(now, debts)
+        .min(rank_until(legality, &forced, 0))
+        .min(rank_until(legality, &forced, 1));
     if pending.len() == 0 {
         return steady;
     }
     let end = steady.min(age_steady_until(pending, now, policy.cap));
     let candidates = candidates(pending, now, policy.cap, drain, &forced);
     stuck_until(pending, legality, &candidates, room, end)
+}
+
+/// A cycle before which neither a REF nor a PREA is chosen for the rank, if it has to be refreshed.
+fn rank_until(legality: &Legality, forced: &Forced, rank: u32) -> u64
+    requires { rank < RANKS }
+    ensures { slice_index_or forced.now rank false ≡ true → IsRefreshStuckUntil result legality.entry.now.bus rank }
+{
+    if forced[rank as usize] {
+        refresh_until(legality, rank)
+    } else {
+        NEVER
+    }
+}
+
+/// A cycle before which neither a REF nor a PREA can be chosen for the rank. A rank whose banks are all idle stays so, and waits
+/// for the first cycle of its REF.
+fn refresh_until(legality: &Legality, rank: u32) -> u64
+    ensures { IsRefreshStuckUntil result legality.entry.now.bus rank }
+{
+    let refresh = Command::Refresh { rank };
+    match legality.may(refresh) {
+        Ok(()) => legality.now(),
+        Err(rule) => match rule {
+            Rule::State | Rule::Order => legality.now(),
+            _ => legality.allowed_at(refresh),
+        },
+    }
 }
 
 /// A cycle before which no further refresh falls due.

@@ -1,5 +1,5 @@
 -- The candidate for the place wants the row itself.
-use Rattle.std.proofs.Common.{◌≡◌, Some, refl, sym, ap, ◌∙◌}
+use Rattle.std.proofs.Common.{sym, ap, ◌∙◌}
 use Rattle.std.proofs.lemmas.Bool.{eq-eqb}
 use Rattle.ddr_address_map.specs.declared.place.Place.{Place}
 use Rattle.ddr_arbiter.specs.Choice.{is_row_open}
