@@ -124,7 +124,7 @@ fn is_switched_soon(last: &Option<Entry>, entry: &Entry, timing: &Timing) -> boo
 }
 
 /// Whether the command is a read or a write.
-fn is_column(command: &Command) -> bool
+pub(crate) fn is_column(command: &Command) -> bool
     ensures { result ≡ is_column command.now }
 {
     matches!(

@@ -12,7 +12,7 @@ ghost use Rattle.ddr_rank.specs.Ready.{LAST_CYCLE, after};
 ghost use Rattle.ddr_rank.specs.Stands.{IsAfter, lowest_on_rank};
 ghost use Rattle.ddr_legality.specs.Columns.{columns_noted, switch_behind};
 
-use crate::columns::{Columns, Switch};
+use crate::columns::{Columns, Switch, is_column};
 use ddr_rank::rank::Rank;
 use ddr_timing::config::Config;
 use ddr_trace::command::{Command, Entry};
@@ -265,25 +265,24 @@ impl Issued {
         self.free = cycle_behind(entry.cycle);
         match entry.command.rank() {
             0 => {
-                self.second_switch = self.switch_behind(&self.first_columns, entry);
-                self.first_columns.note(entry);
+                note_column(
+                    &mut self.first_columns,
+                    &mut self.second_switch,
+                    entry,
+                    &self.config,
+                );
                 self.first.issue(entry.cycle, entry.command);
             }
             _ => {
-                self.first_switch = self.switch_behind(&self.second_columns, entry);
-                self.second_columns.note(entry);
+                note_column(
+                    &mut self.second_columns,
+                    &mut self.first_switch,
+                    entry,
+                    &self.config,
+                );
                 self.second.issue(entry.cycle, entry.command);
             }
         }
-    }
-
-    /// The first cycles that a rank's last read and write leave the other rank, with this entry of it.
-    fn switch_behind(&self, columns: &Columns, entry: &Entry) -> Switch
-        ensures { result ≡ switch_behind self.now.config.timing (columns_noted entry.now columns.now) }
-    {
-        let mut noted = *columns;
-        noted.note(entry);
-        noted.switch(&self.config.timing)
     }
 
     /// The open row of a bank in this cycle, if it is active then. `None` also outside the geometry.
@@ -309,6 +308,17 @@ impl Issued {
             1 => self.second.ready_row(group, bank),
             _ => None,
         }
+    }
+}
+
+/// Keeps a command of a rank, where it is a read or a write, and the first cycles that it then leaves the other rank.
+fn note_column(columns: &mut Columns, switch: &mut Switch, entry: &Entry, config: &Config)
+    ensures columns { columns.new ≡ columns_noted entry.now columns.old }
+    ensures switch { switch.old ≡ switch_behind config.now.timing columns.old → switch.new ≡ switch_behind config.now.timing columns.new }
+{
+    if is_column(&entry.command) {
+        columns.note(entry);
+        *switch = columns.switch(&config.timing);
     }
 }
 

@@ -32,6 +32,7 @@ impl Bank {
     };
 
     /// Keeps a command of the bank.
+    #[inline(always)]
     pub fn note(&mut self, entry: &Entry)
         ensures { self.new ≡ bank_noted entry.now self.old }
     {

@@ -40,6 +40,7 @@ impl Last {
     }
 
     /// Keeps the cycle of a command.
+    #[inline(always)]
     pub fn note(&mut self, entry: &Entry)
         ensures { self.new ≡ last_noted entry.now self.old }
     {

@@ -156,8 +156,29 @@ impl Rank {
             → StandsFor self.new (rank_of command) (history ++ entry cycle command ∷ []) }
     {
         let entry = Entry { cycle, command };
-        self.note(&entry);
-        self.raise(&entry);
+        match command {
+            Command::Act { .. } => self.keep(&entry),
+            Command::Rd { .. } => self.keep(&entry),
+            Command::Wr { .. } => self.keep(&entry),
+            Command::Pre { .. } => self.keep(&entry),
+            Command::RdAuto { .. }
+            | Command::WrAuto { .. }
+            | Command::PreAll { .. }
+            | Command::Refresh { .. } => self.keep(&entry),
+        }
+    }
+
+    /// Keeps the command and raises the first cycles of what comes next. It is built into each of its callers, where the kind of
+    /// the command is known.
+    #[inline(always)]
+    fn keep(&mut self, entry: &Entry)
+        requires { IsTrue (is_in self.old.config.geometry entry.now.command) }
+        ensures config { self.new.config ≡ self.old.config }
+        ensures stands { (history : List Entry) → StandsFor self.old (rank_of entry.now.command) history → IsAfter history entry.now.cycle
+            → StandsFor self.new (rank_of entry.now.command) (history ++ entry.now ∷ []) }
+    {
+        self.note(entry);
+        self.raise(entry);
     }
 
     /// The open row of a bank in this cycle, if it is active then. `None` also outside the geometry.
@@ -199,6 +220,7 @@ impl Rank {
     }
 
     /// Keeps what a later command is measured from.
+    #[inline(always)]
     fn note(&mut self, entry: &Entry)
         requires { IsTrue (is_in self.old.config.geometry entry.now.command) }
         ensures { self.new ≡ noted self.old entry.now }
@@ -215,6 +237,7 @@ impl Rank {
         }
     }
 
+    #[inline(always)]
     fn note_activate(&mut self, entry: &Entry, group: u32, bank: u32)
         requires group_in { group < self.old.config.geometry.groups }
         requires bank_in { bank < GROUP_BANKS }
@@ -226,6 +249,7 @@ impl Rank {
     }
 
     /// Keeps a command of one bank.
+    #[inline(always)]
     fn note_at(&mut self, entry: &Entry, group: u32, bank: u32)
         requires group_in { group < self.old.config.geometry.groups }
         requires bank_in { bank < GROUP_BANKS }
@@ -245,6 +269,7 @@ impl Rank {
     }
 
     /// Raises the first cycles of what comes next to what a command asks.
+    #[inline(always)]
     fn raise(&mut self, entry: &Entry)
         requires { IsTrue (is_in self.old.config.geometry entry.now.command) }
         ensures rest { self.new ≡ record self.old { ready = self.new.ready; ready_all = self.new.ready_all } }

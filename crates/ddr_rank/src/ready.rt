@@ -107,6 +107,7 @@ impl ReadyAll {
 
 impl FirstCycles {
     /// Raises them to what the command asks.
+    #[inline(always)]
     pub fn raise(&mut self, entry: &Entry, config: &Config)
         requires whole { length self.old.banks.items ≡ config.now.geometry.groups * GROUP_BANKS }
         requires placed { IsTrue (is_in config.now.geometry entry.now.command) }

@@ -1,5 +1,5 @@
 -- All is known of an entry as long as those before it were passed.
-use Rattle.std.proofs.Common.{◌≡◌, ◌+◌, ◌<◌, true, false, length, take, refl, sym, ◌∙◌, arith}
+use Rattle.std.proofs.Common.{take, sym, ◌∙◌, arith}
 use Rattle.ddr_legality.proofs.KeptLemmas.{count_bounded, flags_more, follows_before, follows_here, passed_more}
 use Rattle.ddr_legality.proofs.checker.kept_places.Goals as goal
 use Rattle.ddr_legality.proofs.checker.kept_places.Goals.{then-is_followed, else-is_followed, then-is_followed-2, else-is_followed-2}

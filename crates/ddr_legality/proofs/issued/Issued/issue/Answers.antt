@@ -18,11 +18,11 @@ returns-in-0-clause-issued c = λ history issued after.
       last = λ cycle. sym (last_cycle_below-append history e cycle);
       first = subst (λ n. StandsFor c.issue.new.self n (history ++ e ∷ [])) own (c.issue.ensures.stands history (subst (λ n. StandsFor i.first n history) (sym own) issued.first) after);
       second = stands_other i.second 1 history issued.second e.cycle e.command after (rw i.second_config c.requires) (rw own refl);
-      first_columns = rw c.note.ensures (columns_more 0 history i.first_columns e below (rw own refl) issued.first_columns);
+      first_columns = rw c.note_column.ensures.columns (columns_more 0 history i.first_columns e below (rw own refl) issued.first_columns);
       second_columns = columns_same 1 history i.second_columns e below (rw own refl) issued.second_columns;
       free = c.cycle_behind-self.ensures;
       first_switch = issued.first_switch;
-      second_switch = rw c.note.ensures c.switch_behind-self.ensures;
+      second_switch = c.note_column.ensures.switch issued.second_switch;
     }
 
 pub returns-in_default-clause-issued : goal.returns-in_default-clause-issued
@@ -37,8 +37,8 @@ returns-in_default-clause-issued c = λ history issued after.
       first = stands_other i.first 0 history issued.first e.cycle e.command after (rw i.first_config c.requires) (rw own refl);
       second = subst (λ n. StandsFor c.issue-in_default.new.self n (history ++ e ∷ [])) own (c.issue-in_default.ensures.stands history (subst (λ n. StandsFor i.second n history) (sym own) issued.second) after);
       first_columns = columns_same 0 history i.first_columns e below (rw own refl) issued.first_columns;
-      second_columns = rw c.note-in_default.ensures (columns_more 1 history i.second_columns e below (rw own refl) issued.second_columns);
+      second_columns = rw c.note_column-in_default.ensures.columns (columns_more 1 history i.second_columns e below (rw own refl) issued.second_columns);
       free = c.cycle_behind-self.ensures;
-      first_switch = rw c.note-in_default.ensures c.switch_behind-self-in_default.ensures;
+      first_switch = c.note_column-in_default.ensures.switch issued.first_switch;
       second_switch = issued.second_switch;
     }

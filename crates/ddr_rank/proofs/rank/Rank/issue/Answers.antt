@@ -1,7 +1,0 @@
-use Rattle.ddr_trace.specs.Commands.{entry}
-use Rattle.ddr_rank.proofs.NotedLemmas.{stands_after}
-use Rattle.ddr_rank.proofs.rank.Rank.issue.Goals as goal
-
-pub returns-clause-stands : goal.returns-clause-stands
-returns-clause-stands c = λ history stands after.
-    stands_after c.args.self.now _ history (entry c.args.cycle c.args.command) (rw (← c.note.ensures) c.raise.ensures.rest) (rw (← c.note.ensures) c.raise.ensures.raised) stands after c.requires
