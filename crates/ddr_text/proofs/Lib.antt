@@ -3,6 +3,7 @@ pub mod CanonicalLemmas
 pub mod CheckLemmas
 pub mod DigitLemmas
 pub mod FieldLemmas
+pub mod HexadecimalLemmas
 pub mod Inputs
 pub mod JobLemmas
 pub mod Lines

@@ -1,8 +1,8 @@
 //! The lines of a script.
 //!
-//! `digits` stands below, which reads the numbers, and `instructions` and `map` above. A line that does something is an
-//! instruction: a word and its fields, with one or more spaces between two. Other lines are empty, or comments, which
-//! begin with `#`.
+//! Below stand `digits`, which reads the numbers, and `hexadecimal`, which reads the bytes; above stand `instructions` and
+//! `map`. A line that does something is an instruction: a word and its fields, with one or more spaces between two. Other
+//! lines are empty, or comments, which begin with `#`.
 ghost use Rattle.std.specs.Prelude.{◌≡◌, ◌≤◌, ◌<◌, ◌++◌, IfOk, map, take};
 ghost use Rattle.ddr_trace.specs.Numbers.{number_of};
 ghost use Rattle.ddr_text.specs.declared.script.LineError.TheVariants.{OutOfMemory};
@@ -10,10 +10,10 @@ ghost use Rattle.ddr_text.specs.Lines.{Gives};
 ghost use Rattle.ddr_text.specs.Script.{LARGEST, bytes_of, cycle_of, enable_of, fields_of, instruction_of, is_skipped, just_bytes_of, kept_field, masked_of, of_fields, of_five, of_four, of_two, port_of, read_of, view, write_of};
 
 use crate::digits::number_in;
+use crate::hexadecimal::{decode, decode_into};
 use arrayvec::ArrayVec;
 use ddr_address_map::request::Line;
 use ddr_timing::units::LINE_BYTES;
-use hex::FromHexError;
 use std::alloc::{AllocError, AllocFailed, Global};
 
 /// The greatest length that a line reads.
@@ -274,10 +274,8 @@ fn port_of(ports: u32, field: &str) -> Result<u32, LineError>
 fn bytes(alloc: Global, field: &str) -> Result<Vec<u8>, LineError>
     ensures { Gives (λ v. v.items) result (bytes_of field.now) }
 {
-    let bytes = match hex::decode(alloc, field) {
-        Ok(bytes) => bytes,
-        Err(FromHexError::OutOfMemory) => return Err(LineError::OutOfMemory),
-        Err(_) => return Err(LineError::AtFault),
+    let Some(bytes) = decode(alloc, field.as_bytes())? else {
+        return Err(LineError::AtFault);
     };
     if bytes.is_empty() || bytes.len() > MOST_WRITTEN {
         return Err(LineError::AtFault);
@@ -290,9 +288,9 @@ fn line_of(field: &str) -> Result<Line, LineError>
     ensures { Gives (λ line. line) result (just_bytes_of LINE_BYTES field.now) }
 {
     let mut line = [0; LINE_BYTES];
-    match hex::decode_to_slice(field, &mut line) {
-        Ok(()) => Ok(line),
-        Err(_) => Err(LineError::AtFault),
+    match decode_into(field.as_bytes(), &mut line) {
+        Some(()) => Ok(line),
+        None => Err(LineError::AtFault),
     }
 }
 
@@ -301,8 +299,8 @@ fn enable_of(field: &str) -> Result<u64, LineError>
     ensures { Gives (λ enable. enable) result (enable_of field.now) }
 {
     let mut bytes = [0; 8];
-    match hex::decode_to_slice(field, &mut bytes) {
-        Ok(()) => Ok(u64::from_be_bytes(bytes)),
-        Err(_) => Err(LineError::AtFault),
+    match decode_into(field.as_bytes(), &mut bytes) {
+        Some(()) => Ok(u64::from_be_bytes(bytes)),
+        None => Err(LineError::AtFault),
     }
 }
