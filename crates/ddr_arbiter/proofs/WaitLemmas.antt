@@ -82,3 +82,14 @@ refresh_stuck b rank r first no_state no_order broken bound allowed = λ count b
 -- a cycle that is over
 pub none_before : (end : ℕ) (b : Bus) (rank : ℕ) → end ≤ b.now → IsRefreshStuckUntil end b rank
 none_before end b rank over = λ count before. absurd (omega (arith, over, before))
+
+-- before the first cycle of either neither is legal
+pub neither_legal : (b : Bus) (rank first refreshed precharged : ℕ) → first ≤ refreshed → first ≤ precharged → refreshed ≤ LAST_CYCLE → precharged ≤ LAST_CYCLE → IsAllowedFrom b (refresh rank) refreshed → IsAllowedFrom b (precharge_all rank) precharged →
+    IsRefreshStuckUntil first b rank
+neither_legal b rank first refreshed precharged by_refresh by_precharge bound bound_precharge may_refresh may_precharge = λ count before.
+    let no_refresh : is_legal_now (passed count b) (refresh rank) ≡ false = refused_before b (refresh rank) refreshed count bound may_refresh (omega (arith, before, by_refresh)) in
+    let no_precharge : is_legal_now (passed count b) (precharge_all rank) ≡ false = refused_before b (precharge_all rank) precharged count bound_precharge may_precharge (omega (arith, before, by_precharge)) in
+    elim (cases_Bool (some_bank_active (passed count b) rank)) [
+      | inl active ↦ rw (active, no_precharge) refl
+      | inr idle ↦ rw (idle, no_refresh) refl
+    ]

@@ -12,6 +12,7 @@ ghost use Rattle.ddr_hazards.specs.declared.waiting.Waiting.{Waiting};
 ghost use Rattle.ddr_hazards.specs.PendingList.{IsInRank};
 ghost use Rattle.ddr_arbiter.specs.declared.candidates.Served.{Served};
 ghost use Rattle.ddr_arbiter.specs.Commands as commands;
+ghost use Rattle.ddr_arbiter.specs.Forced.{must_refresh};
 ghost use Rattle.ddr_arbiter.specs.Quiet.{IsQuietUntil};
 ghost use Rattle.ddr_arbiter.specs.Situation.{situation};
 ghost use Rattle.ddr_legality.specs.Bus.{Bus};
@@ -23,7 +24,7 @@ use crate::banks::{BANKS, bank_number};
 use crate::candidates::{Served, candidates, is_free, is_same_kind};
 use crate::commands::{activate_at, column_at, precharge_at};
 use crate::policy::Policy;
-use crate::refresh::{Forced, forced_ranks};
+use crate::refresh::{Forced, forced_ranks, is_rank_forced};
 use crate::rows::is_wanted;
 use ddr_address_map::place::Place;
 use ddr_hazards::pending::Pending;
@@ -39,9 +40,36 @@ const NEVER: u64 = u64::MAX;
 type Asked = [bool; BANKS];
 
 /// A cycle before which nothing is chosen, in each cycle from the next one of the command bus on, as long as nothing is
-/// admitted, served or completed and the drain mode stays. It is no promise that something is chosen then. The parameters
-/// are those of `choose`.
+/// admitted, served or completed and the drain mode stays. It is no promise that something is chosen then: while a rank has
+/// to be refreshed it is that next cycle, and `still_until` tells more. The parameters are those of `choose`.
 pub fn quiet_until(
+    pending: &Pending,
+    legality: &Legality,
+    debts: &[Debt],
+    policy: &Policy,
+    drain: bool,
+    room: bool,
+) -> u64
+    requires admitted { All (λ w. w.admitted ≤ legality.now.bus.now) pending.now.waiting }
+    requires ranks { length debts.now ≤ RANKS }
+    ensures { IsQuietUntil result (situation pending.now legality.entry.now debts.now policy.now drain room) }
+{
+    if must_refresh(pending, debts) {
+        return legality.now();
+    }
+    still_until(pending, legality, debts, policy, drain, room)
+}
+
+/// Whether a rank has to be refreshed: it owes more refreshes than may be put off, or owes one with nothing pending for it.
+pub fn must_refresh(pending: &Pending, debts: &[Debt]) -> bool
+    ensures { result ≡ must_refresh pending.now.waiting debts.now }
+{
+    is_rank_forced(pending, debts, 0) || is_rank_forced(pending, debts, 1)
+}
+
+/// A cycle as `quiet_until` tells it, also while a rank has to be refreshed: one whose banks are idle waits for the first cycle of
+/// its REF. So a channel that goes by this one passes over such a wait too.
+pub fn still_until(
     pending: &Pending,
     legality: &Legality,
     debts: &[Debt],
@@ -61,6 +89,9 @@ pub fn quiet_until(
     if pending.len() == 0 {
         return steady;
     }
+    if steady <= now {
+        return now;
+    }
     let end = steady.min(age_steady_until(pending, now, policy.cap));
     let candidates = candidates(pending, now, policy.cap, drain, &forced);
     stuck_until(pending, legality, &candidates, room, end)
@@ -78,12 +109,16 @@ fn rank_until(legality: &Legality, forced: &Forced, rank: u32) -> u64
     }
 }
 
-/// A cycle before which neither a REF nor a PREA can be chosen for the rank. A rank whose banks are all idle stays so, and waits
-/// for the first cycle of its REF.
+/// A cycle before which neither a REF nor a PREA can be chosen for the rank: before the first cycle of either neither is legal. A
+/// rank whose banks are all idle stays so, and waits for the first cycle of its REF alone.
 fn refresh_until(legality: &Legality, rank: u32) -> u64
     ensures { IsRefreshStuckUntil result legality.entry.now.bus rank }
 {
     let refresh = Command::Refresh { rank };
+    let first = legality.allowed_at(Command::PreAll { rank });
+    if legality.now() < first {
+        return first.min(legality.allowed_at(refresh));
+    }
     match legality.may(refresh) {
         Ok(()) => legality.now(),
         Err(rule) => match rule {

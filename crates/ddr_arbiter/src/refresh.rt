@@ -28,7 +28,7 @@ pub(crate) fn forced_ranks(pending: &Pending, debts: &[Debt]) -> Forced
 }
 
 /// Whether the rank owes more refreshes than may be put off, or owes one with nothing pending for it.
-fn is_rank_forced(pending: &Pending, debts: &[Debt], rank: u32) -> bool
+pub(crate) fn is_rank_forced(pending: &Pending, debts: &[Debt], rank: u32) -> bool
     ensures { result ≡ is_rank_forced pending.now.waiting debts.now rank }
 {
     match debts.get(rank as usize) {

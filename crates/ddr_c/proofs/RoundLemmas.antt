@@ -1,12 +1,14 @@
 -- What rounds are made of, and that quiet ones only pass cycles.
-use Rattle.std.proofs.Common.{◌≡◌, ◌<◌, ◌≤◌, ◌-◌, ◌+◌, ℕ, zero, suc, Bool, true, false, cond, List, [], ◌∷◌, Option, Some, None, Result, Ok, Err, IsTrue, is_ok, All, length, map, drop, inl, inr, refl, sym, ap, subst, ◌∙◌, arith}
+use Rattle.std.proofs.Common.{◌≡◌, ◌<◌, ◌≤◌, ◌-◌, ◌+◌, ℕ, zero, suc, Bool, true, false, cond, List, [], ◌∷◌, Option, Some, None, Result, Ok, Err, IfSome, IsTrue, is_ok, All, length, map, drop, inl, inr, refl, sym, ap, subst, ◌∙◌, arith}
 use Rattle.std.specs.List.{slice_get, slice_set}
 use Rattle.std.specs.Option.{option_map, option_and_then, option_map_or}
 use Rattle.std.specs.Prelude.{◌||◌}
 use Rattle.std.proofs.lemmas.List.{length-drop, length-map, map-id}
 use Rattle.std.proofs.lemmas.List.Elements.{All-map}
-use Rattle.std.proofs.lemmas.Option.{slice_get_within}
+use Rattle.std.proofs.lemmas.Bool.{false≢true}
+use Rattle.std.proofs.lemmas.Option.{slice_get_within, slice_get-map}
 use Rattle.ddr_channel.proofs.ListLemmas.{All-at}
+use Rattle.ddr_channel.specs.Room.{wants_memory}
 use Rattle.ddr_channel.specs.State.{is_queue_full}
 use Rattle.ddr_address_map.specs.Requests.{Completion}
 use Rattle.ddr_address_map.specs.declared.request.Kind.TheVariants.{Read, Write}
@@ -17,14 +19,14 @@ use Rattle.ddr_world.specs.declared.event.Refusal.{Refusal}
 use Rattle.ddr_world.specs.declared.event.Refusal.TheVariants as refusal
 use Rattle.ddr_world.specs.declared.item.Item.{Item}
 use Rattle.ddr_world.specs.declared.item.Item.TheVariants as item
-use Rattle.ddr_world.specs.Answer.{IsAnswered, IsRefused}
+use Rattle.ddr_world.specs.Answer.{IsAnswered, IsRefused, Issues, MayWantMemory, WantsMemory}
 use Rattle.ddr_world.specs.Events.{Event, Submit, Take, Cycle, Deliver, Collect, Release, End}
-use Rattle.ddr_world.specs.Kept.{Kept, state_of}
+use Rattle.ddr_world.specs.Kept.{Kept, KeptSide, side_of, state_of}
 use Rattle.ddr_world.specs.Quiet.{IsQuiet, IsQuietFor, IsQuietSide, passed, side_passed}
 use Rattle.ddr_world.specs.State.{ChannelSide, PortSide, State, is_completion_queue_full}
 use Rattle.ddr_world.specs.Step.{IsRefusedFor, Step, made, with_port, with_channel, change_channel, taken, after_take, sent, after_deliver, deliver_to, push_completion, deliver_by, deliver, after_collect, collect_by, collect, step}
 use Rattle.ddr_world.proofs.QuietLemmas.{fewer_of_side, first_all, first_at, first_more, first_passed, side_quiet_on, some_side, step_cycle}
-use Rattle.ddr_c.specs.Rounds.{IsStopped, channel_served, channels_served, is_popping, items_of, made_state, ports_collected, repeated, round, rounds, until_refused}
+use Rattle.ddr_c.specs.Rounds.{IsCycleRefused, IsRoundRefused, IsStopped, channel_served, channels_served, is_popping, items_of, made_state, ports_collected, repeated, round, rounds, until_refused}
 
 -- what an event was answered
 
@@ -150,6 +152,35 @@ stopped_step cause c (Err name) is = inr refl
 pub stopped_by : (s popped : State) (c : ℕ) (cause : Refusal) → popped ≡ until_refused (Take c) s → IsRefusedFor cause (step popped (Cycle c)) → IsStopped cause (channel_served c s)
 stopped_by s popped c cause first is =
     subst (λ (t : State). IsStopped cause (option_map (until_refused (Deliver c)) (made_state (step t (Cycle c))))) first (stopped_step cause c (step popped (Cycle c)) is)
+
+-- memory was refused only to a cycle that issues a command
+
+turned : {A B : Type 0} → (A → B → ⊥) → B → A → ⊥
+turned f b a = f a b
+
+issued : (x : Option KeptSide) → IfSome x (λ side. IsTrue (wants_memory side.channel)) → IfSome (option_map side_of x) (λ side. Issues side.channel)
+issued None = λ wants. tt
+issued (Some side) = turned (λ nothing. rw nothing false≢true)
+
+may_want : (k : Kept) (c : ℕ) → WantsMemory k (Cycle c) → MayWantMemory (state_of k) (Cycle c)
+may_want k c wants = subst (λ (x : Option ChannelSide). IfSome x (λ side. Issues side.channel)) (sym (slice_get-map side_of k.channels c)) (issued (slice_get k.channels c) wants)
+
+pub cycle_refused : (before after : Kept) (s : State) (c : ℕ) (cause : Refusal) → state_of before ≡ until_refused (Take c) s → IsAnswered before after (Cycle c) (Err cause) → IsCycleRefused cause c s (state_of after)
+cycle_refused before after s c cause first a = record {
+  state = a.err ∙ first;
+  refused = subst (λ (t : State). IsRefusedFor cause (step t (Cycle c))) (sym a.err) a.refused;
+  memory = λ is. subst (λ (t : State). MayWantMemory t (Cycle c)) (sym a.err) (may_want before c (a.memory is));
+}
+
+-- one of a round's cycles was
+pub refused_at : (cause : Refusal) (config : Config) (s now after : State) (c n : ℕ) → channels_served c s ≡ Some now → c < n → n ≡ config.geometry.channels → IsCycleRefused cause c now after → IsRoundRefused cause config s after
+refused_at cause config s now after c n served within are is = record {
+  channel = c;
+  within = subst (λ (k : ℕ). c < k) are within;
+  before = now;
+  served = served;
+  cycle = is;
+}
 
 -- the channels before were served
 pub channel_more : (s now next : State) (c n : ℕ) → channels_served c s ≡ Some now → channel_served c now ≡ Some next → n ≡ suc c → channels_served n s ≡ Some next

@@ -22,7 +22,7 @@ use Rattle.ddr_c.specs.Codes.{answer_code, code_of, number_told}
 use Rattle.ddr_c.specs.Continues.{Continues}
 use Rattle.ddr_c.specs.Front.{IsNextOf}
 use Rattle.ddr_c.specs.Heads.{head_of}
-use Rattle.ddr_c.specs.Rounds.{IsStopped, rounds}
+use Rattle.ddr_c.specs.Rounds.{IsRefusedBehind, IsStopped, rounds}
 use Rattle.ddr_c.specs.Trace.{traced}
 
 -- the core that a slot holds, if it is open
@@ -43,11 +43,13 @@ pub record IsSubmitted (port : ℕ) (asked : Asked) (old new : ℕ) (told : ℤ)
   pub number : new ≡ number_told answer old
   pub continues : Continues before.world after.world
 
--- all of so many rounds were made, or fewer and the next one was refused
+-- all of so many rounds were made, or fewer and the next one was refused: for want of memory only where a channel's cycle issues a
+-- command, and the core is left in front of that cycle
 pub record IsAdvanced (count made : ℕ) (told : ℤ) (before after : Core) : Type 0 where
   pub stopped : Option Refusal
   pub whole : stopped ≡ None → (told ≡ code.OK) × (made ≡ count) × (rounds before.world.config count (state_of before.world) ≡ Some (state_of after.world))
   pub partly : IfSome stopped (λ cause. (told ≡ code_of cause) × (made < count) × IsStopped cause (rounds before.world.config (made + 1) (state_of before.world)))
+  pub refused : IfSome stopped (λ cause. IsRefusedBehind cause before.world.config made (state_of before.world) (state_of after.world))
   pub config : after.world.config ≡ before.world.config
   pub continues : Continues before.world after.world
 

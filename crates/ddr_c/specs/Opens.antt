@@ -26,9 +26,10 @@ IsOpened config told (Some core) = (told ≡ code.OK) × IsFresh config core
 abbrev pub IsRefusedText : List ℕ → Type 0
 IsRefusedText text = (¬ (IsUtf8 text)) ⊎ ((cause : ConfigError) × (refusal_of (parse_document text) ≡ Some cause))
 
--- the core is that of the configuration which the text is read as; or there is none, since the text is refused or memory was
+-- the core is that of the configuration which the text is read as; or there is none, since the text is refused, or it is UTF-8 and
+-- memory was refused
 abbrev pub IsOpening : List ℕ → ℤ → Option Core → Type 0
-IsOpening text told None = ((told ≡ code.CONFIG) × IsRefusedText text) ⊎ (told ≡ code.NO_MEMORY)
+IsOpening text told None = ((told ≡ code.CONFIG) × IsRefusedText text) ⊎ ((told ≡ code.NO_MEMORY) × IsUtf8 text)
 IsOpening text told (Some core) = (told ≡ code.OK) × ((config : Config) × IsReadAs (parse_document text) config × IsFresh config core)
 
 -- a text in front of what is there, as far as it fits

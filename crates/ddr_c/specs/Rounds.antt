@@ -1,9 +1,10 @@
 -- A round of the core, as a host's clock makes it, and so many of them.
-use Rattle.std.specs.Prelude.{◌≡◌, ℕ, suc, zero, length, slice_get, Bool, true, false, Option, Some, None, option_and_then, Ok, Err, ◌⊎◌}
+use Rattle.std.specs.Prelude.{◌≡◌, ◌<◌, ℕ, suc, zero, length, slice_get, Bool, true, false, Option, Some, None, option_and_then, Ok, Err, ◌⊎◌}
 use Rattle.std.specs.Option.{option_map, option_map_or}
 use Rattle.ddr_timing.specs.declared.config.Config.{Config}
 use Rattle.ddr_world.specs.declared.event.Refusal.{Refusal}
 use Rattle.ddr_world.specs.declared.event.Refusal.TheVariants.{OutOfMemory}
+use Rattle.ddr_world.specs.Answer.{IsRefused, MayWantMemory}
 use Rattle.ddr_world.specs.Events.{Event, Take, Cycle, Deliver, Collect}
 use Rattle.ddr_world.specs.State.{State}
 use Rattle.ddr_world.specs.Step.{Step, step}
@@ -63,3 +64,24 @@ rounds config (suc n) s = option_and_then (rounds config n) (round config s)
 -- why a part of a round was not made: memory was refused, or there is none to be made
 abbrev pub IsStopped : Refusal → Option State → Type 0
 IsStopped cause part = (cause ≡ OutOfMemory) ⊎ (part ≡ None)
+
+-- A channel's cycle was refused behind what the channel took, and the state is the one before that cycle. Memory was refused only
+-- where the cycle issues a command.
+pub record IsCycleRefused (cause : Refusal) (c : ℕ) (s after : State) : Type 0 where
+  pub state : after ≡ until_refused (Take c) s
+  pub refused : IsRefused cause (Cycle c) (step after (Cycle c))
+  pub memory : cause ≡ OutOfMemory → MayWantMemory after (Cycle c)
+
+-- of a round that begins in this state the channels before one of them had their parts, and its cycle was refused
+pub record IsRoundRefused (cause : Refusal) (config : Config) (s after : State) : Type 0 where
+  pub channel : ℕ
+  pub within : channel < config.geometry.channels
+  pub before : State
+  pub served : channels_served channel s ≡ Some before
+  pub cycle : IsCycleRefused cause channel before after
+
+-- exactly so many rounds were made, and the one behind them was refused
+pub record IsRefusedBehind (cause : Refusal) (config : Config) (made : ℕ) (s after : State) : Type 0 where
+  pub before : State
+  pub all : rounds config made s ≡ Some before
+  pub next : IsRoundRefused cause config before after

@@ -14,7 +14,7 @@ ghost use Rattle.ddr_world.specs.State.{opened};
 ghost use Rattle.ddr_world.specs.Told.{counts_of};
 ghost use Rattle.ddr_c.specs.Continues.{Continues};
 ghost use Rattle.ddr_c.specs.Front.{IsNextOf};
-ghost use Rattle.ddr_c.specs.Rounds.{IsStopped, channel_served, channels_served, is_popping, ports_collected, round, rounds, until_refused};
+ghost use Rattle.ddr_c.specs.Rounds.{IsCycleRefused, IsRefusedBehind, IsRoundRefused, IsStopped, channel_served, channels_served, is_popping, ports_collected, round, rounds, until_refused};
 
 use crate::stamps::Stamps;
 use ddr_address_map::request::Echo;
@@ -119,6 +119,7 @@ impl Core {
     pub(crate) fn rounds(&mut self, count: u64) -> Rounds
         ensures made { IfNone result.stopped ((result.made ≡ count) × (rounds self.old.world.config count (state_of self.old.world) ≡ Some (state_of self.new.world))) }
         ensures stopped { IfSome result.stopped (λ cause. (result.made < count) × IsStopped cause (rounds self.old.world.config (result.made + 1) (state_of self.old.world))) }
+        ensures refused { IfSome result.stopped (λ cause. IsRefusedBehind cause self.old.world.config result.made (state_of self.old.world) (state_of self.new.world)) }
         ensures config { self.new.world.config ≡ self.old.world.config }
         ensures continues { Continues self.old.world self.new.world }
     {
@@ -146,10 +147,11 @@ impl Core {
         ensures some { IfOk result (λ made. (0 < made) × (made ≤ most)) }
         ensures made { IfOk result (λ made. rounds self.old.world.config made (state_of self.old.world) ≡ Some (state_of self.new.world)) }
         ensures stopped { IfErr result (λ cause. IsStopped cause (round self.old.world.config (state_of self.old.world))) }
+        ensures refused { IfErr result (λ cause. IsRoundRefused cause self.old.world.config (state_of self.old.world) (state_of self.new.world)) }
         ensures config { self.new.world.config ≡ self.old.world.config }
         ensures continues { Continues self.old.world self.new.world }
     {
-        let quiet = self.world.quiet().min(most);
+        let quiet = self.world.still().min(most);
         if quiet == 0 {
             self.round()?;
             return Ok(1);
@@ -162,6 +164,7 @@ impl Core {
     fn round(&mut self) -> Result<(), Refusal>
         ensures made { OnOk result (round self.old.world.config (state_of self.old.world) ≡ Some (state_of self.new.world)) }
         ensures stopped { IfErr result (λ cause. IsStopped cause (round self.old.world.config (state_of self.old.world))) }
+        ensures refused { IfErr result (λ cause. IsRoundRefused cause self.old.world.config (state_of self.old.world) (state_of self.new.world)) }
         ensures config { self.new.world.config ≡ self.old.world.config }
         ensures continues { Continues self.old.world self.new.world }
     {
@@ -174,6 +177,7 @@ impl Core {
     fn serve_all(&mut self) -> Result<(), Refusal>
         ensures made { OnOk result (channels_served self.old.world.config.geometry.channels (state_of self.old.world) ≡ Some (state_of self.new.world)) }
         ensures stopped { IfErr result (λ cause. IsStopped cause (round self.old.world.config (state_of self.old.world))) }
+        ensures refused { IfErr result (λ cause. IsRoundRefused cause self.old.world.config (state_of self.old.world) (state_of self.new.world)) }
         ensures config { self.new.world.config ≡ self.old.world.config }
         ensures continues { Continues self.old.world self.new.world }
     {
@@ -198,6 +202,7 @@ impl Core {
     fn serve(&mut self, channel: u32) -> Result<(), Refusal>
         ensures served { OnOk result (channel_served channel (state_of self.old.world) ≡ Some (state_of self.new.world)) }
         ensures stopped { IfErr result (λ cause. IsStopped cause (channel_served channel (state_of self.old.world))) }
+        ensures refused { IfErr result (λ cause. IsCycleRefused cause channel (state_of self.old.world) (state_of self.new.world)) }
         ensures config { self.new.world.config ≡ self.old.world.config }
         ensures continues { Continues self.old.world self.new.world }
     {

@@ -39,6 +39,7 @@ use std::alloc::Global;
 use trace::{BusCommand, copy_from};
 
 /// Opens a core from a configuration's text. A refusal's text is copied as far as it fits, and `length` is its whole length.
+/// Memory may be refused of every text that is UTF-8: its table, the core and the text of a refusal lie in memory.
 #[unsafe(no_mangle)]
 pub extern "C" fn ddr_c_open(
     alloc: Global,
@@ -156,7 +157,7 @@ pub extern "C" fn ddr_c_quiet(alloc: Global, slot: &mut Slot, rounds: &mut u64) 
     OK
 }
 
-/// Makes rounds, and tells how many were made.
+/// Makes rounds, and tells how many were made. Memory is refused only to a cycle that issues a command.
 #[unsafe(no_mangle)]
 pub extern "C" fn ddr_c_rounds(alloc: Global, slot: &mut Slot, count: u64, made: &mut u64) -> i32
     ensures { Calls (held_in slot.old) (held_in slot.new) ((result ≡ CLOSED) × (made.new ≡ made.old)) (IsAdvanced count made.new result) }

@@ -15,7 +15,7 @@ ghost use Rattle.ddr_channel.specs.Cycle.{at_choice, drained, after_cycle};
 ghost use Rattle.ddr_channel.specs.History.{Call, Admit, Cycle, Pop, run};
 ghost use Rattle.ddr_channel.specs.Kept.{AgreesWith, state_of};
 ghost use Rattle.ddr_channel.specs.Promise.{StandsFor, IsNextAnswer};
-ghost use Rattle.ddr_channel.specs.Quiet.{IsQuiet, IsStillUntil, after_cycles, drain_after};
+ghost use Rattle.ddr_channel.specs.Quiet.{IsQuiet, IsStillUntil, after_cycles, drain_after, must_refresh};
 ghost use Rattle.ddr_channel.specs.Refresh.{KeepsRefreshes};
 ghost use Rattle.ddr_channel.specs.Room.{KeepsRoom, wants_memory};
 ghost use Rattle.ddr_channel.specs.Sound.{IsServed};
@@ -32,7 +32,7 @@ use ddr_address_map::request::{Done, Kind, Req};
 use ddr_arbiter::choice::{Choice, choose};
 use ddr_arbiter::commands::command_of;
 use ddr_arbiter::policy::Policy;
-use ddr_arbiter::quiet::quiet_until;
+use ddr_arbiter::quiet::{must_refresh, still_until};
 use ddr_hazards::pending::{Pending, RANKS};
 use ddr_legality::legality::Legality;
 use ddr_refresh::debt::Debt;
@@ -161,7 +161,7 @@ impl Channel {
         ensures { IsQuietUntil result (situation_of (at_choice (state_of self.entry.now))) }
     {
         let room = self.flight.len() + self.done.len() < self.config.limits.done as usize;
-        quiet_until(
+        still_until(
             &self.pending,
             &self.legality,
             &debts[..self.config.geometry.ranks as usize],
@@ -312,8 +312,33 @@ impl Channel {
     }
 
     /// How many cycles from now on are known to be quiet: nothing completes and nothing is issued in them, as long as
-    /// no other call comes between. There may be more.
+    /// no other call comes between. There may be more: none is told while a rank has to be refreshed, where `still` tells more.
     pub fn quiet(&self) -> u64
+        ensures { IsQuiet result (state_of self.entry.now) }
+    {
+        if self.must_refresh() {
+            return 0;
+        }
+        self.still()
+    }
+
+    /// Whether a rank has to be refreshed in the next cycle: it owes more refreshes than may be put off, or owes one with nothing
+    /// pending for it. None has where the clock is spent.
+    pub fn must_refresh(&self) -> bool
+        ensures { result ≡ must_refresh (state_of self.entry.now) }
+    {
+        if self.legality.now() == CLOCK_STOP {
+            return false;
+        }
+        let mut debts = self.debts;
+        tick(&mut debts);
+        let ranks = self.config.geometry.ranks as usize;
+        must_refresh(&self.pending, &debts[..ranks])
+    }
+
+    /// How many cycles from now on are known to be quiet, as `quiet` tells them, also while a rank whose banks are idle waits for its
+    /// REF. There may be more.
+    pub fn still(&self) -> u64
         ensures { IsQuiet result (state_of self.entry.now) }
     {
         let now = self.legality.now();

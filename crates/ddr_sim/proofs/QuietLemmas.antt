@@ -31,7 +31,7 @@ written_there (x ∷ xs) zero side within = refl
 written_there (x ∷ xs) (suc c) side within = written_there xs c side (omega (arith, within))
 
 -- an event that finds nothing to pop
-nothing_popped : (event : Event) (s : State) → items_of s event ≡ 0 → until_refused event s ≡ s
+pub nothing_popped : (event : Event) (s : State) → items_of s event ≡ 0 → until_refused event s ≡ s
 nothing_popped event s none = ap (λ n. repeated n event s) none
 
 -- a channel's part of a quiet round
@@ -46,7 +46,7 @@ channel_quiet c s side there is =
     ∙ ap (λ (r : Step). option_map (until_refused (Deliver c)) (made_state r)) (step_cycle s c side there is.channel.0.clock)
     ∙ ap (λ (t : State). Some t) (nothing_popped (Deliver c) next none_done)
 
-channels_quiet : (k : ℕ) (s : State) → k ≤ length s.channels → ((c : ℕ) (side : ChannelSide) → slice_get s.channels c ≡ Some side → IsQuietSide 1 side)
+pub channels_quiet : (k : ℕ) (s : State) → k ≤ length s.channels → ((c : ℕ) (side : ChannelSide) → slice_get s.channels c ≡ Some side → IsQuietSide 1 side)
     → channels_served k s ≡ Some (record s { channels = first_passed 1 k s.channels })
 channels_quiet zero s within is = refl
 channels_quiet (suc k) s within is =
@@ -59,7 +59,7 @@ channels_quiet (suc k) s within is =
 
 -- a port's part of a quiet round
 
-none_collected : (x : Option PortSide) → ((port : PortSide) → x ≡ Some port → port.completions ≡ []) → option_map_or (λ (port : PortSide). length port.completions) x 0 ≡ 0
+pub none_collected : (x : Option PortSide) → ((port : PortSide) → x ≡ Some port → port.completions ≡ []) → option_map_or (λ (port : PortSide). length port.completions) x 0 ≡ 0
 none_collected None none = refl
 none_collected (Some port) none = ap length (none port refl)
 
@@ -96,7 +96,7 @@ quiet_on config count s left are = record {
   most = omega (arith, are.most);
 }
 
-passed_more : (count : ℕ) (xs : List ChannelSide) → map (side_passed count) (map (side_passed 1) xs) ≡ map (side_passed (suc count)) xs
+pub passed_more : (count : ℕ) (xs : List ChannelSide) → map (side_passed count) (map (side_passed 1) xs) ≡ map (side_passed (suc count)) xs
 passed_more count [] = refl
 passed_more count (x ∷ xs) = ap (λ (ys : List ChannelSide). side_passed (suc count) x ∷ ys) (passed_more count xs)
 

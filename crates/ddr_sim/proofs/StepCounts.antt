@@ -43,19 +43,19 @@ Counts s event (Ok m) = Counted event (outstanding s) m.outcome (outstanding m.s
 Counts s event (Err cause) = Unit {0}
 
 -- at the side that a number has, if it has one
-at_port_has : (P : Step → Type 0) (s : State) (p : ℕ) (f : PortSide → Step) (o : Option PortSide) → slice_get s.ports p ≡ o → P (Err refusal.NoSuch) → ((port : PortSide) → slice_get s.ports p ≡ Some port → P (f port)) → P (option_map_or f o (Err refusal.NoSuch))
+pub at_port_has : (P : Step → Type 0) (s : State) (p : ℕ) (f : PortSide → Step) (o : Option PortSide) → slice_get s.ports p ≡ o → P (Err refusal.NoSuch) → ((port : PortSide) → slice_get s.ports p ≡ Some port → P (f port)) → P (option_map_or f o (Err refusal.NoSuch))
 at_port_has P s p f None is none some = none
 at_port_has P s p f (Some port) is none some = some port is
 
-at_channel_has : (P : Step → Type 0) (s : State) (c : ℕ) (f : ChannelSide → Step) (o : Option ChannelSide) → slice_get s.channels c ≡ o → P (Err refusal.NoSuch) → ((side : ChannelSide) → slice_get s.channels c ≡ Some side → P (f side)) → P (option_map_or f o (Err refusal.NoSuch))
+pub at_channel_has : (P : Step → Type 0) (s : State) (c : ℕ) (f : ChannelSide → Step) (o : Option ChannelSide) → slice_get s.channels c ≡ o → P (Err refusal.NoSuch) → ((side : ChannelSide) → slice_get s.channels c ≡ Some side → P (f side)) → P (option_map_or f o (Err refusal.NoSuch))
 at_channel_has P s c f None is none some = none
 at_channel_has P s c f (Some side) is none some = some side is
 
-either_has : (P : Step → Type 0) (b : Bool) (x y : Step) → P x → P y → P (cond b x y)
+pub either_has : (P : Step → Type 0) (b : Bool) (x y : Step) → P x → P y → P (cond b x y)
 either_has P true x y p q = p
 either_has P false x y p q = q
 
-maybe_has : {X : Type 0} (P : Step → Type 0) (f : X → Step) (e : Step) (o : Option X) → P e → ((x : X) → o ≡ Some x → P (f x)) → P (option_map_or f o e)
+pub maybe_has : {X : Type 0} (P : Step → Type 0) (f : X → Step) (e : Step) (o : Option X) → P e → ((x : X) → o ≡ Some x → P (f x)) → P (option_map_or f o e)
 maybe_has P f e None none some = none
 maybe_has P f e (Some x) none some = some x refl
 

@@ -1,7 +1,7 @@
 //! A reply's line, put together on the stack, so that one call writes it and no memory is asked for.
 //!
 //! `ddr_reorder` stands below; `simulation` prints by this. The text is that of `reply`.
-ghost use Rattle.std.specs.Prelude.{◌≡◌, ◌+◌, ◌≤◌, ◌++◌, IfSome, length};
+ghost use Rattle.std.specs.Prelude.{◌≡◌, ◌+◌, ◌≤◌, ◌++◌, IfSome, drop, length};
 ghost use Rattle.std.specs.Fmt.{decimal};
 ghost use Rattle.arrayvec.specs.ArrayVec.{array_vec_len};
 ghost use Rattle.hex.specs.Hex.{encode_lower};
@@ -12,7 +12,9 @@ use arrayvec::ArrayVec;
 use ddr_address_map::request::Kind;
 use ddr_reorder::reply::Reply;
 use ddr_timing::units::LINE_BYTES;
-use itoa::Buffer;
+
+/// The most digits of a number.
+const MOST_DIGITS: usize = 20;
 
 /// A line, for which there is room: three numbers of at most 20 digits each, two digits for each byte of a line of memory,
 /// and at most ten bytes between them.
@@ -62,9 +64,26 @@ fn add_number(line: &mut Text, number: u64)
     ensures items { line.new.items ≡ line.old.items ++ decimal number }
     ensures len { array_vec_len line.new ≤ array_vec_len line.old + 20 }
 {
-    let mut buffer = Buffer::new();
-    let digits = buffer.format(number);
-    add_bytes(line, digits.as_bytes());
+    let mut digits = [0; MOST_DIGITS];
+    let start = write_digits(number, &mut digits);
+    add_bytes(line, &digits[start..]);
+}
+
+/// Writes a number in decimal so that it ends where the array does, and tells where it starts.
+fn write_digits(number: u64, digits: &mut [u8; MOST_DIGITS]) -> usize
+    ensures within { result ≤ 20 }
+    ensures written { drop result digits.new ≡ decimal number }
+{
+    let mut rest = number;
+    let mut place = MOST_DIGITS;
+    'tens: while rest >= 10 {
+        place -= 1;
+        digits[place] = b'0' + (rest % 10) as u8;
+        rest /= 10;
+    }
+    place -= 1;
+    digits[place] = b'0' + rest as u8;
+    place
 }
 
 /// Adds bytes in hexadecimal.

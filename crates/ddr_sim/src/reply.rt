@@ -1,6 +1,7 @@
 //! The texts that a run prints: of a reply, and of a request that is refused.
 //!
-//! `ddr_reorder` and `ddr_world` stand below; `simulation` and the ports of `ddr_run` print by this.
+//! `ddr_reorder` and `ddr_world` stand below. The ports of `ddr_run` print by this; `simulation` refusals, and those replies that
+//! are too long for a `line`.
 ghost use Rattle.std.specs.Prelude.{◌≡◌, IfOk, string_bytes};
 ghost use Rattle.ddr_reorder.specs.Replies.{said};
 ghost use Rattle.ddr_sim.specs.Replies.{name_of, refused_text, reply_text};

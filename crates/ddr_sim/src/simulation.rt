@@ -233,7 +233,7 @@ impl Simulation {
         ensures within { result ≤ most }
         ensures quiet { 0 < result → AreQuiet self.now.config result (state_of self.now.world) self.now.left }
     {
-        let quiet = self.world.quiet();
+        let quiet = self.world.still();
         if quiet == 0 || self.has_front() {
             return 0;
         }

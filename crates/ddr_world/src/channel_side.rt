@@ -3,7 +3,7 @@ ghost use Rattle.std.specs.Prelude.{◌≡◌, ◌<◌, ◌≤◌, ◌↔◌, tr
 ghost use Rattle.std.specs.Option.{option_map};
 ghost use Rattle.ddr_timing.specs.declared.units.TheConstants.{CLOCK_STOP};
 ghost use Rattle.ddr_channel.specs.Kept as kept;
-ghost use Rattle.ddr_channel.specs.Quiet.{IsQuiet};
+ghost use Rattle.ddr_channel.specs.Quiet.{IsQuiet, must_refresh};
 ghost use Rattle.ddr_channel.specs.Room.{wants_memory};
 ghost use Rattle.ddr_world.specs.declared.event.Refusal.TheVariants.{OutOfMemory};
 ghost use Rattle.ddr_world.specs.Close.{trace_of};
@@ -118,13 +118,20 @@ impl ChannelSide {
 
     /// For how many cycles from now on nothing is to be taken, completed, issued or delivered, as long as no other call comes
     /// between: 0 where something waits in the queue or to be delivered. There may be more.
-    pub(crate) fn quiet(&self) -> u64
+    pub(crate) fn still(&self) -> u64
         ensures { 0 < result → IsQuietSide result (side_of self.now) }
     {
         if !self.requests.is_empty() || self.channel.next_done().is_some() {
             return 0;
         }
-        self.channel.quiet()
+        self.channel.still()
+    }
+
+    /// Whether a rank of the channel has to be refreshed in its next cycle.
+    pub(crate) fn must_refresh(&self) -> bool
+        ensures { result ≡ must_refresh (kept.state_of self.now.channel) }
+    {
+        self.channel.must_refresh()
     }
 
     /// Makes so many quiet cycles of the channel at once.

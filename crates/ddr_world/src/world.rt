@@ -1,12 +1,13 @@
 //! The core: its ports and channels, and one event after another.
 ghost use Rattle.std.specs.Prelude.{◌≡◌, ◌+◌, ◌<◌, ◌≤◌, ◌↔◌, length, map, replicate, List, [], ◌∷◌, ◌++◌, slice_get, All, IfErr, IfOk, IfSome, IsOk, IsTrue, Some};
-ghost use Rattle.std.specs.List.{range_with_len};
+ghost use Rattle.std.specs.List.{list_any, range_with_len};
 ghost use Rattle.std.specs.Option.{option_copied, option_map};
 ghost use Rattle.ddr_timing.specs.declared.units.TheConstants.{CLOCK_STOP};
 ghost use Rattle.ddr_reorder.specs.Replies.{lent_service, said};
 ghost use Rattle.ddr_ports.specs.Asked.{asked_of};
 ghost use Rattle.ddr_channel.specs.Kept as channel_kept;
 ghost use Rattle.ddr_channel.specs.Quiet as quiet;
+ghost use Rattle.ddr_channel.specs.Quiet.{must_refresh};
 ghost use Rattle.ddr_world.specs.Answer.{IsAnswered};
 ghost use Rattle.ddr_world.specs.Close.{GaveAll, IsLeftOf, trace_of};
 ghost use Rattle.ddr_world.specs.Events as events;
@@ -298,8 +299,30 @@ impl World {
     }
 
     /// For how many cycles of each channel nothing is to be done in the core: nothing to take, to complete, to issue, to
-    /// deliver or to collect, as long as no other event comes between. 0 where something waits. There may be more.
+    /// deliver or to collect, as long as no other event comes between. 0 where something waits. There may be more: none is told while
+    /// a rank has to be refreshed, where `still` tells more.
     pub fn quiet(&self) -> u64
+        ensures quiet { IsQuiet result (state_of self.now) }
+        ensures channels { length self.now.channels ≡ self.now.config.geometry.channels }
+    {
+        let cycles = self.still();
+        if cycles > 0 && self.must_refresh() {
+            0
+        } else {
+            cycles
+        }
+    }
+
+    /// Whether a rank of some channel has to be refreshed in that channel's next cycle.
+    fn must_refresh(&self) -> bool
+        ensures { result ≡ list_any (λ side. must_refresh (channel_kept.state_of side.channel)) self.now.channels }
+    {
+        self.channels.iter().any(|side| side.must_refresh())
+    }
+
+    /// For how many cycles of each channel nothing is to be done in the core, as `quiet` tells them, also while ranks whose banks are
+    /// idle wait for their REFs. There may be more.
+    pub fn still(&self) -> u64
         ensures quiet { IsQuiet result (state_of self.now) }
         ensures channels { length self.now.channels ≡ self.now.config.geometry.channels }
     {
@@ -307,7 +330,7 @@ impl World {
         if !self.are_ports_collected() {
             return 0;
         }
-        quiet_of(channels)
+        still_of(channels)
     }
 
     /// Whether no port has anything to collect.
@@ -436,13 +459,13 @@ fn open_channels(alloc: Global, config: &Config, first: u64) -> Result<Vec<Chann
     Ok(channels)
 }
 
-/// The least number of cycles for which the channels are quiet.
-fn quiet_of(channels: &[ChannelSide]) -> u64
+/// The least number of cycles for which the channels are still.
+fn still_of(channels: &[ChannelSide]) -> u64
     ensures { 0 < result → All (λ side. IsQuietSide result (side_of side)) channels.now }
 {
     let mut least = u64::MAX;
     for side in channels {
-        least = least.min(side.quiet());
+        least = least.min(side.still());
         if least == 0 {
             return 0;
         }

@@ -9,6 +9,7 @@ returns-in-Some c = record {
   stopped = Some c.in-Some.cause;
   whole = λ is. absurd (let impossible = is in cc);
   partly = (to_z-of_z w32 c.code_of.result (search rules) ∙ c.code_of.ensures, search rules, search rules);
+  refused = search rules;
   config = c.rounds-rounds.ensures.config;
   continues = c.rounds-rounds.ensures.continues;
 }

@@ -50,3 +50,39 @@ fn a_read_is_waited_for(rt: HostRuntime) -> Result<(), Fail> {
     assert!(rt; channel.next_done().is_some());
     Ok(())
 }
+
+/// Makes so many cycles.
+fn make_cycles(channel: &mut Channel, count: u64) -> Result<(), Fail> {
+    for _ in 0..count {
+        if channel.cycle().is_err() {
+            return Err("no cycle".into());
+        }
+    }
+    Ok(())
+}
+
+/// A read leaves its row open. From cycle 200 on, REFI, the rank has to be refreshed: PREA in cycle 200, and REF in cycle 204, RP
+/// behind it. `quiet` tells none of the cycles between, and `still` all three.
+#[test]
+fn a_wait_for_a_refresh_is_still(rt: HostRuntime) -> Result<(), Fail> {
+    let alloc = rt.alloc();
+    let mut channel = open(alloc, &[])?;
+    admit_all(alloc, &mut channel, 0, &[Access::Read(0)])?;
+    make_cycles(&mut channel, 200)?;
+    assert!(rt; channel.must_refresh());
+    make_cycles(&mut channel, 1)?;
+    check_eq(&rt, "commands", channel.trace().len(), 3);
+    check_eq(&rt, "quiet", channel.quiet(), 0);
+    let count = channel.still();
+    check_eq(&rt, "still", count, 3);
+    channel.pass(count);
+    make_cycles(&mut channel, 1)?;
+    let refresh = Entry {
+        cycle: 204,
+        command: Command::Refresh { rank: 0 },
+    };
+    assert!(rt; channel.trace().last() == Some(&refresh));
+    assert!(rt; !channel.must_refresh());
+    check_eq(&rt, "quiet behind the REF", channel.quiet(), 195);
+    Ok(())
+}

@@ -7,11 +7,11 @@ use Rattle.ddr_c.proofs.RoundLemmas.{fewer_quiet, rounds_quiet}
 use Rattle.ddr_c.proofs.host.Core.advance.Goals as goal
 
 pub pass-requires : goal.pass-requires
-pass-requires c = fewer_quiet c.min-quiet.result c.quiet.result (state_of c.args.self.now.world) (omega (arith, c.min-quiet.ensures)) c.quiet.ensures.quiet
+pass-requires c = fewer_quiet c.min-quiet.result c.still.result (state_of c.args.self.now.world) (omega (arith, c.min-quiet.ensures)) c.still.ensures.quiet
 
 pub returns-clause-made : goal.returns-clause-made
 returns-clause-made c =
     let world = c.args.self.now.world in
-    rounds_quiet world.config c.min-quiet.result (state_of world) (length-map world.channels side_of ∙ c.quiet.ensures.channels)
-    (fewer_quiet c.min-quiet.result c.quiet.result (state_of world) (omega (arith, c.min-quiet.ensures)) c.quiet.ensures.quiet)
+    rounds_quiet world.config c.min-quiet.result (state_of world) (length-map world.channels side_of ∙ c.still.ensures.channels)
+    (fewer_quiet c.min-quiet.result c.still.result (state_of world) (omega (arith, c.min-quiet.ensures)) c.still.ensures.quiet)
     ∙ ap (λ (s : State). Some s) (sym c.pass.ensures.state)

@@ -4,7 +4,7 @@ use Rattle.ddr_arbiter.specs.Choice.{candidates, is_oldest_capped, is_rank_force
 use Rattle.ddr_arbiter.specs.Situation.{Situation, situation}
 use Rattle.ddr_arbiter.specs.Until.{IsRefreshStuckUntil}
 use Rattle.ddr_arbiter.proofs.QuietLemmas.{forced_wait, quiet_empty, quiet_where}
-use Rattle.ddr_arbiter.proofs.quiet.quiet_until.Goals as goal
+use Rattle.ddr_arbiter.proofs.quiet.still_until.Goals as goal
 
 pub returns-then-len-eq0 : goal.returns-then-len-eq0
 returns-then-len-eq0 c =

@@ -6,7 +6,7 @@ use Rattle.ddr_channel.specs.Kept.{Kept, state_of}
 use Rattle.ddr_channel.specs.Quiet.{IsQuiet}
 use Rattle.ddr_channel.specs.View.{kept_of}
 use Rattle.ddr_channel.proofs.SleepLemmas.{quiet_from}
-use Rattle.ddr_channel.proofs.channel.Channel.quiet.Goals as goal
+use Rattle.ddr_channel.proofs.channel.Channel.still.Goals as goal
 
 pub returns-in-Some : goal.returns-in-Some
 returns-in-Some c =
