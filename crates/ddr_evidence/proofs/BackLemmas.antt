@@ -1,15 +1,17 @@
 -- A bank by the entries from the last one on that decides it.
-use Rattle.std.proofs.Common.{◌≡◌, ℕ, zero, suc, ◌+◌, ◌-◌, inl, inr, Bool, true, false, ◌&&◌, ◌||◌, cond, List, [], ◌∷◌, ◌++◌, length, take, drop, Option, Some, None, refl, sym, ap, ◌∙◌, arith, zero-add}
+use Rattle.std.proofs.Common.{◌≡◌, ℕ, zero, suc, ◌+◌, ◌-◌, Bool, true, false, ◌&&◌, ◌||◌, cond, List, [], ◌∷◌, ◌++◌, length, take, drop, Option, Some, None, refl, sym, subst, ap, ◌∙◌, arith, zero-add}
 use Rattle.std.specs.Prelude.{slice_get}
-use Rattle.std.specs.List.{fold}
+use Rattle.std.specs.List.{All, fold}
 use Rattle.std.specs.Option.{option_map_or}
-use Rattle.std.proofs.Math.Seq.{take-append-add}
+use Rattle.std.proofs.Math.Seq.{drop-length, take-append-add}
+use Rattle.std.proofs.lemmas.List.Elements.{All-cons, All-get_or, All-head, All-tail, All-take}
 use Rattle.std.proofs.lemmas.List.Sums.{fold-append}
+use Rattle.std.proofs.lemmas.Option.{get_or_from_slice_get, slice_get_within}
 use Rattle.ddr_trace.specs.declared.bank.OpenBank.{OpenBank}
 use Rattle.ddr_trace.specs.declared.command.Command.{Command}
 use Rattle.ddr_trace.specs.declared.command.Entry.{Entry}
 use Rattle.ddr_trace.specs.Banks.{bank_after, bank_behind}
-use Rattle.ddr_trace.specs.Commands.{is_activate, is_precharge, is_same_bank}
+use Rattle.ddr_trace.specs.Commands.{is_activate, is_auto, is_precharge, is_same_bank}
 use Rattle.ddr_evidence.specs.Places.{IsLast, changes, changes_at}
 use Rattle.ddr_evidence.specs.Recent.{StartsAtAct, decides, opens}
 use Rattle.ddr_evidence.proofs.PlaceLemmas.{IsSplit, rest_is, split_more}
@@ -80,10 +82,7 @@ change_from command before a rest is (suc q) =
     (ap (bank_behind command) (take-append-add before (a ∷ rest) (suc q)) ∙ sym (bank_from command before a (take q rest) decided))
 
 change_shift : (command : Command) (history : List Entry) (from : ℕ) → StartsAtAct command history from → (p : ℕ) → changes_at command history (from + p) ≡ changes_at command (drop from history) p
-change_shift command history from (inl e) p =
-    let same : from + p ≡ p = omega (arith, e) in
-    ap (changes_at command history) same ∙ ap (λ n. changes_at command (drop n history) p) (sym e)
-change_shift command history from (inr (a, at, is)) p =
+change_shift command history from (a, at, is) p =
     let r = parts history from a at in
     ap (λ n. changes_at command history (n + p)) (sym r.2)
     ∙ ap (λ h. changes_at command h (length (take from history) + p)) r.1
@@ -91,8 +90,7 @@ change_shift command history from (inr (a, at, is)) p =
     ∙ sym (ap (λ h. changes_at command h p) r.0)
 
 pub bank_started : (command : Command) (history : List Entry) (from : ℕ) → StartsAtAct command history from → bank_behind command (drop from history) ≡ bank_behind command history
-bank_started command history from (inl e) = rw e refl
-bank_started command history from (inr (a, at, is)) =
+bank_started command history from (a, at, is) =
     let r = parts history from a at in
     let decided = opens_decides (is_activate a.command) (is_precharge a.command) (is_same_bank a.command command) is in
     ap (bank_behind command) r.0 ∙ bank_from command (take from history) a (drop (from + 1) history) decided ∙ sym (ap (bank_behind command) r.1)
@@ -106,12 +104,86 @@ last_started command history from place starts found = record {
       ap (changes_at command history) same ∙ change_shift command history from starts (later - from) ∙ found.last (later - from) (omega arith);
 }
 
--- and where there is none from there on, there is none
-pub none_started : (command : Command) (history : List Entry) (from : ℕ) → StartsAtAct command history from → ((place : ℕ) → changes_at command (drop from history) place ≡ false) → (place : ℕ) → changes_at command history place ≡ false
-none_started command history from (inl e) none place = rw e at none place
-none_started command history from (inr (a, at, is)) none place =
+-- and from there on there is one: the ACT itself
+pub some_started : (command : Command) (history : List Entry) (from : ℕ) → StartsAtAct command history from → ((place : ℕ) → changes_at command (drop from history) place ≡ false) → (place : ℕ) → changes_at command history place ≡ false
+some_started command history from (a, at, is) none place =
     let r = parts history from a at in
     let first = none 0 in
     let here : changes_at command (drop from history) 0 ≡ true =
     ap (λ h. changes_at command h 0) r.0 ∙ act_changes (is_activate a.command) (is_same_bank a.command command) _ is in
     absurd (cc)
+
+-- ---- with no ACT
+
+-- one more entry that is no such ACT, before those that are none
+pub none_before : (command : Command) (history earlier before : List Entry) (last : Entry) → IsSplit history earlier → earlier ≡ before ++ last ∷ [] → opens command last ≡ false
+    → All (λ a. opens command a ≡ false) (drop (length earlier) history) → All (λ a. opens command a ≡ false) (drop (length before) history)
+none_before command history earlier before last split e is none =
+    subst (All (λ a. opens command a ≡ false)) (sym (rest_is history earlier before last split e)) (All-cons (λ a. opens command a ≡ false) last (drop (length earlier) history) is none)
+
+-- what an entry that opens no bank makes of an idle one
+unopened : (act pre auto same : Bool) (x : Option OpenBank) → (act && same) ≡ false → cond same (cond act x (cond pre None (cond auto None None))) None ≡ None
+unopened true pre auto true x e = cc
+unopened false true auto true x e = refl
+unopened false false true true x e = refl
+unopened false false false true x e = refl
+unopened act pre auto false x e = refl
+
+stays : (command : Command) (a : Entry) → opens command a ≡ false → bank_after command None a ≡ None
+stays command a is = unopened (is_activate a.command) (is_precharge a.command) (is_auto a.command) (is_same_bank a.command command) _ is
+
+-- one more entry, before those behind which the bank is idle
+pub idle_before : (command : Command) (history earlier before : List Entry) (last : Entry) → IsSplit history earlier → earlier ≡ before ++ last ∷ [] → opens command last ≡ false
+    → bank_behind command (drop (length earlier) history) ≡ None → bank_behind command (drop (length before) history) ≡ None
+unfolding bank_behind
+idle_before command history earlier before last split e is idle =
+    ap (bank_behind command) (rest_is history earlier before last split e)
+    ∙ ap (λ b. fold (bank_after command) b (drop (length earlier) history)) (stays command last is)
+    ∙ idle
+
+-- behind the whole history stands no entry
+pub idle_whole : (command : Command) (history : List Entry) → bank_behind command (drop (length history) history) ≡ None
+unfolding bank_behind
+idle_whole command history = ap (bank_behind command) (drop-length history)
+
+pub not_decided : (act pre same : Bool) → ((act || pre) && same) ≡ false → (act && same) ≡ false
+not_decided true pre true e = cc
+not_decided true pre false e = refl
+not_decided false pre same e = refl
+
+pub not_activate : (act same : Bool) → act ≡ false → (act && same) ≡ false
+not_activate true same e = cc
+not_activate false same e = refl
+
+-- where no entry opens the bank, it stays idle,
+pub never_opened : (command : Command) (history : List Entry) → All (λ a. opens command a ≡ false) history → bank_behind command history ≡ None
+unfolding bank_behind
+never_opened command [] none = refl
+never_opened command (a ∷ history) none =
+    ap (λ b. fold (bank_after command) b history) (stays command a (All-head (λ a. opens command a ≡ false) a history none))
+    ∙ never_opened command history (All-tail (λ a. opens command a ≡ false) a history none)
+
+opens_none : (command : Command) (history : List Entry) (place : ℕ) (a : Entry) → All (λ a. opens command a ≡ false) history → slice_get history place ≡ Some a → opens command a ≡ false
+opens_none command history place a none at =
+    subst (λ x. opens command x ≡ false) (get_or_from_slice_get history place a a at)
+    (All-get_or (λ a. opens command a ≡ false) history place a (slice_get_within history place a at) none)
+
+unchanged : (act same u : Bool) → (act && same) ≡ false → (same && (act || (false && u))) ≡ false
+unchanged true true u e = cc
+unchanged true false u e = refl
+unchanged false true u e = refl
+unchanged false false u e = refl
+
+-- and none changes it
+pub never_changed : (command : Command) (history : List Entry) → All (λ a. opens command a ≡ false) history → (place : ℕ) → changes_at command history place ≡ false
+never_changed command history none place = go (slice_get history place) refl
+  where
+    idle : bank_behind command (take place history) ≡ None
+    idle = never_opened command (take place history) (All-take (λ a. opens command a ≡ false) place history none)
+
+    go : (o : Option Entry) → slice_get history place ≡ o → changes_at command history place ≡ false
+    go None at = ap (λ o. option_map_or (λ a. is_same_bank a.command command && changes a (bank_behind command (take place history))) o false) at
+    go (Some a) at =
+        ap (λ o. option_map_or (λ a. is_same_bank a.command command && changes a (bank_behind command (take place history))) o false) at
+        ∙ ap (λ b. is_same_bank a.command command && changes a b) idle
+        ∙ unchanged (is_activate a.command) (is_same_bank a.command command) (is_precharge a.command || is_auto a.command) (opens_none command history place a none at)

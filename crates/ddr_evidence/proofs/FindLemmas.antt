@@ -1,22 +1,23 @@
 -- A rule that earlier entries break, by each earlier entry.
 use Rattle.std.proofs.Common.{◌≡◌, ℕ, zero, suc, ◌+◌, ◌*◌, ◌/◌, ◌<◌, ◌≤◌, Bool, true, false, ◌&&◌, ◌||◌, cond, nat_lt, List, [], ◌∷◌, drop, refl, sym, subst, ap, ◌∙◌, ltb-true, ltb-false, arith}
-use Rattle.std.specs.Prelude.{IfNone, Option, Some, None, not, slice_get}
+use Rattle.std.specs.Prelude.{MatchOption, Option, Some, None, is_some, not, slice_get}
 use Rattle.std.specs.List.{count_by, list_any, range_with_len}
 use Rattle.std.specs.Option.{option_map_or}
 use Rattle.ddr_timing.specs.declared.config.Config.{Config}
 use Rattle.ddr_timing.specs.declared.geometry.Geometry.{Geometry}
 use Rattle.ddr_timing.specs.declared.timing.Timing.{Timing}
 use Rattle.ddr_timing.specs.declared.units.TheConstants.{GROUP_BANKS, LINE_COLUMNS}
+use Rattle.ddr_trace.specs.declared.bank.OpenBank.{OpenBank}
 use Rattle.ddr_trace.specs.declared.command.Command.{Command}
 use Rattle.ddr_trace.specs.declared.command.Command.TheVariants.{Act, Rd, Wr, RdAuto, WrAuto, Pre, PreAll, Refresh}
 use Rattle.ddr_trace.specs.declared.command.Entry.{Entry}
 use Rattle.ddr_trace.specs.declared.rule.Rule.{Rule}
 use Rattle.ddr_trace.specs.declared.rule.Rule.TheVariants as rule
-use Rattle.ddr_trace.specs.Banks.{any_bank}
+use Rattle.ddr_trace.specs.Banks.{any_bank, bank_behind}
 use Rattle.ddr_trace.specs.Rules.{ends_late, is_in, is_switched_too_soon, is_too_close, refresh_count, some_earlier, spacing_of}
 use Rattle.ddr_evidence.specs.declared.evidence.Part.TheVariants as part
 use Rattle.ddr_evidence.specs.declared.evidence.Part.{Part}
-use Rattle.ddr_evidence.specs.Evidence.{bound_of, first_outside, first_part, is_outside, number_in}
+use Rattle.ddr_evidence.specs.Evidence.{IsFirstBank, bound_of, first_outside, first_part, is_outside, number_in}
 use Rattle.ddr_evidence.specs.Places.{are_breaking, bank_at, breaks_from, counts, pair_breaks}
 
 -- no place passes
@@ -93,6 +94,13 @@ any_bank_some g rank test number below here = some_in_range (λ n. test (bank_at
 pub any_bank_none : (g : Geometry) (rank : ℕ) (test : Command → Bool) → ((number : ℕ) → number < g.groups * GROUP_BANKS → test (bank_at rank number) ≡ false) → any_bank g rank test ≡ false
 any_bank_none g rank test none =
     none_in_range (λ n. test (bank_at rank n)) 0 (g.groups * GROUP_BANKS) (λ k above below. none k (omega (arith, below)))
+
+-- the first bank that passes a test of what the history makes of it, or none
+pub first_is_any : (c : Config) (rank : ℕ) (history : List Entry) (test : Option OpenBank → Bool) (found : Option ℕ)
+    → MatchOption found ((number : ℕ) → number < c.geometry.groups * GROUP_BANKS → test (bank_behind (bank_at rank number) history) ≡ false) (IsFirstBank c test rank history)
+    → is_some found ≡ any_bank c.geometry rank (λ bank. test (bank_behind bank history))
+first_is_any c rank history test None none = sym (any_bank_none c.geometry rank (λ bank. test (bank_behind bank history)) none)
+first_is_any c rank history test (Some number) first = sym (any_bank_some c.geometry rank (λ bank. test (bank_behind bank history)) number first.inside first.passes)
 
 -- no rank is late at the trace's end
 pub ends_in_time : (c : Config) (start end : ℕ) (entries : List Entry) → ((rank : ℕ) → rank < c.geometry.ranks → nat_lt (start + (refresh_count entries (Refresh rank) + 9) * c.timing.refi) end ≡ false) → ends_late c start end entries ≡ false

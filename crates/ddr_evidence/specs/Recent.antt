@@ -1,5 +1,5 @@
 -- Which part of a history tells what an entry breaks.
-use Rattle.std.specs.Prelude.{◌≡◌, ℕ, ◌+◌, ◌<◌, ◌≤◌, ◌⊎◌, Bool, true, false, ◌&&◌, ◌||◌, max, List, length, take, Some, All, slice_get}
+use Rattle.std.specs.Prelude.{◌≡◌, ℕ, ◌+◌, ◌<◌, ◌≤◌, Bool, true, false, ◌&&◌, ◌||◌, max, List, length, take, Some, All, slice_get}
 use Rattle.std.specs.List.{slice_index_or}
 use Rattle.ddr_timing.specs.declared.timing.Timing.{Timing}
 use Rattle.ddr_timing.specs.declared.units.TheConstants.{BURST_CLOCKS}
@@ -20,9 +20,9 @@ opens command a = is_activate a.command && is_same_bank a.command command
 abbrev pub decides : Command → Entry → Bool
 decides command a = (is_activate a.command || is_precharge a.command) && is_same_bank a.command command
 
--- the place is the history's start, or that of an ACT of the bank that the command is for
+-- the place is that of an ACT of the bank that the command is for
 abbrev pub StartsAtAct : Command → List Entry → ℕ → Type 0
-StartsAtAct command history place = (place ≡ 0) ⊎ ((a : Entry) × (slice_get history place ≡ Some a) × (opens command a ≡ true))
+StartsAtAct command history place = (a : Entry) × (slice_get history place ≡ Some a) × (opens command a ≡ true)
 
 -- ---- distances
 

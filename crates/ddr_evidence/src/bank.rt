@@ -1,7 +1,7 @@
 //! Rules on the state of banks: the command that last changed the bank.
 //!
 //! `evidence`, `kind` and `ddr_trace` stand below, and `state` above.
-ghost use Rattle.std.specs.Prelude.{◌≡◌, ◌+◌, ◌-◌, ◌<◌, ◌≤◌, ◌&&◌, if◌then◌else◌, IfNone, None, Some, drop, length, slice_get};
+ghost use Rattle.std.specs.Prelude.{◌≡◌, ◌-◌, ◌<◌, ◌≤◌, ◌&&◌, if◌then◌else◌, All, IfNone, IfSome, None, Some, drop, false, length, slice_get};
 ghost use Rattle.ddr_trace.specs.Banks.{auto_start, bank_after, bank_behind, recovery};
 ghost use Rattle.ddr_trace.specs.Commands.{is_same_bank};
 ghost use Rattle.ddr_evidence.specs.Places.{IsLastChange, IsLastChangeAt, changes};
@@ -22,13 +22,29 @@ pub(crate) struct BankHistory {
     pub(crate) changed: Option<Placed>,
 }
 
-/// What the history makes of the bank that the command is for.
+/// What the history makes of the bank that the command is for. It looks back to the bank's last ACT, and from there forward.
 pub(crate) fn history_of(history: &[Entry], command: &Command) -> BankHistory
     ensures bank { result.bank ≡ bank_behind command.now history.now }
     ensures changed { IsLastChange command.now history.now result.changed }
     ensures idle { IfNone result.changed (result.bank ≡ None) }
 {
-    let from = last_act(history, command);
+    match last_act(history, command) {
+        Some(from) => history_from(from, history, command),
+        None => BankHistory {
+            bank: None,
+            changed: None,
+        },
+    }
+}
+
+/// What the history makes of the bank that the command is for, of which an ACT stands at the place.
+fn history_from(from: usize, history: &[Entry], command: &Command) -> BankHistory
+    requires within { from ≤ length history.now }
+    requires starts { StartsAtAct command.now history.now from }
+    ensures bank { result.bank ≡ bank_behind command.now history.now }
+    ensures changed { IsLastChange command.now history.now result.changed }
+    ensures idle { IfNone result.changed (result.bank ≡ None) }
+{
     let seen = walk(&history[from..], command);
     let changed = match seen.changed {
         Some(place) => Some(placed(history, from + place)),
@@ -41,44 +57,49 @@ pub(crate) fn history_of(history: &[Entry], command: &Command) -> BankHistory
 }
 
 /// What the history makes of the bank that the command is for, as `history_of` without the entry that last changed it. It looks
-/// back no further than to the last entry that decides it.
+/// back no further than to the last entry that decides it, and forward from there only where that is an ACT.
 pub(crate) fn bank_of(history: &[Entry], command: &Command) -> Option<OpenBank>
     ensures { result ≡ bank_behind command.now history.now }
 {
-    let from = last_decided(history, command);
+    let from = last_opened(history, command)?;
     walk(&history[from..], command).bank
 }
 
-/// The place of the last ACT of the bank that the command is for, and 0 where there is none. What stands before it leaves no
-/// mark on the bank.
-fn last_act(history: &[Entry], command: &Command) -> usize
-    ensures within { result ≤ length history.now }
-    ensures starts { StartsAtAct command.now history.now result }
+/// The place of the last ACT of the bank that the command is for. What stands before it leaves no mark on the bank, and where
+/// there is none, nothing does.
+fn last_act(history: &[Entry], command: &Command) -> Option<usize>
+    ensures within { IfSome result (λ from. from ≤ length history.now) }
+    ensures starts { IfSome result (StartsAtAct command.now history.now) }
+    ensures none { IfNone result (All (λ a. opens command.now a ≡ false) history.now) }
 {
     let mut earlier = history;
     while let Some((last, before)) = earlier.split_last() {
         if opens(last, command) {
-            return before.len();
+            return Some(before.len());
         }
         earlier = before;
     }
-    0
+    None
 }
 
-/// The place of the last ACT or precharge of the bank that the command is for, and 0 where there is none. What stands before it
-/// is nothing to what the bank is.
-fn last_decided(history: &[Entry], command: &Command) -> usize
-    ensures within { result ≤ length history.now }
-    ensures same { bank_behind command.now (drop result history.now) ≡ bank_behind command.now history.now }
+/// The place of the last ACT of the bank that the command is for, where no precharge of it stands behind. What stands before it
+/// is nothing to what the bank is, and where there is none, the bank was never opened or a precharge closed it.
+fn last_opened(history: &[Entry], command: &Command) -> Option<usize>
+    ensures within { IfSome result (λ from. from ≤ length history.now) }
+    ensures same { IfSome result (λ from. bank_behind command.now (drop from history.now) ≡ bank_behind command.now history.now) }
+    ensures idle { IfNone result (bank_behind command.now history.now ≡ None) }
 {
     let mut earlier = history;
     while let Some((last, before)) = earlier.split_last() {
         if decides(last, command) {
-            return before.len();
+            if is_activate(&last.command) {
+                return Some(before.len());
+            }
+            return None;
         }
         earlier = before;
     }
-    0
+    None
 }
 
 /// Whether the entry is an ACT of the bank that the command is for.

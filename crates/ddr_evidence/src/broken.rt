@@ -22,11 +22,11 @@ use std::alloc::{AllocError, Global};
 pub fn reach_of(alloc: Global, entries: &[Entry]) -> Result<Vec<u64>, AllocError>
     ensures { IfOk result (λ reach. IsReach entries.now reach.items) }
 {
-    let mut reach = Vec::new(alloc);
+    let mut reach = Vec::with_capacity(alloc, entries.len())?;
     let mut greatest = 0u64;
     for entry in entries {
         greatest = greatest.max(entry.cycle);
-        reach.push(greatest)?;
+        reach.push_reserved(greatest);
     }
     Ok(reach)
 }
@@ -48,16 +48,18 @@ pub fn breaks(
 {
     let timing = &config.timing;
     match rule {
-        Rule::Order | Rule::Place | Rule::State | Rule::Row | Rule::RefLate => {
+        Rule::Order | Rule::Place | Rule::RefLate => {
             evidence_of(rule, history, entry, config, start, end).is_some()
         }
+        Rule::State => state::breaks_state(history, entry, config),
+        Rule::Row => state::breaks_row(history, entry, timing),
         Rule::RefGap => breaks_gap(history, entry, timing),
         Rule::Rp => {
-            state::rp_start(history, entry, timing).is_some()
+            state::is_behind_start(history, entry, timing)
                 || breaks_pair(rule, history, reach, entry, timing)
         }
         Rule::RpRef => {
-            state::rp_ref_start(history, entry, config).is_some()
+            state::is_behind_start_of_rank(history, entry, config)
                 || breaks_pair(rule, history, reach, entry, timing)
         }
         _ => breaks_pair(rule, history, reach, entry, timing),

@@ -1,10 +1,10 @@
 //! Rules on the state of banks: STATE and ROW, and RP and RP_REF behind an auto-precharge.
 //!
 //! `evidence`, `bank`, `kind` and `ddr_trace` stand below, and `find` above.
-ghost use Rattle.std.specs.Prelude.{◌≡◌, ℕ, ◌*◌, ◌<◌, ◌&&◌, IfSome, MatchOption, false, is_some};
+ghost use Rattle.std.specs.Prelude.{◌≡◌, ℕ, ◌*◌, ◌<◌, ◌&&◌, ◌||◌, IfSome, MatchOption, false, is_none, is_some};
 ghost use Rattle.ddr_timing.specs.declared.units.TheConstants.{GROUP_BANKS};
 ghost use Rattle.ddr_trace.specs.Banks.{any_bank, bank_behind, is_active, is_auto_within, open_row, ready_row};
-ghost use Rattle.ddr_trace.specs.Commands.{bank_of, group_of, is_activate, is_refresh, rank_of, row_of};
+ghost use Rattle.ddr_trace.specs.Commands.{bank_of, group_of, is_activate, is_column, is_refresh, rank_of, row_of};
 ghost use Rattle.ddr_trace.specs.Rules.{breaks_row, breaks_state};
 ghost use Rattle.ddr_evidence.specs.declared.evidence.Evidence.TheVariants.{Bank};
 ghost use Rattle.ddr_evidence.specs.Evidence.{IsActiveBank, IsFirstBank, IsOwnBank, IsStartOf, IsStartOfRank, IsState, bank_test, is_behind_start, is_behind_start_of_rank};
@@ -75,6 +75,14 @@ fn first_bank(
     None
 }
 
+/// Whether some bank of the entry's rank passes the test.
+fn some_bank(history: &[Entry], entry: &Entry, config: &Config, test: BankTest) -> bool
+    ensures { result ≡ any_bank config.now.geometry (rank_of entry.now.command)
+        (λ bank. bank_test test config.now.timing entry.now.cycle (bank_behind bank history.now)) }
+{
+    first_bank(history, entry.command.rank(), entry.cycle, config, test).is_some()
+}
+
 /// Why the entry breaks STATE, if it does.
 pub(crate) fn state(history: &[Entry], entry: &Entry, config: &Config) -> Option<Evidence>
     ensures broken { is_some result ≡ breaks_state config.now history.now entry.now }
@@ -84,15 +92,39 @@ pub(crate) fn state(history: &[Entry], entry: &Entry, config: &Config) -> Option
     if is_refresh(command) {
         return active_bank(history, entry, config);
     }
-    let bank = bank_of(history, command);
-    let is_wrong = (is_activate(command)
-        && BankTest::Active.holds(&bank, entry.cycle, &config.timing))
-        || (is_column(command) && !is_ready(&bank));
-    if is_wrong {
-        Some(own_bank(command, history_of(history, command)))
+    if !is_activate(command) && !is_column(command) {
+        return None;
+    }
+    let seen = history_of(history, command);
+    if is_at_odds(entry, &seen.bank, &config.timing) {
+        Some(own_bank(command, seen))
     } else {
         None
     }
+}
+
+/// Whether the entry breaks STATE, as `state` without the evidence. It looks back no further than what its banks are asks for.
+pub(crate) fn breaks_state(history: &[Entry], entry: &Entry, config: &Config) -> bool
+    ensures { result ≡ breaks_state config.now history.now entry.now }
+{
+    let command = &entry.command;
+    if is_refresh(command) {
+        return some_bank(history, entry, config, BankTest::Active);
+    }
+    if !is_activate(command) && !is_column(command) {
+        return false;
+    }
+    is_at_odds(entry, &bank_of(history, command), &config.timing)
+}
+
+/// Whether the entry is an ACT and its bank active, or a read or a write and its bank not ready for one.
+fn is_at_odds(entry: &Entry, bank: &Option<OpenBank>, timing: &Timing) -> bool
+    ensures { result ≡ ((is_activate entry.now.command && is_active timing.now entry.now.cycle bank.now)
+        || (is_column entry.now.command && is_none (ready_row bank.now))) }
+{
+    let command = &entry.command;
+    (is_activate(command) && BankTest::Active.holds(bank, entry.cycle, timing))
+        || (is_column(command) && !is_ready(bank))
 }
 
 /// The first active bank of the entry's rank, if there is one.
@@ -118,12 +150,27 @@ pub(crate) fn row(history: &[Entry], entry: &Entry, timing: &Timing) -> Option<E
     ensures some { IfSome result (IsOwnBank history.now entry.now) }
 {
     let command = &entry.command;
-    let bank = bank_of(history, command);
-    if is_column(command) && open_row(&bank, entry.cycle, timing) != Some(row_of(command)) {
-        Some(own_bank(command, history_of(history, command)))
+    if !is_column(command) {
+        return None;
+    }
+    let seen = history_of(history, command);
+    if open_row(&seen.bank, entry.cycle, timing) != Some(row_of(command)) {
+        Some(own_bank(command, seen))
     } else {
         None
     }
+}
+
+/// Whether the entry breaks ROW, as `row` without the evidence.
+pub(crate) fn breaks_row(history: &[Entry], entry: &Entry, timing: &Timing) -> bool
+    ensures { result ≡ breaks_row timing.now history.now entry.now }
+{
+    let command = &entry.command;
+    if !is_column(command) {
+        return false;
+    }
+    let bank = bank_of(history, command);
+    open_row(&bank, entry.cycle, timing) != Some(row_of(command))
 }
 
 /// That the ACT stands too close behind the start of an auto-precharge of its bank, if so.
@@ -136,6 +183,17 @@ pub(crate) fn rp_start(history: &[Entry], entry: &Entry, timing: &Timing) -> Opt
     } else {
         None
     }
+}
+
+/// Whether the ACT stands too close behind the start of an auto-precharge of its bank, as `rp_start` without the evidence.
+pub(crate) fn is_behind_start(history: &[Entry], entry: &Entry, timing: &Timing) -> bool
+    ensures { result ≡ is_behind_start timing.now history.now entry.now }
+{
+    if !is_activate(&entry.command) {
+        return false;
+    }
+    let bank = bank_of(history, &entry.command);
+    BankTest::WithinStart.holds(&bank, entry.cycle, timing)
 }
 
 /// That the REF stands too close behind the start of an auto-precharge of its rank, if so.
@@ -151,6 +209,13 @@ pub(crate) fn rp_ref_start(history: &[Entry], entry: &Entry, config: &Config) ->
     start_of(&bank_at(rank, number), history, entry, &config.timing)
 }
 
+/// Whether the REF stands too close behind the start of an auto-precharge of its rank, as `rp_ref_start` without the evidence.
+pub(crate) fn is_behind_start_of_rank(history: &[Entry], entry: &Entry, config: &Config) -> bool
+    ensures { result ≡ is_behind_start_of_rank config.now history.now entry.now }
+{
+    is_refresh(&entry.command) && some_bank(history, entry, config, BankTest::WithinStart)
+}
+
 /// That the entry stands too close behind the start of an auto-precharge of the command's bank, if so.
 fn start_of(
     command: &Command,
@@ -161,12 +226,13 @@ fn start_of(
     ensures broken { is_some result ≡ is_auto_within timing.now timing.now.rp entry.now.cycle (bank_behind command.now history.now) }
     ensures some { IfSome result (IsStartOf timing.now command.now history.now entry.now) }
 {
-    let open = bank_of(history, command)?;
+    let seen = history_of(history, command);
+    let open = seen.bank?;
     let auto = open.auto?;
+    let earlier = seen.changed?;
     if !open.is_auto_within(entry.cycle, timing) {
         return None;
     }
-    let earlier = history_of(history, command).changed?;
     Some(Evidence::TooCloseToStart {
         earlier,
         distance: clocks_since_start(&open, &auto, entry.cycle, timing),

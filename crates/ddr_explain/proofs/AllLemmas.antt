@@ -1,9 +1,10 @@
 -- Every fault of a trace, place by place.
-use Rattle.std.proofs.Common.{◌≡◌, ℕ, zero, suc, ◌+◌, ◌<◌, Bool, true, false, ◌&&◌, cond, List, [], ◌∷◌, ◌++◌, length, take, get_or, map, Option, refl, sym, ap, ◌∙◌, append_assoc, add-zero, zero-add, add-one, arith}
-use Rattle.std.specs.Prelude.{flat_map, ◌==◌}
-use Rattle.std.specs.List.{filter, range_with_len}
+use Rattle.std.proofs.Common.{◌≡◌, ℕ, zero, suc, ◌+◌, ◌<◌, ◌≤◌, Bool, true, false, ◌&&◌, cond, List, [], ◌∷◌, ◌++◌, length, take, get_or, map, Option, Some, refl, sym, ap, ◌∙◌, append_assoc, add-zero, zero-add, add-one, arith}
+use Rattle.std.specs.Prelude.{flat_map, ◌==◌, slice_get}
+use Rattle.std.specs.List.{filter, list_all, range_with_len}
 use Rattle.std.proofs.lemmas.List.{append-nil, map-append}
 use Rattle.std.proofs.lemmas.List.Elements.{filter_more}
+use Rattle.std.proofs.lemmas.List.Folds.{list_all_at}
 use Rattle.std.proofs.lemmas.Option.{slice_get-get_or, slice_get_past}
 use Rattle.std.proofs.lemmas.Bool.Decides.{nat_tests}
 use Rattle.ddr_timing.specs.declared.config.Config.{Config}
@@ -66,6 +67,24 @@ place_kept c start end entries place old kept so_far =
     ∙ ap (λ rs. flat_map (faults_at c start end entries) (range_with_len 0 place) ++ map (fault_at place) rs) (sym (filter_empty (breaks_at c start end entries place) ALL kept))
     ∙ sym (flat_map-below (faults_at c start end entries) place)
     ∙ ap (λ n. flat_map (faults_at c start end entries) (range_with_len 0 n)) (sym (add-one place))
+
+-- where each place is known to have none, there is none
+at_kept : (kept : List Bool) (n : ℕ) → list_all (λ is_kept. is_kept) kept ≡ true → n < length kept → slice_get kept n ≡ Some true
+at_kept kept n all within = go (get_or kept n true) refl
+  where
+    go : (b : Bool) → get_or kept n true ≡ b → slice_get kept n ≡ Some true
+    go true is = slice_get-get_or kept n true within ∙ ap Some is
+    go false is = absurd (let none = list_all_at (λ is_kept. is_kept) kept n true within is in cc)
+
+pub all_kept : (c : Config) (start end : ℕ) (entries : List Entry) (kept : List Bool) → length kept ≡ length entries → ((place : ℕ) (r : Rule) → slice_get kept place ≡ Some true → breaks_at c start end entries place r ≡ false)
+    → list_all (λ is_kept. is_kept) kept ≡ true → [] ≡ flat_map (faults_at c start end entries) (range_with_len 0 (length entries))
+all_kept c start end entries kept each known all = up_to (length entries) (omega arith)
+  where
+    up_to : (n : ℕ) → n ≤ length entries → [] ≡ flat_map (faults_at c start end entries) (range_with_len 0 n)
+    up_to zero within = refl
+    up_to (suc n) within =
+        place_kept c start end entries n [] (λ r. known n r (at_kept kept n all (omega (arith, within, each)))) (up_to n (omega (arith, within)))
+        ∙ ap (λ k. flat_map (faults_at c start end entries) (range_with_len 0 k)) (add-one n)
 
 -- the trace's end
 end_alone : (c : Config) (start end : ℕ) (entries : List Entry) (here : Bool) → here ≡ true → filter (λ r. here && breaks_at_end c start end entries r) ALL ≡ cond (ends_late c start end entries) (rule.RefLate ∷ []) []

@@ -1,5 +1,5 @@
 -- A trace without a fault at any place.
-use Rattle.std.proofs.Common.{◌≡◌, ℕ, zero, suc, ◌+◌, ◌<◌, ◌≤◌, ◌⊎◌, inl, inr, Bool, true, false, List, [], ◌∷◌, ◌++◌, length, map, Option, Some, None, refl, sym, ap, ap₂, ◌∙◌, add-zero, zero-add, arith}
+use Rattle.std.proofs.Common.{◌≡◌, ℕ, zero, suc, ◌+◌, ◌<◌, ◌≤◌, ◌⊎◌, inl, inr, Bool, true, false, List, [], ◌∷◌, ◌++◌, length, map, Option, Some, None, refl, sym, ap, ◌∙◌, add-zero, zero-add, arith}
 use Rattle.std.specs.Prelude.{◌↔◌, ◌==◌, IsTrue, flat_map}
 use Rattle.std.specs.List.{All, filter, find, range_with_len}
 use Rattle.std.proofs.lemmas.Bool.{cases_lt, eqb-true}

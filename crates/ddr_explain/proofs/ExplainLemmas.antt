@@ -1,5 +1,5 @@
 -- What was written explains the verdict, or tells all faults.
-use Rattle.std.proofs.Common.{◌≡◌, Bool, true, false, List, ℕ, Option, Some, None, Ok, IfSome, refl, sym, subst}
+use Rattle.std.proofs.Common.{◌≡◌, Bool, true, false, List, ℕ, Option, Some, None, Ok, IfSome, refl}
 use Rattle.std.specs.Prelude.{◌↔◌, IsTrue, is_some, not}
 use Rattle.std.specs.Io.KnownBytes.{Appends}
 use Rattle.ddr_timing.specs.declared.config.Config.{Config}

@@ -1,5 +1,5 @@
 -- Every fault of a trace. Each entry is judged behind its whole history, entries at fault among it.
-use Rattle.std.specs.Prelude.{ℕ, ◌+◌, List, [], ◌∷◌, length, map, filter, flat_map, take, Option, Some, None}
+use Rattle.std.specs.Prelude.{ℕ, ◌+◌, List, length, map, filter, flat_map, take, Option, Some, None}
 use Rattle.std.specs.List.{range_with_len}
 use Rattle.ddr_timing.specs.declared.config.Config.{Config}
 use Rattle.ddr_trace.specs.declared.checker.Fault.{Fault}

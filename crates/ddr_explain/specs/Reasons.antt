@@ -1,5 +1,5 @@
 -- Why a trace breaks a rule at a place.
-use Rattle.std.specs.Prelude.{◌≡◌, ℕ, List, length, take, Option, slice_get, MatchOption}
+use Rattle.std.specs.Prelude.{◌≡◌, ℕ, List, length, take, slice_get, MatchOption}
 use Rattle.ddr_timing.specs.declared.config.Config.{Config}
 use Rattle.ddr_trace.specs.declared.command.Entry.{Entry}
 use Rattle.ddr_trace.specs.declared.rule.Rule.{Rule}

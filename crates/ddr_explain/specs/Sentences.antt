@@ -1,5 +1,5 @@
 -- The sentence of a broken rule, kind of evidence by kind of evidence. Each ends with a line feed.
-use Rattle.std.specs.Prelude.{ℕ, ◌+◌, ◌-◌, ◌*◌, Bool, true, false, List, [], ◌∷◌, ◌++◌, codes, Option, Some, None, is_some, if◌then◌else◌}
+use Rattle.std.specs.Prelude.{ℕ, ◌-◌, ◌*◌, List, [], ◌∷◌, ◌++◌, codes, Option, Some, None, is_some, if◌then◌else◌}
 use Rattle.std.specs.Fmt.{decimal}
 use Rattle.ddr_timing.specs.declared.config.Config.{Config}
 use Rattle.ddr_timing.specs.declared.timing.Timing.{Timing}
@@ -17,7 +17,7 @@ use Rattle.ddr_evidence.specs.declared.evidence.Evidence.TheVariants.{TooClose, 
 use Rattle.ddr_evidence.specs.declared.evidence.Part.{Part}
 use Rattle.ddr_evidence.specs.declared.evidence.Part.TheVariants as part
 use Rattle.ddr_evidence.specs.declared.evidence.Placed.{Placed}
-use Rattle.ddr_explain.specs.Limits.{key_of, limit_text}
+use Rattle.ddr_explain.specs.Limits.{limit_text}
 use Rattle.ddr_explain.specs.Names.{at_text, clocks_text, label_of, line_of}
 
 -- what the earlier one is beside its name

@@ -1,5 +1,5 @@
 -- The table of a trace's faults: a head, a line for each fault, and a comment for each broken rule.
-use Rattle.std.specs.Prelude.{◌≡◌, ℕ, ◌==◌, if◌then◌else◌, List, [], ◌∷◌, ◌++◌, length, take, flat_map, count_by, codes, Option, Some, None, slice_get, MatchOption}
+use Rattle.std.specs.Prelude.{◌≡◌, ℕ, ◌==◌, if◌then◌else◌, List, [], ◌∷◌, ◌++◌, length, take, flat_map, count_by, codes, Option, Some, slice_get, MatchOption}
 use Rattle.std.specs.Fmt.{decimal}
 use Rattle.std.specs.Str.{bytes_eq}
 use Rattle.ddr_timing.specs.declared.config.Config.{Config}

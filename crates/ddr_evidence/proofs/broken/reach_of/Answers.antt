@@ -31,12 +31,13 @@ loop-entry-preserved c =
     let now = c.loop-entry.invariant in
     let n = c.loop-entry.entry-index in
     let most = c.max-greatest.result in
-    let pushed : c.push.new.self.items ≡ c.loop-entry.reach.items ++ most ∷ [] = search rules in
+    let pushed : c.push_reserved.new.self.items ≡ c.loop-entry.reach.items ++ most ∷ [] = search rules in
     let greatest = greatest_more c.args.entries.now n _ c.loop-entry.greatest most c.loop-entry-test.true now.greatest c.max-greatest.ensures in
     let longer = length_push c.loop-entry.reach.items most in
-    let long : length c.push.new.self.items ≡ n + 1 = ap length pushed ∙ longer ∙ ap (λ k. k + 1) now.long in
+    let long : length c.push_reserved.new.self.items ≡ n + 1 = ap length pushed ∙ longer ∙ ap (λ k. k + 1) now.long in
     record {
+      room = let room = now.room in let same = c.push_reserved.ensures.capacity in omega (arith, room, same);
       long = long;
       greatest = greatest;
-      above = λ place below. above_more c.args.entries.now c.loop-entry.reach.items c.push.new.self.items n place most now.long pushed greatest now.above below;
+      above = λ place below. above_more c.args.entries.now c.loop-entry.reach.items c.push_reserved.new.self.items n place most now.long pushed greatest now.above below;
     }

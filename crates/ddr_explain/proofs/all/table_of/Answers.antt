@@ -1,8 +1,7 @@
 -- What is told is broken, and nothing is told exactly of a trace without a fault.
-use Rattle.std.proofs.Common.{◌≡◌, ℕ, List, true, ◌==◌, length, ap, sym, ◌∙◌}
+use Rattle.std.proofs.Common.{◌≡◌, true, ◌==◌, length, ap, sym, ◌∙◌}
 use Rattle.std.proofs.lemmas.List.Elements.{All-same}
 use Rattle.ddr_trace.specs.declared.checker.Fault.{Fault}
-use Rattle.ddr_trace.specs.declared.command.Entry.{Entry}
 use Rattle.ddr_trace.specs.Legality.{breaks_at}
 use Rattle.ddr_trace.specs.Traces.{Recorded}
 use Rattle.ddr_explain.specs.AllFaults.{told_of}

@@ -1,5 +1,5 @@
 -- The entry at the place, or the trace's end behind the last one.
-use Rattle.std.proofs.Common.{◌≡◌, ℕ, ◌<◌, ◌≤◌, List, length, ap, subst, ◌∙◌}
+use Rattle.std.proofs.Common.{◌≡◌, ◌<◌, ◌≤◌, List, length, ap, subst, ◌∙◌}
 use Rattle.ddr_trace.specs.declared.command.Entry.{Entry}
 use Rattle.ddr_trace.specs.Traces.{Recorded}
 use Rattle.ddr_explain.proofs.ReasonLemmas.{breaks_behind, breaks_there}

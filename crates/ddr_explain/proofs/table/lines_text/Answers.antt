@@ -1,11 +1,10 @@
 -- A line more.
-use Rattle.std.proofs.Common.{◌≡◌, ◌++◌, length, string_bytes, true, ap, ◌∙◌, arith}
+use Rattle.std.proofs.Common.{◌≡◌, ◌++◌, string_bytes, true, ap, ◌∙◌, arith}
 use Rattle.std.proofs.lemmas.List.{take_all}
 use Rattle.std.proofs.lemmas.List.Elements.{All-get_or}
 use Rattle.ddr_trace.specs.declared.checker.Fault.{Fault}
 use Rattle.ddr_trace.specs.declared.rule.Rule.TheVariants as rule
 use Rattle.ddr_trace.specs.Legality.{breaks_at}
-use Rattle.ddr_explain.specs.Table.{IsTable}
 use Rattle.ddr_explain.proofs.TableLemmas.{table_more, table_open}
 use Rattle.ddr_explain.proofs.table.lines_text.Goals as goal
 
