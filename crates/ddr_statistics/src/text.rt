@@ -160,7 +160,7 @@ fn titled(alloc: Global, title: String, counts: &Counts) -> Result<String, Alloc
 }
 
 /// The lines of a place.
-fn counts_text(alloc: Global, counts: &Counts) -> Result<String, AllocError>
+pub fn counts_text(alloc: Global, counts: &Counts) -> Result<String, AllocError>
     ensures { IfOk result (λ text. string_bytes text ≡ counts_text counts.now) }
 {
     let mut text = banks_lines(alloc, counts)?;

@@ -115,7 +115,7 @@ names : list_all (λ s. is_subcommand s.name) (built ddr_app).subs ≡ true
 unfolding ddr_app
 names = refl
 
--- the subcommand that was met is one of five
+-- the subcommand that was met is one of six
 pub met_named : (words : List Text) (name : Text) (options : List Row) → subcommand_of ddr_app words ≡ Some (name, options) → IsTrue (is_subcommand name)
 met_named words name options met = entered_named (built ddr_app) _ name options names met
 
@@ -142,27 +142,27 @@ like_other t a differ uncounted =
 samples_alike : AllSubsLike (filled sample_rule) (built ddr_app).subs
 unfolding ddr_app is_count
 samples_alike =
-    ((like_same _ _ refl refl refl, (like_other _ _ refl refl, (like_other _ _ refl refl, tt))), ((like_same _ _ refl refl refl, (like_other _ _ refl refl, tt)), ((like_same _ _ refl refl refl, (like_other _ _ refl refl, (like_other _ _ refl refl, (like_other _ _ refl refl, (like_other _ _ refl refl, tt))))), ((like_same _ _ refl refl refl, (like_other _ _ refl refl, tt)), ((like_same _ _ refl refl refl, (like_other _ _ refl refl, tt)), tt)))))
+    ((like_same _ _ refl refl refl, (like_other _ _ refl refl, (like_other _ _ refl refl, tt))), ((like_same _ _ refl refl refl, (like_other _ _ refl refl, tt)), ((like_same _ _ refl refl refl, (like_other _ _ refl refl, tt)), ((like_same _ _ refl refl refl, (like_other _ _ refl refl, (like_other _ _ refl refl, (like_other _ _ refl refl, (like_other _ _ refl refl, tt))))), ((like_same _ _ refl refl refl, (like_other _ _ refl refl, tt)), ((like_same _ _ refl refl refl, (like_other _ _ refl refl, tt)), tt))))))
 
 traces_alike : AllSubsLike (filled trace_rule) (built ddr_app).subs
 unfolding ddr_app is_count
 traces_alike =
-    ((like_other _ _ refl refl, (like_same _ _ refl refl refl, (like_other _ _ refl refl, tt))), ((like_other _ _ refl refl, (like_other _ _ refl refl, tt)), ((like_other _ _ refl refl, (like_other _ _ refl refl, (like_other _ _ refl refl, (like_other _ _ refl refl, (like_other _ _ refl refl, tt))))), ((like_other _ _ refl refl, (like_other _ _ refl refl, tt)), ((like_other _ _ refl refl, (like_other _ _ refl refl, tt)), tt)))))
+    ((like_other _ _ refl refl, (like_same _ _ refl refl refl, (like_other _ _ refl refl, tt))), ((like_other _ _ refl refl, (like_other _ _ refl refl, tt)), ((like_other _ _ refl refl, (like_other _ _ refl refl, tt)), ((like_other _ _ refl refl, (like_other _ _ refl refl, (like_other _ _ refl refl, (like_other _ _ refl refl, (like_other _ _ refl refl, tt))))), ((like_other _ _ refl refl, (like_other _ _ refl refl, tt)), ((like_other _ _ refl refl, (like_other _ _ refl refl, tt)), tt))))))
 
 explains_alike : AllSubsLike (filled explain_rule) (built ddr_app).subs
 unfolding ddr_app is_count
 explains_alike =
-    ((like_other _ _ refl refl, (like_other _ _ refl refl, (like_other _ _ refl refl, tt))), ((like_other _ _ refl refl, (like_other _ _ refl refl, tt)), ((like_other _ _ refl refl, (like_same _ _ refl refl refl, (like_other _ _ refl refl, (like_other _ _ refl refl, (like_other _ _ refl refl, tt))))), ((like_other _ _ refl refl, (like_other _ _ refl refl, tt)), ((like_other _ _ refl refl, (like_other _ _ refl refl, tt)), tt)))))
+    ((like_other _ _ refl refl, (like_other _ _ refl refl, (like_other _ _ refl refl, tt))), ((like_other _ _ refl refl, (like_other _ _ refl refl, tt)), ((like_other _ _ refl refl, (like_other _ _ refl refl, tt)), ((like_other _ _ refl refl, (like_same _ _ refl refl refl, (like_other _ _ refl refl, (like_other _ _ refl refl, (like_other _ _ refl refl, tt))))), ((like_other _ _ refl refl, (like_other _ _ refl refl, tt)), ((like_other _ _ refl refl, (like_other _ _ refl refl, tt)), tt))))))
 
 alls_alike : AllSubsLike (filled all_rule) (built ddr_app).subs
 unfolding ddr_app is_count
 alls_alike =
-    ((like_other _ _ refl refl, (like_other _ _ refl refl, (like_other _ _ refl refl, tt))), ((like_other _ _ refl refl, (like_other _ _ refl refl, tt)), ((like_other _ _ refl refl, (like_other _ _ refl refl, (like_same _ _ refl refl refl, (like_other _ _ refl refl, (like_other _ _ refl refl, tt))))), ((like_other _ _ refl refl, (like_other _ _ refl refl, tt)), ((like_other _ _ refl refl, (like_other _ _ refl refl, tt)), tt)))))
+    ((like_other _ _ refl refl, (like_other _ _ refl refl, (like_other _ _ refl refl, tt))), ((like_other _ _ refl refl, (like_other _ _ refl refl, tt)), ((like_other _ _ refl refl, (like_other _ _ refl refl, tt)), ((like_other _ _ refl refl, (like_other _ _ refl refl, (like_same _ _ refl refl refl, (like_other _ _ refl refl, (like_other _ _ refl refl, tt))))), ((like_other _ _ refl refl, (like_other _ _ refl refl, tt)), ((like_other _ _ refl refl, (like_other _ _ refl refl, tt)), tt))))))
 
 mosts_alike : AllSubsLike (filled most_rule) (built ddr_app).subs
 unfolding ddr_app is_count
 mosts_alike =
-    ((like_other _ _ refl refl, (like_other _ _ refl refl, (like_other _ _ refl refl, tt))), ((like_other _ _ refl refl, (like_other _ _ refl refl, tt)), ((like_other _ _ refl refl, (like_other _ _ refl refl, (like_other _ _ refl refl, (like_same _ _ refl refl refl, (like_other _ _ refl refl, tt))))), ((like_other _ _ refl refl, (like_other _ _ refl refl, tt)), ((like_other _ _ refl refl, (like_other _ _ refl refl, tt)), tt)))))
+    ((like_other _ _ refl refl, (like_other _ _ refl refl, (like_other _ _ refl refl, tt))), ((like_other _ _ refl refl, (like_other _ _ refl refl, tt)), ((like_other _ _ refl refl, (like_other _ _ refl refl, tt)), ((like_other _ _ refl refl, (like_other _ _ refl refl, (like_other _ _ refl refl, (like_same _ _ refl refl refl, (like_other _ _ refl refl, tt))))), ((like_other _ _ refl refl, (like_other _ _ refl refl, tt)), ((like_other _ _ refl refl, (like_other _ _ refl refl, tt)), tt))))))
 
 taken_of : (t : Rule) (words : List Text) (name : Text) (options : List Row) → AllSubsLike t (built ddr_app).subs → fault_of ddr_app words ≡ [] → subcommand_of ddr_app words ≡ Some (name, options) → IfSome (one_of t.id options) (IsTaken t)
 taken_of t words name options alike none met =

@@ -13,7 +13,7 @@ use Rattle.clap.specs.declared.builder.value_parser.ValueParser.TheVariants as p
 use Rattle.clap.specs.declared.error.Error.{Error}
 use Rattle.clap.specs.declared.error.kind.ErrorKind.TheVariants.{OutOfMemory}
 use Rattle.ddr_text.specs.declared.command.Job.{Job}
-use Rattle.ddr_text.specs.declared.command.Job.TheVariants.{Sim, Run, Check, Explain, All, Map, Lint}
+use Rattle.ddr_text.specs.declared.command.Job.TheVariants.{Sim, Run, Replay, Check, Explain, All, Map, Lint}
 
 -- a flag of this name
 abbrev pub flag_rule : Text → Rule
@@ -60,12 +60,13 @@ abbrev pub name_alone : App
 name_alone = let app = new_app (codes "ddr") in
     record app { top = record app.top { subcommand_required = true; disable_help_subcommand = true } }
 
--- the command line: one of five subcommands
+-- the command line: one of six subcommands
 unfoldable pub ddr_app : App
 ddr_app =
     let sim = with_subcommand name_alone (with_rule (with_sample (codes "sim")) trace_rule).top in
     let run = with_subcommand sim (with_sample (codes "run")).top in
-    let check = with_subcommand run check_app.top in
+    let replay = with_subcommand run (with_sample (codes "replay")).top in
+    let check = with_subcommand replay check_app.top in
     let map = with_subcommand check (with_sample (codes "map")).top in
     with_subcommand map (with_sample (codes "lint")).top
 
@@ -102,7 +103,7 @@ pub record AreTaken (options : List Row) : Type 0 where
   pub most : IfSome (one_of (codes "most") options) (IsTaken (filled most_rule))
 
 abbrev pub is_subcommand : Text → Bool
-is_subcommand name = bytes_eq name (codes "sim") || bytes_eq name (codes "run") || bytes_eq name (codes "check") || bytes_eq name (codes "map") || bytes_eq name (codes "lint")
+is_subcommand name = bytes_eq name (codes "sim") || bytes_eq name (codes "run") || bytes_eq name (codes "replay") || bytes_eq name (codes "check") || bytes_eq name (codes "map") || bytes_eq name (codes "lint")
 
 -- the job of the subcommand `check`; who asks for the first faults asks for all, which tell more than an explanation
 abbrev pub check_job : List Row → Bool → Job
@@ -116,6 +117,7 @@ abbrev pub job_with : Text → List Row → Job
 job_with name options =
     if bytes_eq name (codes "sim") then Sim (is_sample options) (channel_of options)
     else if bytes_eq name (codes "run") then Run (is_sample options)
+    else if bytes_eq name (codes "replay") then Replay (is_sample options)
     else if bytes_eq name (codes "check") then check_job options (is_sample options)
     else if bytes_eq name (codes "map") then Map (is_sample options)
     else Lint (is_sample options)

@@ -3,7 +3,7 @@
 //! Below stand `ddr_trace`, whose `write_trace` writes this form and whose `read_trace` reads every other form too, and
 //! `ddr_timing`; `check` stands above. Each function here takes one thing off the front of a text and gives what stands
 //! behind it, or None where the text begins with something else.
-ghost use Rattle.std.specs.Prelude.{◌≡◌, ◌≤◌, ◌<◌, ◌*◌, ◌++◌, IfOk, IfSome, length, true};
+ghost use Rattle.std.specs.Prelude.{◌≡◌, ◌≤◌, ◌<◌, ◌*◌, ◌++◌, IfSome, length, true};
 ghost use Rattle.ddr_trace.specs.Rules.{is_in};
 ghost use Rattle.ddr_trace.specs.Text.{command_fields, end_fields, record_text};
 ghost use Rattle.ddr_text.specs.Canonical.{IsCanonical, IsCommandThen, bank_then, number_then, target_then};
@@ -12,7 +12,7 @@ use ddr_timing::geometry::Geometry;
 use ddr_timing::units::{CLOCK_STOP, LINE_COLUMNS};
 use ddr_trace::command::{Command, Entry};
 use ddr_trace::trace::Trace;
-use std::alloc::{AllocError, Global};
+use std::alloc::Global;
 
 /// The most commands of a trace.
 const MOST_COMMANDS: usize = 65_536;
@@ -43,33 +43,25 @@ struct Target {
 
 /// The trace of a text in the form that is written: numbers without leading zeros, each line ended by a line feed, and
 /// nothing behind END. None where the text has another form, and also where a command lies outside the geometry, a
-/// cycle behind `CLOCK_STOP`, or the trace has more than 65,536 commands: such a text may be that of a trace all the same.
-pub(crate) fn canonical_trace(
-    alloc: Global,
-    geometry: &Geometry,
-    text: &[u8],
-) -> Result<Option<Trace>, AllocError>
-    ensures { IfOk result (λ read. IfSome read (λ trace. IsCanonical geometry.now text.now trace)) }
+/// cycle behind `CLOCK_STOP`, the trace has more than 65,536 commands, or memory for them is refused: such a text may be
+/// that of a trace all the same.
+pub(crate) fn canonical_trace(alloc: Global, geometry: &Geometry, text: &[u8]) -> Option<Trace>
+    ensures { IfSome result (λ trace. IsCanonical geometry.now text.now trace) }
 {
-    let Some(mut rest) = take_word(text, HEADER) else {
-        return Ok(None);
-    };
+    let mut rest = take_word(text, HEADER)?;
     let mut entries = Vec::new(alloc);
     'lines: while let Some((entry, behind)) = take_entry(geometry, rest) {
-        if entries.len() >= MOST_COMMANDS {
-            return Ok(None);
+        if entries.len() >= MOST_COMMANDS || entries.push(entry).is_err() {
+            return None;
         }
-        entries.push(entry)?;
         rest = behind;
     }
-    let Some(end) = take_end(rest) else {
-        return Ok(None);
-    };
-    Ok(Some(Trace {
+    let end = take_end(rest)?;
+    Some(Trace {
         start: 0,
         end,
         entries,
-    }))
+    })
 }
 
 /// The trace's end, where the text is END's line alone.

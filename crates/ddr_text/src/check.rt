@@ -80,12 +80,13 @@ pub fn read_checked<R: Source>(
 }
 
 /// The trace of a body. Its text is in memory, and so it never fails as `Read`. The geometry has no say in the answer: a
-/// text in the form that is written, of commands in it, is read by the shorter way.
+/// text in the form that is written, of commands in it, is read by the shorter way. Where that way gives none, for want of
+/// memory too, the text is read as any other, and so only `read_trace` fails.
 fn trace_in(alloc: Global, geometry: &Geometry, body: &str) -> Result<Trace, TraceError>
     ensures read { IsAnswer (trace_of (records_in body.now)) result }
     ensures sure { IfErr result (λ refusal. refusal ≢ TraceError.Read) }
 {
-    if let Some(trace) = canonical_trace(alloc, geometry, body.as_bytes())? {
+    if let Some(trace) = canonical_trace(alloc, geometry, body.as_bytes()) {
         return Ok(trace);
     }
     match read_trace(alloc, body.as_bytes()) {

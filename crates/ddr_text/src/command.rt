@@ -9,6 +9,8 @@ pub enum Job {
     Sim { sample: bool, trace: Option<u32> },
     /// Runs a script with a thread for each port and each channel.
     Run { sample: bool },
+    /// Replays a request stream, and tells its statistics.
+    Replay { sample: bool },
     /// Checks a trace.
     Check { sample: bool },
     /// Checks a trace, and says what its first fault rests on.

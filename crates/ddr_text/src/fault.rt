@@ -44,6 +44,16 @@ pub enum Fault {
     /// A line of the addresses is no address. Lines count from 1, behind the line `---`, skipped ones too.
     #[error("map line {line}")]
     MapLine { line: u64 },
+    /// A line of a request stream is of no form that is read, or names a port that is not there. Lines count from 1,
+    /// behind the line `---`, skipped ones too.
+    #[error("replay line {line}")]
+    ReplayLine { line: u64 },
+    /// The address of a line of a request stream is not below the memory's capacity. Lines count as above.
+    #[error("replay line {line} OutOfRange")]
+    ReplayRange { line: u64 },
+    /// The replay of a request stream needs more cycles than are made.
+    #[error("replay limit")]
+    ReplayLimit,
     /// The trace's first record is not the header.
     #[error("trace Header")]
     TraceHeader,
@@ -118,6 +128,9 @@ impl Fault {
             | Fault::MapLine { .. }
             | Fault::ScriptLine { .. }
             | Fault::RequestLine { .. }
+            | Fault::ReplayLine { .. }
+            | Fault::ReplayRange { .. }
+            | Fault::ReplayLimit
             | Fault::TraceHeader
             | Fault::TraceRow { .. }
             | Fault::TraceOrder { .. }

@@ -42,6 +42,22 @@ Status: 0; 1 where a channel's trace is not legal; 2 for a bad input or command 
 To paste:
   printf 'write 0 0 0a0b0c0d\\nread 0 0 4\\n' | ./ddr run --sample";
 
+/// Behind the help of `replay`.
+pub const REPLAY: &str = "\
+Input: a configuration, a line `---` and a stream of requests; with --sample the stream
+  alone. A request is a line `AT PORT read ADDR` or `AT PORT write ADDR`, for the whole
+  line of 64 bytes that holds ADDR, which is decimal, or hexadecimal behind 0x. AT is the
+  cycle from which on the port may submit it, or `-` for as soon as possible. Empty lines
+  and lines that begin with # are skipped.
+  Each port submits its requests in order, and waits where one is not taken.
+Output: statistics as TOML, once all requests are served: a table for all channels, and
+  one for each channel.
+Status: 0; 2 for a bad input or command line; 3 where the device, the memory or the
+  clock fails.
+
+To paste:
+  printf -- '- 0 write 0\\n- 0 read 0\\n' | ./ddr replay --sample";
+
 /// Behind the help of `check`.
 pub const CHECK: &str = "\
 Input: a configuration, a line `---` and a trace; with --sample the trace alone.

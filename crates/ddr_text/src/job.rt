@@ -13,7 +13,7 @@ use std::alloc::{AllocError, Global};
 
 /// The job that the words of a command line state, of which the first is the program's name.
 ///
-/// The subcommands are `sim`, `run`, `check`, `map` and `lint`. Each has the flag `--sample`, `sim` the option `--trace C` with
+/// The subcommands are `sim`, `run`, `replay`, `check`, `map` and `lint`. Each has the flag `--sample`, `sim` the option `--trace C` with
 /// the number of a channel, a `u32`, and `check` the flags `--explain` and `--all` and the option `--most N` with a `u32`, which
 /// asks for all faults too. No words, or the name alone, are read as `sim --sample`.
 ///
@@ -49,6 +49,7 @@ fn job_with(name: &str, options: &ArgMatches<'_>) -> Job
             trace: channel_of(options),
         },
         "run" => Job::Run { sample },
+        "replay" => Job::Replay { sample },
         "check" => check_job(options, sample),
         "map" => Job::Map { sample },
         "lint" => Job::Lint { sample },
@@ -124,7 +125,14 @@ fn command<'a>(alloc: Global) -> Result<Command<'a>, AllocError>
         "Runs a script with a thread for each port and each channel",
         help::RUN,
     )?;
-    let check = with_check(alloc, run)?;
+    let replay = with_one(
+        alloc,
+        run,
+        "replay",
+        "Replays a stream of requests, and tells its statistics",
+        help::REPLAY,
+    )?;
+    let check = with_check(alloc, replay)?;
     let map = with_one(alloc, check, "map", "Says where addresses lie", help::MAP)?;
     with_one(
         alloc,

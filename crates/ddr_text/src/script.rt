@@ -26,7 +26,7 @@ const MOST_WRITTEN: usize = 128;
 const MOST_CYCLES: u64 = 1_000_000;
 
 /// The most fields of a line that are kept: one more than a line has that is read.
-const MOST_FIELDS: usize = 6;
+pub const MOST_FIELDS: usize = 6;
 
 /// What a line of a script says to do.
 #[derive(Debug, Drop)]
@@ -162,7 +162,7 @@ fn parse_five(
 }
 
 /// What stands between the spaces of a line, up to the sixth field: a line with so many is at fault already.
-fn fields(line: &str) -> ArrayVec<&str, MOST_FIELDS>
+pub fn fields(line: &str) -> ArrayVec<&str, MOST_FIELDS>
     ensures { map (λ field. field.now) result.items ≡ take MOST_FIELDS (fields_of line.now) }
 {
     let mut fields = ArrayVec::new();
@@ -245,7 +245,7 @@ fn parse_cycle(count: &str) -> Result<Instruction, LineError>
 }
 
 /// The number that a field spells: 1 to 20 decimal digits, below 2^64.
-pub(crate) fn number(field: &str) -> Result<u64, LineError>
+pub fn number(field: &str) -> Result<u64, LineError>
     ensures { Gives (λ n. n) result (number_of LARGEST field.now) }
 {
     number_up_to(u64::MAX, field)
@@ -260,7 +260,7 @@ fn number_up_to(most: u64, field: &str) -> Result<u64, LineError>
 }
 
 /// Of so many ports, the one that a field names.
-fn port_of(ports: u32, field: &str) -> Result<u32, LineError>
+pub fn port_of(ports: u32, field: &str) -> Result<u32, LineError>
     ensures { Gives (λ port. port) result (port_of ports field.now) }
 {
     let port = number(field)?;

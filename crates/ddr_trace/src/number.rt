@@ -1,7 +1,7 @@
 //! Numbers as a text spells them, in decimal digits.
 //!
-//! Nothing stands below. `parse` reads the fields of a trace by this, and the program the numbers of a script and of a
-//! map.
+//! Nothing stands below. `parse` reads the fields of a trace by this; `digits` of `ddr_text` reads the numbers of a script and
+//! of a map by the same definition.
 ghost use Rattle.std.specs.Prelude.{◌≡◌, ◌≤◌, IfSome, length, true};
 ghost use Rattle.std.specs.Char.{is_ascii_digit};
 ghost use Rattle.std.specs.List.{list_all};

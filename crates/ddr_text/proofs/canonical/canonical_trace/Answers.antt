@@ -6,7 +6,7 @@ pub lines-init : goal.lines-init
 lines-init c = record {
   few = search rules;
   fits = search rules;
-  whole = rw c.new-entries.ensures.items (header_first c.args.text.now c.in-Some.rest.now c.in-Some.ensures);
+  whole = rw c.new-entries.ensures.items (header_first c.args.text.now c.in_ok-rest.rest.now c.in_ok-rest.ensures);
 }
 
 pub returns : goal.returns
@@ -15,7 +15,7 @@ returns c = record {
   fits = record {
     few = c.lines.invariant.few;
     within = c.lines.invariant.fits;
-    ends = c.in-Some-take_end.ensures.early;
+    ends = c.in_ok-end.ensures.early;
   };
-  written = text_whole c.args.text.now c.lines.rest.now c.lines.entries.items c.in-Some-take_end.end c.lines.invariant.whole c.in-Some-take_end.ensures.line;
+  written = text_whole c.args.text.now c.lines.rest.now c.lines.entries.items c.in_ok-end.end c.lines.invariant.whole c.in_ok-end.ensures.line;
 }

@@ -5,5 +5,4 @@ use Rattle.ddr_text.proofs.check.trace_in.Goals as goal
 
 pub returns-in-Some-clause-read : goal.returns-in-Some-clause-read
 returns-in-Some-clause-read c =
-    let said = rw c.in-Some.is at c.in_ok-trace.ensures in
-    subst (λ t. IsAnswer (trace_of (records_in t)) (Ok c.in-Some.trace)) c.as_bytes.ensures.value (canonical_answer c.args.geometry.now c.as_bytes.result.now c.in-Some.trace said)
+    subst (λ t. IsAnswer (trace_of (records_in t)) (Ok c.in-Some.trace)) c.as_bytes.ensures.value (canonical_answer c.args.geometry.now c.as_bytes.result.now c.in-Some.trace c.in-Some.ensures)

@@ -1,0 +1,11 @@
+mod FieldLemmas
+mod LegalLemmas
+mod NumberLemmas
+mod QuietLemmas
+mod ReleaseLemmas
+mod ReplayLemmas
+mod StepLemmas
+mod StreamLemmas
+mod SubmitLemmas
+mod TurnLemmas
+mod WaitLemmas

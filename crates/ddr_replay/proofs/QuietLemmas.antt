@@ -1,0 +1,132 @@
+-- In quiet rounds, in which all ports wait, the core's cycles pass, and nothing else comes of them.
+use Rattle.std.proofs.Common.{◌≡◌, ◌<◌, ◌≤◌, ◌-◌, ◌+◌, ℕ, zero, suc, Bool, true, false, cond, List, [], ◌∷◌, Option, Some, None, Result, Ok, Err, All, length, map, refl, sym, ap, ap₂, subst, ◌∙◌, arith}
+use Rattle.std.specs.Prelude.{◌==◌}
+use Rattle.std.specs.List.{slice_get}
+use Rattle.std.specs.Option.{option_map, option_map_or}
+use Rattle.std.proofs.lemmas.List.{length-map}
+use Rattle.std.proofs.lemmas.List.Elements.{All-map}
+use Rattle.ddr_channel.proofs.ListLemmas.{All-at}
+use Rattle.ddr_timing.specs.declared.config.Config.{Config}
+use Rattle.ddr_world.specs.Events.{Collect, Release}
+use Rattle.ddr_world.specs.Served.{front_service}
+use Rattle.ddr_world.specs.Kept.{Kept, side_of, state_of}
+use Rattle.ddr_world.specs.Quiet.{IsQuiet, IsQuietSide, passed, side_passed}
+use Rattle.ddr_world.specs.State.{ChannelSide, State}
+use Rattle.ddr_world.proofs.QuietLemmas.{fewer_of_side, first_all, side_quiet_on}
+use Rattle.ddr_text.specs.declared.fault.Fault.{Fault}
+use Rattle.ddr_text.specs.declared.fault.Fault.TheVariants as faults
+use Rattle.ddr_sim.specs.Rounds.{channels_served, items_of, until_refused}
+use Rattle.ddr_sim.specs.Simulated.{IsCycleFault}
+use Rattle.ddr_sim.proofs.QuietLemmas.{channels_quiet, none_collected, nothing_popped, passed_more}
+use Rattle.ddr_replay.specs.Runs.{Run, port_served, ports_served, ports_submitted, released, replayed, round_closed, round_made, turn, unserved}
+use Rattle.ddr_replay.specs.Stream.{queue_at}
+use Rattle.ddr_replay.specs.View.{IsRunFault}
+use Rattle.ddr_replay.specs.Waits.{AreQuiet, AreWaiting}
+use Rattle.ddr_replay.proofs.ReleaseLemmas.{none_given}
+use Rattle.ddr_replay.proofs.WaitLemmas.{ports_wait, waits_on}
+
+-- after so many quiet rounds
+abbrev pub quietly : ℕ → Run → Run
+quietly count run = record run { state = passed count run.state; round = run.round + count }
+
+port_quiet : (p : ℕ) (run : Run) → All (λ port. port.completions ≡ []) run.state.ports → front_service run.state p ≡ None → port_served p run ≡ run
+port_quiet p run none front =
+    let s = run.state in
+    let none_here = none_collected (slice_get s.ports p) (λ port there. All-at (λ port. port.completions ≡ []) s.ports p port none there) in
+    ap (λ (t : State). released (items_of t (Release p)) p (record run { state = t })) (nothing_popped (Collect p) s none_here) ∙ none_given (items_of s (Release p)) p run front
+
+ports_quiet : (n : ℕ) (run : Run) → All (λ port. port.completions ≡ []) run.state.ports → ((p : ℕ) → p < n → front_service run.state p ≡ None) → ports_served n run ≡ run
+ports_quiet zero run none fronts = refl
+ports_quiet (suc p) run none fronts =
+    ap (port_served p) (ports_quiet p run none (λ q below. fronts q (omega (arith, below)))) ∙ port_quiet p run none (fronts p (omega arith))
+
+-- a quiet round
+round_quiet : (config : Config) (count : ℕ) (run : Run) → AreQuiet config (suc count) run.state → round_made config run ≡ Some (quietly 1 run)
+round_quiet config count run are =
+    let s = run.state in
+    let each = λ (c : ℕ) (side : ChannelSide) (there : slice_get s.channels c ≡ Some side). fewer_of_side 1 (suc count) side (omega arith) (All-at (IsQuietSide (suc count)) s.channels c side are.core.channels there) in
+    let close : Option State → Option Run = option_map (round_closed config run) in
+    ap (λ n. close (channels_served n s)) (sym are.channels)
+    ∙ ap close (channels_quiet (length s.channels) s (omega arith) each ∙ ap (λ (xs : List ChannelSide). Some (record s { channels = xs })) (first_all 1 s.channels))
+    ∙ ap (λ (r : Run). Some (record r { round = r.round + 1 })) (ports_quiet config.limits.ports (record run { state = passed 1 s }) are.core.ports are.fronts)
+
+quiet_on : (config : Config) (count : ℕ) (s : State) → AreQuiet config (suc count) s → AreQuiet config count (passed 1 s)
+quiet_on config count s are = record {
+  channels = length-map s.channels (side_passed 1) ∙ are.channels;
+  core = record {
+    channels = All-map (IsQuietSide count) (side_passed 1) s.channels (λ k d within. side_quiet_on count _ (are.core.channels k d within));
+    ports = are.core.ports;
+  };
+  fronts = are.fronts;
+}
+
+-- so many quiet rounds, once the ports have submitted
+quiet_turns : (config : Config) (n k until : ℕ) (run : Run) → AreQuiet config (suc k) run.state → AreWaiting config.limits.ports until run → run.round + suc k ≤ until → (unserved run == 0) ≡ false
+    → option_map_or (replayed config (n + k)) (round_made config run) (Err faults.ClockSpent) ≡ replayed config n (quietly (suc k) run)
+quiet_turns config n zero until run are waits within busy =
+    let none : n + 0 ≡ n = omega arith in
+    ap (λ o. option_map_or (replayed config (n + 0)) o (Err faults.ClockSpent)) (round_quiet config 0 run are) ∙ ap (λ m. replayed config m (quietly 1 run)) none
+quiet_turns config n (suc k) until run are waits within busy =
+    let next = quietly 1 run in
+    let more : n + suc k ≡ suc (n + k) = omega arith in
+    let last : run.round + 1 + suc k ≡ run.round + suc (suc k) = omega arith in
+    let still : AreWaiting config.limits.ports until next = λ p below ahead. waits_on until until p run.state next.state (slice_get (queue_at run.queues p) 0) (omega arith) refl (waits p below (omega (arith, ahead))) in
+    ap (λ o. option_map_or (replayed config (n + suc k)) o (Err faults.ClockSpent)) (round_quiet config (suc k) run are)
+    ∙ ap (λ m. replayed config m next) more
+    ∙ ap (λ (b : Bool). cond b (Ok next) (option_map_or (replayed config (n + k)) (turn config next) (Err faults.ClockSpent))) busy
+    ∙ ap (λ (r : Run). option_map_or (replayed config (n + k)) (round_made config r) (Err faults.ClockSpent)) (ports_wait config.limits.ports until next still (omega (arith, within)))
+    ∙ quiet_turns config n k until next (quiet_on config (suc k) run.state are) still (omega (arith, within)) busy
+    ∙ ap₂ (λ (xs : List ChannelSide) (r : ℕ). replayed config n (record run { state = record run.state { channels = xs }; round = r })) (passed_more (suc k) run.state.channels) last
+
+-- the core is quiet for as many rounds or fewer, and no reply is in front
+pub are_quiet : (config : Config) (count quiet : ℕ) (k : Kept) → k.config ≡ config → length k.channels ≡ k.config.geometry.channels → IsQuiet quiet (state_of k)
+    → ((port : ℕ) → port < config.limits.ports → front_service (state_of k) port ≡ None) → 0 < count → count ≤ quiet → AreQuiet config count (state_of k)
+are_quiet config count quiet k same shape is fronts some within =
+    let all = is (omega (arith, some, within)) in
+    record {
+      channels = length-map k.channels side_of ∙ shape ∙ ap (λ (c : Config). c.geometry.channels) same;
+      core = record { channels = λ i d inside. fewer_of_side count quiet _ within (all.channels i d inside); ports = all.ports };
+      fronts = fronts;
+    }
+
+-- one round of so many that may be made
+
+pub replayed_turn : (config : Config) (n m : ℕ) (run : Run) → n ≡ suc m → (unserved run == 0) ≡ false → replayed config n run ≡ option_map_or (replayed config m) (turn config run) (Err faults.ClockSpent)
+replayed_turn config n m run e busy =
+    ap (λ k. replayed config k run) e ∙ ap (λ (b : Bool). cond b (Ok run) (option_map_or (replayed config m) (turn config run) (Err faults.ClockSpent))) busy
+
+pub replayed_over : (config : Config) (n : ℕ) (run : Run) → (unserved run == 0) ≡ true → replayed config n run ≡ Ok run
+replayed_over config zero run over = ap (λ (b : Bool). cond b (Ok run) (Err faults.ReplayLimit)) over
+replayed_over config (suc n) run over = ap (λ (b : Bool). cond b (Ok run) (option_map_or (replayed config n) (turn config run) (Err faults.ClockSpent))) over
+
+pub replayed_limit : (config : Config) (n : ℕ) (run : Run) → n ≡ 0 → (unserved run == 0) ≡ false → replayed config n run ≡ Err faults.ReplayLimit
+replayed_limit config n run e busy = ap (λ k. replayed config k run) e ∙ ap (λ (b : Bool). cond b (Ok run) (Err faults.ReplayLimit)) busy
+
+-- a round was made
+pub turn_made : (config : Config) (n m : ℕ) (run next : Run) → n ≡ suc m → (unserved run == 0) ≡ false → round_made config (ports_submitted config.limits.ports run) ≡ Some next → replayed config n run ≡ replayed config m next
+turn_made config n m run next e busy made = replayed_turn config n m run e busy ∙ ap (λ o. option_map_or (replayed config m) o (Err faults.ClockSpent)) made
+
+-- so many quiet ones were
+pub turns_passed : (config : Config) (n m k until : ℕ) (run ready : Run) → n ≡ suc (m + k) → (unserved run == 0) ≡ false → (unserved ready == 0) ≡ false → ready ≡ ports_submitted config.limits.ports run
+    → AreQuiet config (suc k) ready.state → AreWaiting config.limits.ports until ready → ready.round + suc k ≤ until → replayed config n run ≡ replayed config m (quietly (suc k) ready)
+turns_passed config n m k until run ready e busy still is are waits within =
+    replayed_turn config n (m + k) run e busy
+    ∙ ap (λ (r : Run). option_map_or (replayed config (m + k)) (round_made config r) (Err faults.ClockSpent)) (sym is)
+    ∙ quiet_turns config m k until ready are waits within still
+
+-- the channels' part failed
+pub turn_failed : (config : Config) (n m : ℕ) (run ready : Run) (fault : Fault) → n ≡ suc m → (unserved run == 0) ≡ false → ready ≡ ports_submitted config.limits.ports run → IsCycleFault fault (channels_served config.geometry.channels ready.state) → IsRunFault fault (replayed config n run)
+turn_failed config n m run ready faults.ClockSpent e busy is fault =
+    replayed_turn config n m run e busy
+    ∙ ap (λ (r : Run). option_map_or (replayed config m) (round_made config r) (Err faults.ClockSpent)) (sym is)
+    ∙ ap (λ o. option_map_or (replayed config m) (option_map (round_closed config ready) o) (Err faults.ClockSpent)) fault
+turn_failed config n m run ready faults.OutOfMemory e busy is fault = tt
+turn_failed config n m run ready _ e busy is fault = absurd fault
+
+-- a round that was made
+pub round_ok : (config : Config) (run mid last new : Run) → channels_served config.geometry.channels run.state ≡ Some mid.state → mid ≡ record run { state = mid.state } → last ≡ ports_served config.limits.ports mid → new ≡ record last { round = last.round + 1 }
+    → round_made config run ≡ Some new
+round_ok config run mid last new channels same ports next =
+    ap (option_map (round_closed config run)) channels
+    ∙ ap (λ (r : Run). Some (record r { round = r.round + 1 })) (ap (ports_served config.limits.ports) (sym same) ∙ sym ports)
+    ∙ ap (λ (r : Run). Some r) (sym next)

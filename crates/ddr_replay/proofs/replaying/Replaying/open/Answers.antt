@@ -1,0 +1,19 @@
+-- As many requests are left as the queues have, and none is outstanding.
+use Rattle.std.proofs.Common.{◌≡◌, List, length, ap, arith, ◌∙◌}
+use Rattle.std.specs.List.{sum_by}
+use Rattle.ddr_world.specs.Kept.{state_of}
+use Rattle.ddr_world.specs.State.{State}
+use Rattle.ddr_sim.specs.Rounds.{outstanding}
+use Rattle.ddr_sim.proofs.StepCounts.{none_opened}
+use Rattle.ddr_replay.specs.Stream.{Queues}
+use Rattle.ddr_replay.proofs.replaying.Replaying.open.Goals as goal
+
+pub invariant_of-result : goal.invariant_of-result
+invariant_of-result c =
+    let none = ap (λ (s : State). outstanding s) c.in_ok-open.ensures.state ∙ none_opened c.args.config.now 0 0 c.args.config.now.limits.ports in
+    let all = c.count_all-unserved.ensures ∙ ap (λ (qs : Queues). sum_by length qs) c.as_slice.ensures.value in
+    record {
+      config = (c.in_ok-open.ensures.stands).config;
+      ports = c.requires;
+      counted = omega (arith, all, none);
+    }

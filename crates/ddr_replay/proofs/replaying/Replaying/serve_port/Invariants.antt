@@ -1,0 +1,17 @@
+use Rattle.std.proofs.Common.{◌≡◌}
+use Rattle.ddr_world.specs.Events.{Release}
+use Rattle.ddr_world.specs.Kept.{state_of}
+use Rattle.ddr_sim.specs.Rounds.{items_of}
+use Rattle.ddr_replay.specs.Runs.{released}
+use Rattle.ddr_replay.specs.View.{run_of}
+use Rattle.ddr_replay.proofs.replaying.Replaying.serve_port.Given as goal
+
+abbrev pub invariant-replies : goal.invariant-replies
+invariant-replies l = record {
+  run : released (items_of (state_of l.self.world) (Release l.port)) l.port (run_of l.self) ≡ released (items_of (state_of l.initial.self.world) (Release l.port)) l.port (run_of l.initial.self);
+  config : l.self.config ≡ l.initial.self.config;
+  round : l.self.round ≡ l.initial.self.round;
+}
+
+abbrev pub decreases-replies : goal.decreases-replies
+decreases-replies l = items_of (state_of l.self.world) (Release l.port)

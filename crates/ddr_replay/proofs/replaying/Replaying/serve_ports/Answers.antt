@@ -1,0 +1,16 @@
+-- One port more was served.
+use Rattle.std.proofs.Common.{◌+◌, suc, ap, sym, add-one, ◌∙◌}
+use Rattle.ddr_replay.specs.Runs.{port_served, ports_served}
+use Rattle.ddr_replay.specs.View.{run_of}
+use Rattle.ddr_replay.proofs.replaying.Replaying.serve_ports.Goals as goal
+
+pub loop-port-preserved : goal.loop-port-preserved
+loop-port-preserved c =
+    let kept = c.loop-port.invariant in
+    let serve = c.serve_port.ensures in
+    let p = c.loop-port.port in
+    record {
+      run = serve.run ∙ ap (port_served p) kept.run ∙ sym (ap (λ n. ports_served n (run_of c.args.self.now)) (add-one p));
+      config = serve.config ∙ kept.config;
+      round = serve.round ∙ kept.round;
+    }

@@ -1,0 +1,12 @@
+pub mod Asks
+pub mod Ledgers
+pub mod Line
+pub mod Numbers
+pub mod Replays
+pub mod Report
+pub mod Runs
+pub mod Stream
+pub mod Times
+pub mod TimesReport
+pub mod View
+pub mod Waits

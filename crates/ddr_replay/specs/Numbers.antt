@@ -1,0 +1,95 @@
+-- What a replay comes to, in numbers.
+use Rattle.std.specs.Prelude.{◌≡◌, ℕ, ◌+◌, ◌==◌, Bool, true, false, List, [], count_by, map, fold, slice_get, Result, Ok, Err}
+use Rattle.std.specs.List.{list_any, range_with_len}
+use Rattle.std.specs.Option.{option_map_or}
+use Rattle.ddr_timing.specs.declared.units.TheConstants.{CLOCK_STOP}
+use Rattle.ddr_trace.specs.declared.command.Entry.{Entry}
+use Rattle.ddr_address_map.specs.declared.request.Kind.{Kind}
+use Rattle.ddr_address_map.specs.declared.request.Kind.TheVariants.{Read, Write}
+use Rattle.ddr_statistics.specs.declared.counts.Counts.{Counts}
+use Rattle.ddr_statistics.specs.Counts.{counts_of, is_any}
+use Rattle.ddr_statistics.specs.Noted.{no_counts, raised}
+use Rattle.ddr_statistics.specs.Turns as turns
+use Rattle.ddr_world.specs.State.{State}
+use Rattle.ddr_text.specs.declared.fault.Fault.{Fault}
+use Rattle.ddr_text.specs.declared.fault.Fault.TheVariants.{ClockSpent, OutOfMemory}
+use Rattle.ddr_replay.specs.declared.ask.Ask.{Ask}
+use Rattle.ddr_replay.specs.declared.numbers.Numbers.{Numbers}
+use Rattle.ddr_replay.specs.declared.numbers.Requests.{Requests}
+
+abbrev pub is_kind : Kind → Kind → Bool
+is_kind Read Read = true
+is_kind Write Write = true
+is_kind _ _ = false
+
+-- how many requests are of a kind
+abbrev pub of_kind : Kind → List Ask → ℕ
+of_kind kind asks = count_by (λ ask. is_kind ask.kind kind) asks
+
+-- those of a port
+abbrev pub requests_in : List Ask → Requests
+requests_in asks = record { reads = of_kind Read asks; writes = of_kind Write asks }
+
+-- those of two together
+abbrev pub both : Requests → Requests → Requests
+both a b = record { reads = raised b.reads a.reads; writes = raised b.writes a.writes }
+
+abbrev pub many : List Requests → Requests
+many requests = fold both (record { reads = 0; writes = 0 }) requests
+
+-- the numbers of a trace
+unfoldable pub numbers_in : List Entry → Numbers
+numbers_in trace = record { turn_rounds = turns.turn_rounds trace; rank_switches = turns.rank_switches trace; counts = counts_of is_any trace }
+
+abbrev pub no_numbers : Numbers
+no_numbers = record { turn_rounds = 0; rank_switches = 0; counts = no_counts }
+
+-- those of the channel of that number
+abbrev pub numbers_at : State → ℕ → Numbers
+numbers_at s c = option_map_or (λ side. numbers_in side.channel.trace) (slice_get s.channels c) no_numbers
+
+-- those of so many channels
+abbrev pub numbers_of : State → ℕ → List Numbers
+numbers_of s channels = map (numbers_at s) (range_with_len 0 channels)
+
+-- the clock of that channel has come to its end
+abbrev pub is_spent : State → ℕ → Bool
+is_spent s c = option_map_or (λ side. side.channel.now == CLOCK_STOP) (slice_get s.channels c) false
+
+abbrev pub is_any_spent : State → ℕ → Bool
+is_any_spent s channels = list_any (is_spent s) (range_with_len 0 channels)
+
+-- of two together
+unfoldable pub added : Counts → Counts → Counts
+added a b = record {
+  activates = raised b.activates a.activates;
+  precharges = raised b.precharges a.precharges;
+  precharges_all = raised b.precharges_all a.precharges_all;
+  reads = raised b.reads a.reads;
+  writes = raised b.writes a.writes;
+  reads_auto = raised b.reads_auto a.reads_auto;
+  writes_auto = raised b.writes_auto a.writes_auto;
+  refreshes = raised b.refreshes a.refreshes;
+  row_hits = raised b.row_hits a.row_hits;
+  row_misses = raised b.row_misses a.row_misses;
+  row_conflicts = raised b.row_conflicts a.row_conflicts;
+  busy_clocks = raised b.busy_clocks a.busy_clocks;
+}
+
+abbrev pub with_numbers : Numbers → Numbers → Numbers
+with_numbers a b = record {
+  turn_rounds = raised b.turn_rounds a.turn_rounds;
+  rank_switches = raised b.rank_switches a.rank_switches;
+  counts = added a.counts b.counts;
+}
+
+-- those of several channels together
+abbrev pub together : List Numbers → Numbers
+together numbers = fold with_numbers no_numbers numbers
+
+-- what is answered, seen by the view, is the numbers, where no clock is spent, unless memory ran out
+abbrev pub IsCounted : {X : Type 0} → (X → List Numbers) → Result X Fault → State → ℕ → Type 0
+IsCounted view (Ok x) s channels = (view x ≡ numbers_of s channels) × (is_any_spent s channels ≡ false)
+IsCounted view (Err ClockSpent) s channels = is_any_spent s channels ≡ true
+IsCounted view (Err OutOfMemory) s channels = Unit {0}
+IsCounted view (Err _) s channels = ⊥

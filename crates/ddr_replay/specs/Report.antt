@@ -1,0 +1,50 @@
+-- The text of a replay's statistics: a TOML document.
+use Rattle.std.specs.Prelude.{ℕ, ◌+◌, List, [], ◌∷◌, ◌++◌, codes, map}
+use Rattle.std.specs.Fmt.{decimal}
+use Rattle.ddr_timing.specs.declared.config.Config.{Config}
+use Rattle.ddr_statistics.specs.Text.{counts_text, line}
+use Rattle.ddr_replay.specs.declared.numbers.Numbers.{Numbers}
+use Rattle.ddr_replay.specs.declared.numbers.Requests.{Requests}
+use Rattle.ddr_replay.specs.Ledgers.{Ledger}
+use Rattle.ddr_replay.specs.Numbers.{many, numbers_of, requests_in, together}
+use Rattle.ddr_replay.specs.Runs.{Run}
+use Rattle.ddr_replay.specs.Stream.{Queues}
+use Rattle.ddr_replay.specs.TimesReport.{ledger_tables}
+
+unfoldable pub head_text : Config → ℕ → List ℕ
+head_text config cycles =
+    line (codes "channels = ") config.geometry.channels (line (codes "ports = ") config.limits.ports (line (codes "cycles = ") cycles []))
+
+unfoldable pub requests_lines : Requests → List ℕ
+requests_lines requests = line (codes "read_requests = ") requests.reads (line (codes "write_requests = ") requests.writes [])
+
+unfoldable pub numbers_lines : Numbers → List ℕ
+numbers_lines numbers =
+    line (codes "turn_rounds = ") numbers.turn_rounds (line (codes "rank_switches = ") numbers.rank_switches [])
+    ++ counts_text numbers.counts
+
+unfoldable pub total_table : Requests → Numbers → List ℕ
+total_table requests numbers = 10 ∷ (codes "[total]" ++ 10 ∷ []) ++ requests_lines requests ++ numbers_lines numbers
+
+unfoldable pub channel_table : ℕ → Numbers → List ℕ
+channel_table channel numbers = 10 ∷ (codes "[channel." ++ (decimal channel ++ (codes "]" ++ 10 ∷ []))) ++ numbers_lines numbers
+
+unfoldable pub port_table : ℕ → Requests → List ℕ
+port_table port requests = 10 ∷ (codes "[port." ++ (decimal port ++ (codes "]" ++ 10 ∷ []))) ++ requests_lines requests
+
+-- the tables of the channels, of the ports, from this number on
+abbrev pub channel_tables : ℕ → List Numbers → List ℕ
+channel_tables channel [] = []
+channel_tables channel (one ∷ more) = channel_table channel one ++ channel_tables (channel + 1) more
+
+abbrev pub port_tables : ℕ → List Requests → List ℕ
+port_tables port [] = []
+port_tables port (one ∷ more) = port_table port one ++ port_tables (port + 1) more
+
+unfoldable pub report_lines : Config → List Requests → List Numbers → Ledger → ℕ → List ℕ
+report_lines config requests numbers ledger cycles =
+    head_text config cycles ++ total_table (many requests) (together numbers) ++ channel_tables 0 numbers ++ port_tables 0 requests ++ ledger_tables ledger
+
+-- what is written of a replay of these requests that came to this run
+abbrev pub report_text : Config → Queues → Run → List ℕ
+report_text config queues run = report_lines config (map requests_in queues) (numbers_of run.state config.geometry.channels) run.ledger run.round

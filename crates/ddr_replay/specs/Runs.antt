@@ -1,0 +1,102 @@
+-- A replay: before each round each port submits what it may, then comes the round of `sim`.
+use Rattle.std.specs.Prelude.{ℕ, ◌+◌, ◌==◌, suc, zero, nat_lt, if◌then◌else◌, List, [], ◌∷◌, length, slice_set, sum_by, Option, Some, None, Result, Ok, Err}
+use Rattle.std.specs.Option.{option_map, option_map_or}
+use Rattle.ddr_timing.specs.declared.config.Config.{Config}
+use Rattle.ddr_world.specs.Events.{Submit, Collect, Release}
+use Rattle.ddr_world.specs.State.{State, opened}
+use Rattle.ddr_world.specs.Step.{Step, step}
+use Rattle.ddr_text.specs.declared.fault.Fault.{Fault}
+use Rattle.ddr_text.specs.declared.fault.Fault.TheVariants.{ClockSpent, ReplayLimit}
+use Rattle.ddr_world.specs.Served.{front_service}
+use Rattle.ddr_reorder.specs.declared.reply.Service.{Service}
+use Rattle.ddr_sim.specs.Rounds.{after, channels_served, items_of, outstanding, until_refused}
+use Rattle.ddr_replay.specs.declared.ask.Ask.{Ask}
+use Rattle.ddr_replay.specs.declared.times.Accepted.{Accepted}
+use Rattle.ddr_replay.specs.Asks.{asked_by}
+use Rattle.ddr_replay.specs.Ledgers.{Ledger, no_ledger, noted, with_accepted}
+use Rattle.ddr_replay.specs.Stream.{Queues, queue_at}
+
+-- what a replay has come to: the core's state, what each port has still to submit, what is known of the times of requests, and
+-- how many rounds were made
+pub record Run : Type 0 where
+  pub state : State
+  pub queues : Queues
+  pub ledger : Ledger
+  pub round : ℕ
+
+-- the core's state, the ledger, and the requests of a port that are left, once it has submitted
+pub record Submitted : Type 0 where
+  pub state : State
+  pub ledger : Ledger
+  pub rest : List Ask
+
+-- on with the others behind a request that is accepted; one that is refused waits
+abbrev pub after_answer : (State → Submitted) → Submitted → Step → Submitted
+after_answer on wait (Ok m) = on m.state
+after_answer on wait (Err cause) = wait
+
+-- a request that is accepted before a round
+abbrev pub accepted_in : ℕ → Ask → Accepted
+accepted_in round ask = record { kind = ask.kind; round = round }
+
+-- a port's requests in order, while their cycle has come and they are not refused
+abbrev pub submitted : ℕ → ℕ → List Ask → State → Ledger → Submitted
+submitted p round [] s ledger = record { state = s; ledger = ledger; rest = [] }
+submitted p round (ask ∷ more) s ledger =
+    if nat_lt round ask.at then record { state = s; ledger = ledger; rest = ask ∷ more }
+    else after_answer (λ next. submitted p round more next (with_accepted p (accepted_in round ask) ledger)) (record { state = s; ledger = ledger; rest = ask ∷ more }) (step s (Submit p (asked_by ask)))
+
+abbrev pub with_submitted : ℕ → Run → Submitted → Run
+with_submitted p run s = record run { state = s.state; queues = slice_set run.queues p s.rest; ledger = s.ledger }
+
+abbrev pub port_submitted : ℕ → Run → Run
+port_submitted p run = with_submitted p run (submitted p run.round (queue_at run.queues p) run.state run.ledger)
+
+-- the first so many ports, in order
+abbrev pub ports_submitted : ℕ → Run → Run
+ports_submitted zero run = run
+ports_submitted (suc p) run = port_submitted p (ports_submitted p run)
+
+-- the reply in front of a port, whose request was served so, is released
+abbrev pub released_by : ℕ → Run → Service → Run
+released_by p run v = record run { state = after run.state (Release p); ledger = noted p v.issued run.round run.ledger }
+
+-- each reply in front of a port, so many at most
+abbrev pub released : ℕ → ℕ → Run → Run
+released zero p run = run
+released (suc n) p run = option_map_or (λ v. released n p (released_by p run v)) (front_service run.state p) run
+
+-- a port's part of a round: Collect until it is refused, then its replies are released
+abbrev pub port_served : ℕ → Run → Run
+port_served p run =
+    let collected = record run { state = until_refused (Collect p) run.state } in
+    released (items_of collected.state (Release p)) p collected
+
+abbrev pub ports_served : ℕ → Run → Run
+ports_served zero run = run
+ports_served (suc p) run = port_served p (ports_served p run)
+
+-- the ports' part of a round, which is one more then
+abbrev pub round_closed : Config → Run → State → Run
+round_closed config run s = let last = ports_served config.limits.ports (record run { state = s }) in record last { round = last.round + 1 }
+
+-- the round of `sim`: each channel's part, then each port's; none where a clock is spent
+abbrev pub round_made : Config → Run → Option Run
+round_made config run = option_map (round_closed config run) (channels_served config.geometry.channels run.state)
+
+-- each port submits, then the round is made
+abbrev pub turn : Config → Run → Option Run
+turn config run = round_made config (ports_submitted config.limits.ports run)
+
+-- how many requests are to be submitted, or wait for their replies to be released
+abbrev pub unserved : Run → ℕ
+unserved run = sum_by length run.queues + outstanding run.state
+
+-- rounds while there is such a request, of so many that may be made
+abbrev pub replayed : Config → ℕ → Run → Result Run Fault
+replayed config zero run = if unserved run == 0 then Ok run else Err ReplayLimit
+replayed config (suc n) run = if unserved run == 0 then Ok run else option_map_or (replayed config n) (turn config run) (Err ClockSpent)
+
+-- before the first round
+abbrev pub begun : Config → Queues → Run
+begun config queues = record { state = opened config 0 0; queues = queues; ledger = no_ledger config.limits.ports; round = 0 }

@@ -1,0 +1,61 @@
+-- What contracts see of a replay.
+use Rattle.std.specs.Prelude.{◌≡◌, ℕ, ◌≤◌, Bool, true, false, length, Option, Some, None, Result, Err}
+use Rattle.ddr_timing.specs.declared.config.Config.{Config}
+use Rattle.ddr_world.specs.Events.{Event, Take, Deliver, Collect, Release}
+use Rattle.ddr_world.specs.Kept.{Kept, state_of}
+use Rattle.ddr_world.specs.Served.{front_service}
+use Rattle.ddr_reorder.specs.declared.reply.Service.{Service}
+use Rattle.ddr_text.specs.declared.fault.Fault.{Fault}
+use Rattle.ddr_text.specs.declared.fault.Fault.TheVariants as faults
+use Rattle.ddr_replay.specs.declared.replaying.Replaying.TheInside.{Inside}
+use Rattle.ddr_replay.specs.Ledgers.{Ledger}
+use Rattle.ddr_replay.specs.Runs.{Run, released_by, unserved}
+use Rattle.ddr_replay.specs.Stream.{Queues}
+
+pub record Replay : Type 0 where
+  pub config : Config
+  pub world : Kept
+  pub queues : Queues
+  pub ledger : Ledger
+  -- how many rounds were made
+  pub round : ℕ
+  pub unserved : ℕ
+
+abbrev pub replay_of : Inside → Replay
+replay_of a = record { config = a.config; world = a.world; queues = a.queues.items; ledger = a.ledger; round = a.round; unserved = a.unserved }
+
+-- the run that a replay has come to
+abbrev pub run_of : Replay → Run
+run_of r = record { state = state_of r.world; queues = r.queues; ledger = r.ledger; round = r.round }
+
+pub record IsWhole (a : Inside) : Type 0 where
+  pub config : a.world.config ≡ a.config
+  pub ports : length a.queues.items ≡ a.config.limits.ports
+  pub counted : a.unserved ≡ unserved (run_of (replay_of a))
+
+-- all but the core is as it was
+pub record IsSame (old new : Replay) : Type 0 where
+  pub config : new.config ≡ old.config
+  pub queues : new.queues ≡ old.queues
+  pub ledger : new.ledger ≡ old.ledger
+  pub round : new.round ≡ old.round
+
+-- the reply in front of the port was released, if there was one
+abbrev pub IsFrontReleased : ℕ → Run → Run → Bool → Type 0
+IsFrontReleased p old new true = (v : Service) × (front_service old.state p ≡ Some v) × (new ≡ released_by p old v)
+IsFrontReleased p old new false = (front_service old.state p ≡ None) × (new ≡ old)
+
+-- an event that pops an item each time that it is made
+abbrev pub is_popping : Event → Bool
+is_popping (Take c) = true
+is_popping (Deliver c) = true
+is_popping (Collect p) = true
+is_popping (Release p) = true
+is_popping _ = false
+
+-- a fault ends the run as said, unless memory ran out
+abbrev pub IsRunFault : Fault → Result Run Fault → Type 0
+IsRunFault faults.ReplayLimit said = said ≡ Err faults.ReplayLimit
+IsRunFault faults.ClockSpent said = said ≡ Err faults.ClockSpent
+IsRunFault faults.OutOfMemory said = Unit {0}
+IsRunFault _ said = ⊥

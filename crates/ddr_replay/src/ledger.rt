@@ -1,0 +1,156 @@
+//! When requests were accepted, and how long those took whose replies were released.
+//!
+//! `times` stands below, and `submitting`, `replaying` and `report` above.
+ghost use Rattle.std.specs.Prelude.{◌≡◌, [], ◌∷◌, ◌++◌, drop, replicate, slice_get, IfOk, OnOk, Some};
+ghost use Rattle.ddr_replay.specs.Ledgers.{accepted_at, no_ledger, noted, with_accepted, with_times, without_oldest};
+ghost use Rattle.ddr_replay.specs.Times.{no_times};
+
+use crate::times::{Accepted, Times};
+use std::alloc::{AllocError, Global};
+use std::collections::VecDeque;
+use std::marker::Model;
+
+/// The requests of a port that were accepted and whose replies weren't released, the oldest first.
+#[derive(Drop)]
+pub struct Outstanding {
+    requests: VecDeque<Accepted>,
+}
+
+impl Model for Outstanding {
+    ghost use Rattle.std.specs.Prelude.{List};
+    ghost use Rattle.ddr_replay.specs.declared.times.Accepted.{Accepted};
+
+    ghost Value = { List Accepted };
+
+    ghost view = { λ a. a.requests.items };
+}
+
+impl Outstanding {
+    fn new(alloc: Global) -> Outstanding
+        ensures { result ≡ [] }
+    {
+        Outstanding {
+            requests: VecDeque::new(alloc),
+        }
+    }
+
+    fn push(&mut self, accepted: Accepted) -> Result<(), AllocError>
+        ensures { OnOk result (self.new ≡ self.old ++ accepted ∷ []) }
+    {
+        self.requests.push_back(accepted)?;
+        Ok(())
+    }
+
+    fn pop(&mut self) -> Option<Accepted>
+        ensures first { result ≡ slice_get self.old 0 }
+        ensures rest { self.new ≡ drop 1 self.old }
+    {
+        self.requests.pop_front()
+    }
+}
+
+/// The times of a replay's requests. Contracts see it as `Ledger`.
+#[derive(Drop)]
+pub struct Ledger {
+    accepted: Vec<Outstanding>,
+    total: Times,
+    ports: Vec<Times>,
+}
+
+impl Model for Ledger {
+    ghost use Rattle.ddr_replay.specs.Ledgers.{Ledger};
+
+    ghost Value = { Ledger };
+
+    ghost view = { λ a. record { accepted = a.accepted.items; total = a.total; ports = a.ports.items } };
+}
+
+impl Ledger {
+    /// That of so many ports, before the first request.
+    pub fn open(alloc: Global, ports: u32) -> Result<Ledger, AllocError>
+        ensures { IfOk result (λ ledger. ledger ≡ no_ledger ports) }
+    {
+        Ok(Ledger {
+            accepted: none_outstanding(alloc, ports)?,
+            total: Times::NONE,
+            ports: no_times(alloc, ports)?,
+        })
+    }
+
+    /// Notes that a request of a port was accepted.
+    pub fn accept(&mut self, port: u32, accepted: Accepted) -> Result<(), AllocError>
+        ensures { OnOk result (self.new ≡ with_accepted port accepted self.old) }
+    {
+        if (port as usize) < self.accepted.len() {
+            self.accepted[port as usize].push(accepted)?;
+        }
+        Ok(())
+    }
+
+    /// Notes that the reply of a port's oldest request is released in that round, which was issued in that cycle.
+    pub fn release(&mut self, port: u32, issued: u64, round: u32)
+        ensures { self.new ≡ noted port issued round self.old }
+    {
+        if let Some(accepted) = self.take(port) {
+            self.note(port, accepted, issued, round);
+        }
+    }
+
+    /// Takes the port's oldest request.
+    fn take(&mut self, port: u32) -> Option<Accepted>
+        ensures first { result ≡ slice_get (accepted_at self.old port) 0 }
+        ensures rest { self.new ≡ without_oldest port self.old }
+    {
+        if (port as usize) < self.accepted.len() {
+            self.accepted[port as usize].pop()
+        } else {
+            None
+        }
+    }
+
+    /// Notes the times of a request.
+    fn note(&mut self, port: u32, accepted: Accepted, issued: u64, round: u32)
+        ensures { self.new ≡ with_times port issued round (Some accepted) self.old }
+    {
+        self.total.note(accepted, issued, round);
+        if (port as usize) < self.ports.len() {
+            self.ports[port as usize].note(accepted, issued, round);
+        }
+    }
+
+    /// The times of all ports together.
+    pub fn total(&self) -> &Times
+        ensures { result.now ≡ self.now.total }
+    {
+        &self.total
+    }
+
+    /// The times of each port.
+    pub fn ports(&self) -> &[Times]
+        ensures { result.now ≡ self.now.ports }
+    {
+        self.ports.as_slice()
+    }
+}
+
+/// Of so many ports, none of which has an accepted request.
+fn none_outstanding(alloc: Global, ports: u32) -> Result<Vec<Outstanding>, AllocError>
+    ensures { IfOk result (λ v. v.items ≡ replicate ports []) }
+{
+    let mut all = Vec::new(alloc);
+    for _ in 0..ports {
+        all.push(Outstanding::new(alloc))?;
+    }
+    Ok(all)
+}
+
+/// Of so many ports, whose requests took no time yet.
+fn no_times(alloc: Global, ports: u32) -> Result<Vec<Times>, AllocError>
+    ensures { IfOk result (λ v. v.items ≡ replicate ports no_times) }
+{
+    let mut all = Vec::new(alloc);
+    for _ in 0..ports {
+        all.push(Times::NONE)?;
+    }
+    Ok(all)
+}

@@ -1,0 +1,196 @@
+//! What a replay comes to: of each channel the numbers of its commands, and of each port its requests.
+//!
+//! `queue`, `ddr_world` and `ddr_statistics` stand below, and `report` above.
+ghost use Rattle.std.specs.Prelude.{◌≡◌, ◌≢◌, All, true, false, ◌+◌, ◌<◌, ◌≤◌, ◌==◌, IfErr, IfOk, IsTrue, length, map};
+ghost use Rattle.std.specs.List.{range_with_len};
+ghost use Rattle.ddr_timing.specs.declared.units.TheConstants.{CLOCK_STOP};
+ghost use Rattle.ddr_trace.specs.Rules.{is_in};
+ghost use Rattle.ddr_statistics.specs.Stands.{StandsFor};
+ghost use Rattle.ddr_world.specs.Kept.{state_of};
+ghost use Rattle.ddr_replay.specs.Numbers.{IsCounted, added, both, is_kind, is_spent, many, numbers_at, numbers_in, of_kind, requests_in, together};
+
+use crate::ask::Ask;
+use crate::queue::Queue;
+use ddr_address_map::request::Kind;
+use ddr_channel::channel::Channel;
+use ddr_statistics::counts::Counts;
+use ddr_statistics::statistics::Statistics;
+use ddr_text::fault::Fault;
+use ddr_timing::config::Config;
+use ddr_timing::units::CLOCK_STOP;
+use ddr_trace::command::Entry;
+use ddr_world::world::World;
+use std::alloc::{AllocError, Global};
+
+/// The requests of a port, or of several. Each number stops at the last one that a `u64` holds, here and below.
+#[derive(Clone, Copy, Debug, PartialEq, Eq)]
+pub struct Requests {
+    pub reads: u64,
+    pub writes: u64,
+}
+
+/// The numbers of a channel's commands, or of those of several.
+#[derive(Clone, Copy, Debug, PartialEq, Eq)]
+pub struct Numbers {
+    pub turn_rounds: u64,
+    pub rank_switches: u64,
+    pub counts: Counts,
+}
+
+impl Requests {
+    pub const NONE: Requests = Requests {
+        reads: 0,
+        writes: 0,
+    };
+}
+
+impl Numbers {
+    pub const NONE: Numbers = Numbers {
+        turn_rounds: 0,
+        rank_switches: 0,
+        counts: Counts::NONE,
+    };
+}
+
+/// The requests of each queue.
+pub fn requests_of(alloc: Global, queues: &[Queue]) -> Result<Vec<Requests>, AllocError>
+    ensures { IfOk result (λ v. v.items ≡ map requests_in queues.now) }
+{
+    queues.iter().map(|queue| requests_in(queue)).collect(alloc)
+}
+
+/// The requests of a queue.
+fn requests_in(queue: &Queue) -> Requests
+    ensures { result ≡ requests_in queue.now }
+{
+    let asks = queue.asks();
+    Requests {
+        reads: of_kind(asks, Kind::Read),
+        writes: of_kind(asks, Kind::Write),
+    }
+}
+
+/// How many of the requests are of a kind.
+fn of_kind(asks: &[Ask], kind: Kind) -> u64
+    ensures { result ≡ of_kind kind asks.now }
+{
+    asks.iter().filter(|ask| is_kind(ask.kind, kind)).count() as u64
+}
+
+fn is_kind(kind: Kind, wanted: Kind) -> bool
+    ensures { result ≡ is_kind kind wanted }
+{
+    match (kind, wanted) {
+        (Kind::Read, Kind::Read) | (Kind::Write, Kind::Write) => true,
+        _ => false,
+    }
+}
+
+/// The requests of several ports together.
+pub fn many(requests: &[Requests]) -> Requests
+    ensures { result ≡ many requests.now }
+{
+    let mut all = Requests::NONE;
+    for one in requests {
+        all = both(&all, one);
+    }
+    all
+}
+
+fn both(a: &Requests, b: &Requests) -> Requests
+    ensures { result ≡ both a.now b.now }
+{
+    Requests {
+        reads: a.reads.saturating_add(b.reads),
+        writes: a.writes.saturating_add(b.writes),
+    }
+}
+
+/// The numbers of each channel. Fails as `ClockSpent` where a channel's clock has come to its end.
+pub fn numbers_of(alloc: Global, world: &World, channels: u32) -> Result<Vec<Numbers>, Fault>
+    ensures { IsCounted (λ v. v.items) result (state_of world.now) channels }
+{
+    let mut all = Vec::new(alloc);
+    for channel in 0..channels {
+        all.push(numbers_at(world, channel)?)?;
+    }
+    Ok(all)
+}
+
+/// The numbers of the channel of that number.
+fn numbers_at(world: &World, channel: u32) -> Result<Numbers, Fault>
+    ensures counted { IfOk result (λ n. n ≡ numbers_at (state_of world.now) channel) }
+    ensures running { IfOk result (λ n. is_spent (state_of world.now) channel ≡ false) }
+    ensures spent { IfErr result (λ fault. (fault ≡ Fault.ClockSpent) × (is_spent (state_of world.now) channel ≡ true)) }
+{
+    match world.channel(channel) {
+        Some(channel) => numbers_in(channel),
+        None => Ok(Numbers::NONE),
+    }
+}
+
+/// The numbers of a channel.
+fn numbers_in(channel: &Channel) -> Result<Numbers, Fault>
+    ensures counted { IfOk result (λ n. n ≡ numbers_in channel.now.trace) }
+    ensures running { IfOk result (λ n. channel.now.now ≢ CLOCK_STOP) }
+    ensures spent { IfErr result (λ fault. (fault ≡ Fault.ClockSpent) × (channel.now.now ≡ CLOCK_STOP)) }
+{
+    if channel.now() == CLOCK_STOP {
+        return Err(Fault::ClockSpent);
+    }
+    let statistics = statistics_of(channel.config(), channel.trace());
+    Ok(Numbers {
+        turn_rounds: statistics.turn_rounds(),
+        rank_switches: statistics.rank_switches(),
+        counts: statistics.total(),
+    })
+}
+
+/// The statistics of a trace.
+fn statistics_of(config: &Config, trace: &[Entry]) -> Statistics
+    requires placed { All (λ e. IsTrue (is_in config.now.geometry e.command)) trace.now }
+    requires few { length trace.now < CLOCK_STOP }
+    ensures { StandsFor result trace.now }
+{
+    let mut statistics = Statistics::open(config, 0);
+    for entry in trace {
+        statistics.note(entry);
+    }
+    statistics
+}
+
+/// The numbers of several channels together.
+pub fn together(numbers: &[Numbers]) -> Numbers
+    ensures { result ≡ together numbers.now }
+{
+    let mut all = Numbers::NONE;
+    for one in numbers {
+        all = Numbers {
+            turn_rounds: all.turn_rounds.saturating_add(one.turn_rounds),
+            rank_switches: all.rank_switches.saturating_add(one.rank_switches),
+            counts: added(&all.counts, &one.counts),
+        };
+    }
+    all
+}
+
+/// The counts of two together.
+#[tactic(auto, unfolding(crate::specs::Numbers::added))]
+fn added(a: &Counts, b: &Counts) -> Counts
+    ensures { result ≡ added a.now b.now }
+{
+    Counts {
+        activates: a.activates.saturating_add(b.activates),
+        precharges: a.precharges.saturating_add(b.precharges),
+        precharges_all: a.precharges_all.saturating_add(b.precharges_all),
+        reads: a.reads.saturating_add(b.reads),
+        writes: a.writes.saturating_add(b.writes),
+        reads_auto: a.reads_auto.saturating_add(b.reads_auto),
+        writes_auto: a.writes_auto.saturating_add(b.writes_auto),
+        refreshes: a.refreshes.saturating_add(b.refreshes),
+        row_hits: a.row_hits.saturating_add(b.row_hits),
+        row_misses: a.row_misses.saturating_add(b.row_misses),
+        row_conflicts: a.row_conflicts.saturating_add(b.row_conflicts),
+        busy_clocks: a.busy_clocks.saturating_add(b.busy_clocks),
+    }
+}

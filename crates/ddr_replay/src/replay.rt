@@ -1,0 +1,86 @@
+//! A replay of a stream of requests: bytes in, statistics out.
+//!
+//! `stream`, `replaying`, `report` and `ddr_text` stand below, and `ddr_tool` above.
+ghost use Rattle.std.specs.Prelude.{◌≡◌, ◌≤◌, ◌⊎◌, IfErr, IfOk, IfSome, IsErrOf, IsTrue, OnOk, length, string_bytes};
+ghost use Rattle.ddr_text.specs.Fault.{is_before_output};
+ghost use Rattle.ddr_replay.specs.Replays.{HasReplayFault, IsNoStream, IsReplayed, IsSaid, IsStream, report_of};
+
+use crate::numbers::{numbers_of, requests_of};
+use crate::replaying::Replaying;
+use crate::report::report_lines;
+use crate::stream::{LONGEST_STREAM, queues_of};
+use ddr_text::body::open;
+use ddr_text::fault::Fault;
+use ddr_text::input::read_at_most;
+use ddr_text::sink::Sink;
+use ddr_text::source::Source;
+use ddr_text::writing::write_whole;
+use ddr_timing::config::Config;
+use ddr_timing::profile::PROFILE_S;
+use std::alloc::Global;
+use std::str;
+
+/// Reads a stream of requests, replays it, and writes what it comes to as TOML.
+///
+/// With `sample` the whole input is the stream, on the sample configuration; else the input is a configuration of either
+/// version, a line `---` and the stream. A line of it is `AT PORT read ADDR` or `AT PORT write ADDR`, and asks for the whole
+/// line of the memory that holds `ADDR`. Before each round every port, from port 0 on, submits its next requests in order
+/// while their `AT` is at most the rounds made so far and they aren't refused; then comes the round of `sim`; until every
+/// request was submitted and its reply released.
+///
+/// Fails as `open` does, then as `ReplayLine` or `ReplayRange` at the first line of the stream that is at fault, then as
+/// `ReplayLimit` where more than `MOST_ROUNDS` rounds are needed, or as `ClockSpent`. Nothing is written before the statistics
+/// are there, so only `Write` may leave a part of them. Over bytes in memory it never fails as `Read` or as `Write`.
+pub fn replay<R: Source, W: Sink>(
+    alloc: Global,
+    sample: bool,
+    reader: &mut R,
+    writer: &mut W,
+) -> Result<(), Fault>
+    ensures untouched { IfErr result (λ fault. IsTrue (is_before_output fault) → writer.new ≡ writer.old) }
+    ensures stopped { IsErrOf result Fault.ClockSpent → writer.new ≡ writer.old }
+    ensures sure { IsErrOf result Fault.Read → IsTrue R.may_fail }
+    ensures taken { IsErrOf result Fault.Write → IsTrue W.may_fail }
+    ensures spared { IsErrOf result Fault.OutOfMemory → W.contents writer.new ≡ W.contents writer.old }
+    ensures unmoved { IsErrOf result Fault.OutOfMemory → IsTrue W.may_fail → writer.new ≡ writer.old }
+    ensures fault { IfErr result (λ fault. IfSome (R.remaining reader.old) (λ input.
+        HasReplayFault sample PROFILE_S.now input fault)) }
+    ensures written { OnOk result (IfSome (R.remaining reader.old) (λ input.
+        IsReplayed sample PROFILE_S.now input (W.contents writer.old) (W.contents writer.new))) }
+{
+    let input = read_at_most(alloc, LONGEST_STREAM, reader)?;
+    let text = text_of(input.as_slice())?;
+    let (config, body) = open(alloc, sample, text)?;
+    let report = report_of(alloc, &config, body)?;
+    write_whole(writer, report.as_str())
+}
+
+/// The text that the bytes of a whole input encode. Fails as `InputNotUtf8` where they encode none.
+fn text_of(bytes: &[u8]) -> Result<&str, Fault>
+    requires { length bytes.now ≤ LONGEST_STREAM }
+    ensures text { IfOk result (λ text. (text.now ≡ bytes.now) × IsStream bytes.now) }
+    ensures refused { IfErr result (λ fault. (fault ≡ Fault.InputNotUtf8) × IsNoStream bytes.now) }
+{
+    str::from_utf8(bytes).map_err(|_| Fault::InputNotUtf8)
+}
+
+/// What is written of a body. Fails where the body is at fault, or its replay comes to no end.
+fn report_of(alloc: Global, config: &Config, body: &str) -> Result<String, Fault>
+    requires { length body.now ≤ LONGEST_STREAM }
+    ensures { IsSaid string_bytes result (report_of config.now body.now) }
+{
+    let queues = queues_of(alloc, config, body)?;
+    let requests = requests_of(alloc, queues.as_slice())?;
+    let mut replaying = Replaying::open(alloc, config, queues)?;
+    replaying.run()?;
+    let numbers = numbers_of(alloc, replaying.world(), config.geometry.channels)?;
+    let report = report_lines(
+        alloc,
+        config,
+        requests.as_slice(),
+        numbers.as_slice(),
+        replaying.ledger(),
+        replaying.round(),
+    )?;
+    Ok(report)
+}

@@ -1,0 +1,324 @@
+//! The core, and the requests that are still to be submitted: a replay from its first round to its last.
+//!
+//! `submitting`, `queue`, `ledger` and `ddr_world` stand below, and `replay` above.
+ghost use Rattle.std.specs.Prelude.{◌≡◌, ◌==◌, ℕ, ◌+◌, ◌-◌, ◌<◌, ◌≤◌, false, true, IfErr, IfOk, IsTrue, OnOk, Some, None, Ok, length, sum_by};
+ghost use Rattle.ddr_sim.specs.Rounds.{channel_served, channels_served, items_of, until_refused};
+ghost use Rattle.ddr_sim.specs.Simulated.{IsCycleFault, added};
+ghost use Rattle.ddr_world.specs.Answer.{IsAnswered};
+ghost use Rattle.ddr_world.specs.Events.{event_of, Release};
+ghost use Rattle.ddr_world.specs.Served.{front_service};
+ghost use Rattle.ddr_world.specs.Kept.{state_of};
+ghost use Rattle.ddr_world.specs.Quiet.{passed};
+ghost use Rattle.ddr_replay.specs.Runs.{begun, port_served, port_submitted, ports_served, ports_submitted, replayed, round_made, unserved};
+ghost use Rattle.ddr_replay.specs.View.{IsFrontReleased, IsRunFault, IsSame, is_popping, run_of};
+ghost use Rattle.ddr_replay.specs.Waits.{AreQuiet, AreWaiting, IsWaitingIn};
+
+use crate::ledger::Ledger;
+use crate::queue::Queue;
+use crate::submitting::submit_from;
+use ddr_text::fault::Fault;
+use ddr_timing::config::Config;
+use ddr_world::event::{Event, Outcome, Refusal};
+use ddr_world::world::World;
+use std::alloc::{AllocError, Global};
+use std::marker::Model;
+
+/// The most rounds of a replay, this project's choice.
+pub const MOST_ROUNDS: u32 = u32::MAX;
+
+/// A replay. Contracts see it as `Replay`.
+#[derive(Drop)]
+pub struct Replaying {
+    config: Config,
+    world: World,
+    /// Of each port, what it has still to submit.
+    queues: Vec<Queue>,
+    /// When requests were accepted, and how long they took.
+    ledger: Ledger,
+    /// How many rounds were made.
+    round: u32,
+    /// How many requests are still to be submitted, or were and their replies were not released.
+    unserved: u128,
+}
+
+impl Model for Replaying {
+    ghost use Rattle.ddr_replay.specs.View.{Replay};
+
+    ghost Value = { Replay };
+
+    ghost use Rattle.ddr_replay.specs.View.{replay_of, IsWhole};
+
+    ghost view = { replay_of };
+
+    ghost invariant = { IsWhole };
+}
+
+impl Replaying {
+    /// A replay before its first round.
+    pub fn open(alloc: Global, config: &Config, queues: Vec<Queue>) -> Result<Replaying, AllocError>
+        requires { length queues.items ≡ config.now.limits.ports }
+        ensures begun { IfOk result (λ replay. run_of replay ≡ begun config.now queues.items) }
+        ensures config { IfOk result (λ replay. replay.config ≡ config.now) }
+    {
+        let unserved = count_all(queues.as_slice());
+        let ledger = Ledger::open(alloc, config.limits.ports)?;
+        Ok(Replaying {
+            config: *config,
+            world: World::open(alloc, config)?,
+            queues,
+            ledger,
+            round: 0,
+            unserved,
+        })
+    }
+
+    /// Makes rounds until all requests were submitted and their replies released.
+    ///
+    /// Fails as `ReplayLimit` where one round too many is to be made, as `ClockSpent`, and as `OutOfMemory`.
+    pub fn run(&mut self) -> Result<(), Fault>
+        ensures ok { OnOk result (replayed self.old.config (MOST_ROUNDS - self.old.round) (run_of self.old) ≡ Ok (run_of self.new)) }
+        ensures fault { IfErr result (λ fault. IsRunFault fault (replayed self.old.config (MOST_ROUNDS - self.old.round) (run_of self.old))) }
+        ensures config { self.new.config ≡ self.old.config }
+    {
+        'rounds: while !self.is_over() {
+            self.turn()?;
+        }
+        Ok(())
+    }
+
+    /// Whether no request is to be submitted, and none waits for its reply to be released.
+    fn is_over(&self) -> bool
+        ensures { result ≡ (unserved (run_of self.now) == 0) }
+    {
+        self.unserved == 0
+    }
+
+    /// Lets the ports submit, and makes the next round, or where the next ones are quiet as many of those at once.
+    fn turn(&mut self) -> Result<(), Fault>
+        requires { (unserved (run_of self.old) == 0) ≡ false }
+        ensures leads { OnOk result (replayed self.old.config (MOST_ROUNDS - self.old.round) (run_of self.old) ≡ replayed self.old.config (MOST_ROUNDS - self.new.round) (run_of self.new)) }
+        ensures more { OnOk result (self.old.round < self.new.round) }
+        ensures within { self.new.round ≤ MOST_ROUNDS }
+        ensures fault { IfErr result (λ fault. IsRunFault fault (replayed self.old.config (MOST_ROUNDS - self.old.round) (run_of self.old))) }
+        ensures config { self.new.config ≡ self.old.config }
+    {
+        if self.round == MOST_ROUNDS {
+            return Err(Fault::ReplayLimit);
+        }
+        let until = self.submit_all()?;
+        let quiet = self.quiet_rounds(until);
+        if quiet > 0 {
+            self.pass(quiet);
+            return Ok(());
+        }
+        self.make_round()
+    }
+
+    /// Lets each port submit, in order. Tells the cycle until which all of them surely wait.
+    fn submit_all(&mut self) -> Result<u64, AllocError>
+        ensures run { OnOk result (run_of self.new ≡ ports_submitted self.old.config.limits.ports (run_of self.old)) }
+        ensures waits { IfOk result (λ until. AreWaiting self.old.config.limits.ports until (run_of self.new)) }
+        ensures config { self.new.config ≡ self.old.config }
+        ensures round { self.new.round ≡ self.old.round }
+        ensures count { unserved (run_of self.new) ≡ unserved (run_of self.old) }
+    {
+        let mut until = u64::MAX;
+        for port in 0..self.config.limits.ports {
+            until = until.min(self.submit(port)?);
+        }
+        Ok(until)
+    }
+
+    /// Lets a port submit.
+    fn submit(&mut self, port: u32) -> Result<u64, AllocError>
+        requires { port < self.old.config.limits.ports }
+        ensures run { OnOk result (run_of self.new ≡ port_submitted port (run_of self.old)) }
+        ensures waits { IfOk result (λ until. IsWaitingIn port until (run_of self.new)) }
+        ensures config { self.new.config ≡ self.old.config }
+        ensures round { self.new.round ≡ self.old.round }
+        ensures count { unserved (run_of self.new) ≡ unserved (run_of self.old) }
+    {
+        submit_from(
+            &mut self.world,
+            &mut self.queues[port as usize],
+            &mut self.ledger,
+            port,
+            self.round,
+        )
+    }
+
+    /// How many of the next rounds, before the cycle until which the ports wait, are known to be quiet: nothing is to be
+    /// done in them, and so many may still be made.
+    fn quiet_rounds(&self, until: u64) -> u32
+        ensures quiet { 0 < result → AreQuiet self.now.config result (state_of self.now.world) }
+        ensures waits { 0 < result → self.now.round + result ≤ until }
+        ensures within { result ≤ MOST_ROUNDS - self.now.round }
+    {
+        if self.has_front() {
+            return 0;
+        }
+        let waits = until.saturating_sub(u64::from(self.round));
+        let left = u64::from(MOST_ROUNDS - self.round);
+        self.world.still().min(waits).min(left) as u32
+    }
+
+    /// Whether a reply is in front of a port.
+    fn has_front(&self) -> bool
+        ensures { result ≡ false → (port : ℕ) → port < self.now.config.limits.ports → front_service (state_of self.now.world) port ≡ None }
+    {
+        for port in 0..self.config.limits.ports {
+            if self.world.front(port).is_some() {
+                return true;
+            }
+        }
+        false
+    }
+
+    /// Makes so many quiet rounds at once.
+    fn pass(&mut self, count: u32)
+        requires quiet { AreQuiet self.old.config count (state_of self.old.world) }
+        requires within { count ≤ MOST_ROUNDS - self.old.round }
+        ensures state { state_of self.new.world ≡ passed count (state_of self.old.world) }
+        ensures round { self.new.round ≡ self.old.round + count }
+        ensures queues { self.new.queues ≡ self.old.queues }
+        ensures ledger { self.new.ledger ≡ self.old.ledger }
+        ensures config { self.new.config ≡ self.old.config }
+    {
+        self.world.pass(u64::from(count));
+        self.round += count;
+    }
+
+    /// Makes a round: each channel's part in order, then each port's.
+    fn make_round(&mut self) -> Result<(), Fault>
+        requires { self.old.round < MOST_ROUNDS }
+        ensures made { OnOk result (round_made self.old.config (run_of self.old) ≡ Some (run_of self.new)) }
+        ensures fault { IfErr result (λ fault. IsCycleFault fault (channels_served self.old.config.geometry.channels (state_of self.old.world))) }
+        ensures config { self.new.config ≡ self.old.config }
+        ensures round { OnOk result (self.new.round ≡ self.old.round + 1) }
+        ensures within { self.new.round ≤ MOST_ROUNDS }
+    {
+        self.serve_channels()?;
+        self.serve_ports();
+        self.round += 1;
+        Ok(())
+    }
+
+    /// The channels' part of a round.
+    fn serve_channels(&mut self) -> Result<(), Fault>
+        ensures served { OnOk result (channels_served self.old.config.geometry.channels (state_of self.old.world) ≡ Some (state_of self.new.world)) }
+        ensures fault { IfErr result (λ fault. IsCycleFault fault (channels_served self.old.config.geometry.channels (state_of self.old.world))) }
+        ensures same { IsSame self.old self.new }
+    {
+        for channel in 0..self.config.geometry.channels {
+            self.serve_channel(channel)?;
+        }
+        Ok(())
+    }
+
+    /// A channel's part of a round: it takes what there is room for, makes a cycle, and delivers what is done.
+    fn serve_channel(&mut self, channel: u32) -> Result<(), Fault>
+        ensures served { OnOk result (channel_served channel (state_of self.old.world) ≡ Some (state_of self.new.world)) }
+        ensures fault { IfErr result (λ fault. IsCycleFault fault (channel_served channel (state_of self.old.world))) }
+        ensures same { IsSame self.old self.new }
+    {
+        self.repeat(Event::Take(channel));
+        match self.make(Event::Cycle(channel)) {
+            Ok(_) => {}
+            Err(Refusal::OutOfMemory) => return Err(Fault::OutOfMemory),
+            Err(_) => return Err(Fault::ClockSpent),
+        }
+        self.repeat(Event::Deliver(channel));
+        Ok(())
+    }
+
+    /// The ports' part of a round.
+    fn serve_ports(&mut self)
+        ensures run { run_of self.new ≡ ports_served self.old.config.limits.ports (run_of self.old) }
+        ensures config { self.new.config ≡ self.old.config }
+        ensures round { self.new.round ≡ self.old.round }
+    {
+        for port in 0..self.config.limits.ports {
+            self.serve_port(port);
+        }
+    }
+
+    /// A port's part of a round: it collects what was delivered, and releases its replies.
+    fn serve_port(&mut self, port: u32)
+        ensures run { run_of self.new ≡ port_served port (run_of self.old) }
+        ensures config { self.new.config ≡ self.old.config }
+        ensures round { self.new.round ≡ self.old.round }
+    {
+        self.repeat(Event::Collect(port));
+        'replies: while self.release_front(port) {}
+    }
+
+    /// Releases the reply in front of a port, if there is one, and tells whether there was.
+    fn release_front(&mut self, port: u32) -> bool
+        ensures released { IsFrontReleased port (run_of self.old) (run_of self.new) result }
+        ensures fewer { result ≡ true → items_of (state_of self.old.world) (Release port) ≡ items_of (state_of self.new.world) (Release port) + 1 }
+        ensures config { self.new.config ≡ self.old.config }
+        ensures round { self.new.round ≡ self.old.round }
+    {
+        let Some(reply) = self.world.front(port) else {
+            return false;
+        };
+        let issued = reply.issued;
+        let _ = self.make(Event::Release(port));
+        self.ledger.release(port, issued, self.round);
+        true
+    }
+
+    /// Makes an event that pops something until it is refused.
+    fn repeat(&mut self, event: Event<'_>)
+        requires { IsTrue (is_popping (event_of event)) }
+        ensures state { state_of self.new.world ≡ until_refused (event_of event.entry) (state_of self.old.world) }
+        ensures same { IsSame self.old self.new }
+    {
+        'items: while self.make(event).is_ok() {}
+    }
+
+    /// Makes an event, and counts what is served.
+    fn make(&mut self, event: Event<'_>) -> Result<Outcome, Refusal>
+        requires { added (event_of event) ≡ 0 }
+        ensures answer { IsAnswered self.old.world self.new.world (event_of event.entry) result }
+        ensures same { IsSame self.old self.new }
+    {
+        let outcome = self.world.step(event)?;
+        if let Outcome::Released { .. } = outcome {
+            self.unserved -= 1;
+        }
+        Ok(outcome)
+    }
+
+    /// How many rounds were made.
+    pub fn round(&self) -> u32
+        ensures { result ≡ self.now.round }
+    {
+        self.round
+    }
+
+    /// When requests were accepted, and how long they took.
+    pub fn ledger(&self) -> &Ledger
+        ensures { result.now ≡ self.now.ledger }
+    {
+        &self.ledger
+    }
+
+    /// The core.
+    pub fn world(&self) -> &World
+        ensures { result.now ≡ self.now.world }
+    {
+        &self.world
+    }
+}
+
+/// How many requests the queues have.
+fn count_all(queues: &[Queue]) -> u128
+    ensures { result ≡ sum_by length queues.now }
+{
+    let mut count: u128 = 0;
+    for queue in queues {
+        count += queue.len() as u128;
+    }
+    count
+}
