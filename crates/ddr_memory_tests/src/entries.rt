@@ -1,4 +1,4 @@
-//! Commands for bank 0 of group 0, and traces of them.
+//! Commands for bank 0 of group 0 and for ranks, and traces of them.
 use ddr_trace::command::{Command, Entry};
 use ddr_trace::trace::Trace;
 
@@ -44,6 +44,18 @@ pub fn wr(cycle: u64, row: u32, line: u32) -> Entry {
         row,
         line,
     };
+    Entry { cycle, command }
+}
+
+/// PREA at a cycle.
+pub fn pre_all(cycle: u64) -> Entry {
+    let command = Command::PreAll { rank: 0 };
+    Entry { cycle, command }
+}
+
+/// REF of a rank at a cycle.
+pub fn refresh(cycle: u64, rank: u32) -> Entry {
+    let command = Command::Refresh { rank };
     Entry { cycle, command }
 }
 

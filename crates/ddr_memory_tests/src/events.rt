@@ -1,7 +1,7 @@
-//! The core: three reads of one bank, of which the last finds its row open and passes the second, event by event. The answers and
-//! the trace are written out by hand.
+//! The core: three reads of one bank, of which the last finds its row open and passes the second, and the refreshes behind them,
+//! event by event and by runs. The answers and the traces are written out by hand.
 use super::Met;
-use crate::entries::{act, is_trace, pre, rd};
+use crate::entries::{act, is_trace, pre, pre_all, rd, refresh};
 use crate::sample::sample;
 use ddr_ports::request::Request;
 use ddr_trace::command::Entry;
@@ -12,6 +12,9 @@ use std::alloc::Global;
 
 /// An event, and its answer where memory is there.
 type Row = (Event<'static>, Result<Outcome, Refusal>);
+
+/// The cycle before which a fourth read is made.
+const LATER: u32 = 424;
 
 /// A read of a byte from port 0.
 fn read(addr: u64) -> Event<'static> {
@@ -58,12 +61,13 @@ fn cycle_again(world: &mut World) -> Met {
 }
 
 /// Which number's completion comes in a cycle. RD is CL + 4 clocks before: the first comes at 4, the younger hit CCD_L behind
-/// it, and the last behind PRE at 12 and ACT at 16.
+/// it, and the third behind PRE at 12 and ACT at 16. That of the read that is made later comes behind its ACT at 424.
 fn number_in(cycle: u32) -> Option<u64> {
     match cycle {
         12 => Some(0),
         17 => Some(2),
         28 => Some(1),
+        436 => Some(3),
         _ => None,
     }
 }
@@ -82,7 +86,7 @@ fn collected_in(cycle: u32) -> [Row; 2] {
 
 /// Takes a request where there is one, makes a cycle, and takes what comes of it.
 fn make_round(world: &mut World, cycle: u32) -> Met {
-    let taken = if cycle < 3 {
+    let taken = if cycle < 3 || cycle == LATER {
         Ok(Outcome::Taken)
     } else {
         Err(Refusal::Nothing)
@@ -93,10 +97,10 @@ fn make_round(world: &mut World, cycle: u32) -> Met {
     Ok(refused)
 }
 
-/// Makes the rounds up to the last completion.
-fn make_rounds(world: &mut World) -> Met {
+/// Makes the rounds from one cycle up to another.
+fn make_rounds(world: &mut World, (first, end): (u32, u32)) -> Met {
     let mut refused = false;
-    for cycle in 0..29 {
+    for cycle in first..end {
         if make_round(world, cycle)? {
             refused = true;
         }
@@ -104,9 +108,9 @@ fn make_rounds(world: &mut World) -> Met {
     Ok(refused)
 }
 
-/// Gives the replies up in the order of their numbers.
-fn release_all(world: &mut World) -> Result<(), &'static str> {
-    for number in 0..3 {
+/// Gives the replies of these numbers up in their order.
+fn release(world: &mut World, (first, end): (u64, u64)) -> Result<(), &'static str> {
+    for number in first..end {
         let is_there = match world.front(0) {
             Some(reply) => reply.number == number && reply.bytes == [0].as_slice(),
             None => false,
@@ -118,8 +122,9 @@ fn release_all(world: &mut World) -> Result<(), &'static str> {
     Ok(())
 }
 
-/// RCD, CCD_L, RTP, RP and RCD lie between the commands.
-fn entries() -> [Entry; 6] {
+/// RCD, CCD_L, RTP, RP and RCD lie between the commands of the three reads. A refresh falls due at each multiple of REFI,
+/// which is 200; where a row is open, PREA comes first, and REF behind it by RP. The fourth read's row is a third one.
+fn entries() -> [Entry; 13] {
     [
         act(0, 0),
         rd(4, 0, 0),
@@ -127,24 +132,47 @@ fn entries() -> [Entry; 6] {
         pre(12),
         act(16, 1),
         rd(20, 1, 0),
+        pre_all(200),
+        refresh(204, 0),
+        refresh(400, 0),
+        act(u64::from(LATER), 2),
+        rd(428, 2, 0),
+        pre_all(600),
+        refresh(604, 0),
+    ]
+}
+
+/// Without the fourth read no row is open from the first refresh on.
+fn run_entries() -> [Entry; 10] {
+    [
+        act(0, 0),
+        rd(4, 0, 0),
+        rd(9, 0, 1),
+        pre(12),
+        act(16, 1),
+        rd(20, 1, 0),
+        pre_all(200),
+        refresh(204, 0),
+        refresh(400, 0),
+        refresh(600, 0),
     ]
 }
 
 /// Whether channel 0 has this trace, and the other none.
-fn has_traces(traces: &[Option<Trace>]) -> bool {
+fn has_traces(traces: &[Option<Trace>], entries: &[Entry], end: u64) -> bool {
     match traces {
-        [Some(first), Some(second)] => is_trace(first, &entries(), 29) && is_trace(second, &[], 0),
+        [Some(first), Some(second)] => is_trace(first, entries, end) && is_trace(second, &[], 0),
         _ => false,
     }
 }
 
-/// Closes a core that is drained, whose ports took these replies.
-fn is_closed(world: World) -> bool {
+/// Closes a core that is drained, whose port 0 took so many replies and whose channel 0 has this trace.
+fn is_closed(world: World, count: u64, entries: &[Entry], end: u64) -> bool {
     match world.close() {
         Ok(closed) => {
-            closed.accepted.as_slice() == [3, 0].as_slice()
-                && closed.taken.as_slice() == [3, 0].as_slice()
-                && has_traces(closed.traces.as_slice())
+            closed.accepted.as_slice() == [count, 0].as_slice()
+                && closed.taken.as_slice() == [count, 0].as_slice()
+                && has_traces(closed.traces.as_slice(), entries, end)
         }
         Err(_) => false,
     }
@@ -158,34 +186,93 @@ fn open(alloc: Global) -> Result<World, &'static str> {
     }
 }
 
-/// A read, and the cycle that activates its row: the cycle alone wants memory. `World::run` goes on after a refusal, and counts it.
-pub fn run(alloc: Global) -> Met {
-    let mut world = open(alloc)?;
-    let report = world.run(&[read(0), Event::Take(0), Event::Cycle(0)]);
-    if (report.made, report.refused) == (3, 0) {
-        return Ok(false);
-    }
-    let again = world.run(&[Event::Cycle(0)]);
-    let is_activated = match world.channel(0) {
-        Some(channel) => channel.trace() == [act(0, 0)].as_slice(),
-        None => false,
-    };
-    if (report.made, report.refused) == (2, 1) && again.made == 1 && is_activated {
-        Ok(true)
+/// The three reads, and all of them taken.
+fn taken_reads() -> [Event<'static>; 6] {
+    [
+        read(0),
+        read(8192),
+        read(64),
+        Event::Take(0),
+        Event::Take(0),
+        Event::Take(0),
+    ]
+}
+
+/// Takes the three completions.
+const COMPLETIONS: [Event<'static>; 6] = [
+    Event::Deliver(0),
+    Event::Collect(0),
+    Event::Deliver(0),
+    Event::Collect(0),
+    Event::Deliver(0),
+    Event::Collect(0),
+];
+
+/// More than an interval of refreshes.
+const CYCLES: [Event<'static>; 202] = [Event::Cycle(0); 202];
+
+/// Makes events by a run that has to make each.
+fn make_all(world: &mut World, events: &[Event<'_>]) -> Result<(), &'static str> {
+    let report = world.run(events);
+    if (report.made, report.refused) == (events.len(), 0) {
+        Ok(())
     } else {
-        Err("a cycle made again")
+        Err("a run's report")
     }
 }
 
-/// Three reads, with each cycle that is refused made again.
+/// Makes cycles by a run, which goes on after one that is refused and counts it, and makes one more in its place.
+fn make_cycles(world: &mut World) -> Met {
+    let report = world.run(&CYCLES);
+    match (report.made, report.refused) {
+        (202, 0) => Ok(false),
+        (201, 1) => {
+            make_all(world, &CYCLES[..1])?;
+            Ok(true)
+        }
+        _ => Err("a run's report of a refused cycle"),
+    }
+}
+
+/// Makes cycles by runs, over three refreshes.
+fn make_runs(world: &mut World) -> Met {
+    let first = make_cycles(world)?;
+    let second = make_cycles(world)?;
+    let third = make_cycles(world)?;
+    Ok(first || second || third)
+}
+
+/// Three reads by `World::run`, with the cycle that is refused made again behind the others.
+pub fn run(alloc: Global) -> Met {
+    let mut world = open(alloc)?;
+    make_all(&mut world, &taken_reads())?;
+    let refused = make_runs(&mut world)?;
+    make_all(&mut world, &COMPLETIONS)?;
+    release(&mut world, (0, 3))?;
+    answers(&mut world, &ENDS)?;
+    if is_closed(world, 3, &run_entries(), 606) {
+        Ok(refused)
+    } else {
+        Err("what is left of a run")
+    }
+}
+
+/// Three reads, and one more between two refreshes, with each cycle that is refused made again.
 pub fn row_hit(alloc: Global) -> Met {
     let mut world = open(alloc)?;
     answers(&mut world, &reads())?;
-    let refused = make_rounds(&mut world)?;
-    release_all(&mut world)?;
+    let first = make_rounds(&mut world, (0, 29))?;
+    release(&mut world, (0, 3))?;
+    let second = make_rounds(&mut world, (29, LATER))?;
+    answers(
+        &mut world,
+        &[(read(16_384), Ok(Outcome::Accepted { number: 3 }))],
+    )?;
+    let third = make_rounds(&mut world, (LATER, 605))?;
+    release(&mut world, (3, 4))?;
     answers(&mut world, &ENDS)?;
-    if is_closed(world) {
-        Ok(refused)
+    if is_closed(world, 4, &entries(), 605) {
+        Ok(first || second || third)
     } else {
         Err("what is left")
     }

@@ -4,6 +4,7 @@ ghost use Rattle.ddr_row_array.specs.Changes.{SameShape};
 ghost use Rattle.ddr_row_array.specs.Rows.{bank_count, is_stored, open_row, row_count};
 
 use super::Met;
+use crate::entries::refresh;
 use crate::sample::{sample, two_ranks};
 use ddr_channel::channel::{Channel, CycleError};
 use ddr_legality::legality::Legality;
@@ -15,7 +16,7 @@ use ddr_timing::config::Config;
 use ddr_timing::error::ConfigError;
 use ddr_timing::profile::PROFILE_S;
 use ddr_timing::units::LINE_BYTES;
-use ddr_trace::command::{Command, Entry};
+use ddr_trace::command::Entry;
 use ddr_workers::completions::{DonePut, DoneTake};
 use ddr_workers::requests::{RequestPut, RequestTake};
 use ddr_workers::{OpenError, completions, requests};
@@ -223,22 +224,35 @@ fn make_cycles(channel: &mut Channel, count: u32) -> Met {
     Ok(refused)
 }
 
-/// The trace of a channel to which no request comes: the refreshes of both ranks fall due at cycle 200.
-const REFRESHED: &[Entry] = &[
-    Entry {
-        cycle: 200,
-        command: Command::Refresh { rank: 0 },
-    },
-    Entry {
-        cycle: 201,
-        command: Command::Refresh { rank: 1 },
-    },
-];
+/// The trace of an idle channel with one rank: a refresh falls due at each multiple of REFI, which is 200.
+fn refreshed() -> [Entry; 4] {
+    [
+        refresh(200, 0),
+        refresh(400, 0),
+        refresh(600, 0),
+        refresh(800, 0),
+    ]
+}
 
-/// Makes the cycles of an idle channel until it was refreshed.
+/// That of one with two ranks: there is one command in a cycle, and rank 0 is first.
+fn both_refreshed() -> [Entry; 8] {
+    [
+        refresh(200, 0),
+        refresh(201, 1),
+        refresh(400, 0),
+        refresh(401, 1),
+        refresh(600, 0),
+        refresh(601, 1),
+        refresh(800, 0),
+        refresh(801, 1),
+    ]
+}
+
+/// Makes the cycles of an idle channel until each rank was refreshed four times. Memory is wanted for the first entry and for
+/// the fifth: a debt that a refused cycle leaves too great or too small moves the refreshes behind it.
 fn refreshes(mut channel: Channel, trace: &[Entry]) -> Met {
-    let refused = make_cycles(&mut channel, 203)?;
-    if channel.now() == 203 && channel.trace() == trace {
+    let refused = make_cycles(&mut channel, 803)?;
+    if channel.now() == 803 && channel.trace() == trace {
         Ok(refused)
     } else {
         Err("a refresh")
@@ -248,8 +262,8 @@ fn refreshes(mut channel: Channel, trace: &[Entry]) -> Met {
 /// `Channel::cycle` of an idle channel with one rank, and of one with two.
 pub fn cycle(alloc: Global) -> Met {
     let (one, _) = again(|| Channel::open(alloc, &sample(), 0))?;
-    let first = refreshes(one, &REFRESHED[..1])?;
+    let first = refreshes(one, &refreshed())?;
     let (two, _) = again(|| Channel::open(alloc, &two_ranks(), 0))?;
-    let second = refreshes(two, REFRESHED)?;
+    let second = refreshes(two, &both_refreshed())?;
     Ok(first || second)
 }

@@ -68,6 +68,14 @@ const CALLS: &[(Command, &str, &str, u32, u32)] = &[
     // 30 bytes are read in 4 calls, and their end by one more. The replies are two lines of 12 and 20 bytes, written in
     // 3 and 4 calls, and flushed by one more.
     (Command::Sim, WRITE_THEN_READ, REPLIES, 5, 8),
+    // 11 bytes are read in 2 calls, and the refusal's 22 are written in 5.
+    (
+        Command::Sim,
+        "read 0 0 0\n",
+        "refused 0 EmptyLength\n",
+        3,
+        6,
+    ),
     // The trace is 92 bytes, written in 19 calls, and flushed by one more.
     (Command::Trace(0), WRITE_THEN_READ, TRACE, 5, 20),
     // 12 bytes are read in 2 calls, and 40 written in 8.
@@ -109,34 +117,55 @@ fn each_read_fails(rt: HostRuntime) -> Result<(), Fail> {
     Ok(())
 }
 
-#[test]
-fn each_read_is_interrupted(rt: HostRuntime) -> Result<(), Fail> {
-    for calls in 0..8 {
+/// That a command reads on where one of the calls that it needs to read its input is interrupted.
+fn reads_on(
+    rt: &impl Abort,
+    alloc: Global,
+    (command, input, text): (Command, &str, &str),
+    needed: u32,
+) -> Result<(), AllocError> {
+    for calls in 0..needed.saturating_add(3) {
         let reader = Failing {
-            text: WRITE_THEN_READ.as_bytes(),
+            text: input.as_bytes(),
             calls,
             kind: ErrorKind::Interrupted,
         };
-        let ran = read_in(rt.alloc(), Command::Sim, reader);
-        is_so_in(&rt, rt.alloc(), ran, (Ok(true), REPLIES), (calls, REPLIES))?;
+        let ran = read_in(alloc, command, reader);
+        is_so_in(rt, alloc, ran, (Ok(true), text), (calls, text))?;
     }
     Ok(())
 }
+
+#[test]
+fn each_read_is_interrupted(rt: HostRuntime) -> Result<(), Fail> {
+    for (command, input, text, needed, _) in CALLS {
+        reads_on(&rt, rt.alloc(), (*command, *input, *text), *needed)?;
+    }
+    Ok(())
+}
+
+/// The most bytes of an input.
+const LONGEST: u64 = 16_777_216;
 
 /// A reader that gives comments without end, or only so many bytes of them.
 #[derive(Drop)]
 struct Comments {
     left: u64,
-    asked: u64,
+    given: u64,
+    // How often it was asked once it had given more than the longest input.
+    asked_beyond: u64,
 }
 
 impl Read for Comments {
     fn read(&mut self, buf: &mut [u8]) -> io::Result<usize> {
-        self.asked = self.asked.wrapping_add(1);
+        if self.given > LONGEST {
+            self.asked_beyond = self.asked_beyond.wrapping_add(1);
+        }
         let most = usize::try_from(self.left).unwrap_or(usize::MAX);
         let count = buf.len().min(most);
         buf[..count].fill(b'#');
         self.left = self.left.saturating_sub(count as u64);
+        self.given = self.given.saturating_add(count as u64);
         Ok(count)
     }
 }
@@ -153,7 +182,8 @@ const COMMENTS: &[(Command, u64, Result<bool, Fault>)] = &[
     (Command::Map, u64::MAX, Err(Fault::InputTooLong)),
 ];
 
-/// That a command on so many bytes of comments ends so, writes nothing and asks for no more than the longest input.
+/// That a command on so many bytes of comments ends so, writes nothing, and asks for nothing more once the input is too
+/// long.
 fn ends_so_in_comments(
     rt: &impl Abort,
     alloc: Global,
@@ -161,11 +191,15 @@ fn ends_so_in_comments(
     left: u64,
     wanted: Result<bool, Fault>,
 ) {
-    let mut reader = Device(Comments { left, asked: 0 });
+    let mut reader = Device(Comments {
+        left,
+        given: 0,
+        asked_beyond: 0,
+    });
     let mut bytes = Vec::new(alloc);
     let end = end_of(alloc, command, true, &mut reader, &mut bytes);
     assert_eq!(rt; (end, bytes.len()), (wanted, 0), "{left} bytes");
-    assert!(rt; reader.0.asked <= 16_777_218, "{left} bytes");
+    assert_eq!(rt; reader.0.asked_beyond, 0, "{left} bytes");
 }
 
 #[test]
@@ -175,49 +209,65 @@ fn inputs_that_are_too_long(rt: HostRuntime) {
     }
 }
 
-/// A writer that takes at most 5 bytes at a time, and fails where no call is left.
+/// What a writer does once, in place of a call.
+#[derive(Clone, Copy, Debug, PartialEq, Eq)]
+enum Trouble {
+    Fails,
+    IsInterrupted,
+    /// Takes no byte, though there are some.
+    TakesNothing,
+}
+
+/// A writer that takes at most 5 bytes at a time, and is in trouble once, where no call is left.
 #[derive(Drop)]
 struct Full {
     text: Vec<u8>,
     calls: u32,
+    trouble: Trouble,
 }
 
 impl Full {
-    fn call(&mut self) -> io::Result<()> {
-        match self.calls.checked_sub(1) {
-            Some(left) => {
-                self.calls = left;
-                Ok(())
-            }
-            None => Err(io::Error::from(ErrorKind::Other)),
-        }
+    /// Counts a call, and gives what happens in its place, if anything.
+    fn trouble_at_call(&mut self) -> Option<Trouble> {
+        let calls = self.calls;
+        self.calls = calls.wrapping_sub(1);
+        if calls == 0 { Some(self.trouble) } else { None }
     }
 }
 
 impl Write for Full {
     fn write(&mut self, buf: &[u8]) -> io::Result<usize> {
-        self.call()?;
+        match self.trouble_at_call() {
+            None => {}
+            Some(Trouble::Fails) => return Err(io::Error::from(ErrorKind::Other)),
+            Some(Trouble::IsInterrupted) => return Err(io::Error::from(ErrorKind::Interrupted)),
+            Some(Trouble::TakesNothing) => return Ok(0),
+        }
         let taken = buf.len().min(5);
         self.text.extend_from_slice(&buf[..taken])?;
         Ok(taken)
     }
 
     fn flush(&mut self) -> io::Result<()> {
-        self.call()
+        match self.trouble_at_call() {
+            None | Some(Trouble::TakesNothing) => Ok(()),
+            Some(Trouble::Fails | Trouble::IsInterrupted) => Err(io::Error::from(ErrorKind::Other)),
+        }
     }
 }
 
-/// How a command ends whose writer fails where no call is left, and what it writes.
+/// How a command ends whose writer is in trouble where no call is left, and what it writes.
 fn write_in(
     alloc: Global,
     command: Command,
     input: &str,
-    calls: u32,
+    (calls, trouble): (u32, Trouble),
 ) -> (Vec<u8>, Result<bool, Fault>) {
     let mut reader = input.as_bytes();
     let mut writer = Device(Full {
         text: Vec::new(alloc),
         calls,
+        trouble,
     });
     let end = end_of(alloc, command, true, &mut reader, &mut writer);
     (writer.0.text, end)
@@ -254,9 +304,36 @@ fn fails_unless_all_is_written(
     needed: u32,
 ) {
     for calls in 0..needed.saturating_add(3) {
-        let ran = write_in(alloc, command, input, calls);
+        let ran = write_in(alloc, command, input, (calls, Trouble::Fails));
         is_cut_off(rt, ran, text, calls, needed);
     }
+}
+
+/// That a command fails where one of the calls that it needs to write its text takes nothing; the last call is a flush.
+fn fails_where_nothing_is_taken(
+    rt: &impl Abort,
+    alloc: Global,
+    (command, input, text): (Command, &str, &str),
+    needed: u32,
+) {
+    for calls in 0..needed.saturating_add(3) {
+        let ran = write_in(alloc, command, input, (calls, Trouble::TakesNothing));
+        is_cut_off(rt, ran, text, calls, needed.saturating_sub(1));
+    }
+}
+
+/// That a command writes on where one of the calls that it needs to write its text is interrupted; the last call is a flush.
+fn writes_on(
+    rt: &impl Abort,
+    alloc: Global,
+    (command, input, text): (Command, &str, &str),
+    needed: u32,
+) -> Result<(), AllocError> {
+    for calls in 0..needed.saturating_sub(1) {
+        let ran = write_in(alloc, command, input, (calls, Trouble::IsInterrupted));
+        is_so_in(rt, alloc, ran, (Ok(true), text), (calls, text))?;
+    }
+    Ok(())
 }
 
 #[test]
@@ -266,26 +343,41 @@ fn each_write_fails(rt: HostRuntime) {
     }
 }
 
+#[test]
+fn each_write_takes_nothing(rt: HostRuntime) {
+    for (command, input, text, _, needed) in CALLS {
+        fails_where_nothing_is_taken(&rt, rt.alloc(), (*command, *input, *text), *needed);
+    }
+}
+
+#[test]
+fn each_write_is_interrupted(rt: HostRuntime) -> Result<(), Fail> {
+    for (command, input, text, _, needed) in CALLS {
+        writes_on(&rt, rt.alloc(), (*command, *input, *text), *needed)?;
+    }
+    Ok(())
+}
+
 /// What a run in threads writes of the write and the read.
 const RAN: &str = "0 0 write 0\n0 1 read 0 0a0b0c0d\nchannel 0 legal\nchannel 1 legal\n";
 
-/// How a run ends whose reader fails where no call is left, and what it writes.
+/// How a run ends whose reader fails so where no call is left, and what it writes.
 fn run_from<R: Threads + Wait + Sync>(
     rt: &R,
     alloc: Global,
-    calls: u32,
+    (calls, kind): (u32, ErrorKind),
 ) -> (Vec<u8>, Result<bool, Fault>) {
     let mut reader = Failing {
         text: WRITE_THEN_READ.as_bytes(),
         calls,
-        kind: ErrorKind::Other,
+        kind,
     };
     let mut bytes = Vec::new(alloc);
     let end = run(rt, alloc, true, &mut reader, &mut bytes);
     (bytes, end)
 }
 
-/// How a run ends whose writer fails where no call is left, and what it writes.
+/// How a run ends whose writer fails once, where no call is left, and what it writes.
 fn run_to<R: Threads + Wait + Sync>(
     rt: &R,
     alloc: Global,
@@ -295,6 +387,7 @@ fn run_to<R: Threads + Wait + Sync>(
     let mut writer = Device(Full {
         text: Vec::new(alloc),
         calls,
+        trouble: Trouble::Fails,
     });
     let end = run(rt, alloc, true, &mut reader, &mut writer);
     (writer.0.text, end)
@@ -304,10 +397,40 @@ fn run_to<R: Threads + Wait + Sync>(
 fn each_read_of_a_run_fails(rt: HostRuntime) -> Result<(), Fail> {
     // 30 bytes are read in 4 calls, and their end by one more.
     for calls in 0..7 {
-        let ran = run_from(&rt, rt.alloc(), calls);
+        let ran = run_from(&rt, rt.alloc(), (calls, ErrorKind::Other));
         is_so_in(&rt, rt.alloc(), ran, end_in(calls, 5, RAN), (calls, RAN))?;
     }
     Ok(())
+}
+
+#[test]
+fn each_read_of_a_run_is_interrupted(rt: HostRuntime) -> Result<(), Fail> {
+    for calls in 0..7 {
+        let ran = run_from(&rt, rt.alloc(), (calls, ErrorKind::Interrupted));
+        is_so_in(&rt, rt.alloc(), ran, (Ok(true), RAN), (calls, RAN))?;
+    }
+    Ok(())
+}
+
+/// How a run ends on comments without end, how many bytes it writes, and how often it asks once its input is too long.
+fn run_on_comments<R: Threads + Wait + Sync>(
+    rt: &R,
+    alloc: Global,
+) -> (Result<bool, Fault>, usize, u64) {
+    let mut reader = Comments {
+        left: u64::MAX,
+        given: 0,
+        asked_beyond: 0,
+    };
+    let mut bytes = Vec::new(alloc);
+    let end = run(rt, alloc, true, &mut reader, &mut bytes);
+    (end, bytes.len(), reader.asked_beyond)
+}
+
+#[test]
+fn an_input_of_a_run_without_end(rt: HostRuntime) {
+    let ran = run_on_comments(&rt, rt.alloc());
+    assert_eq!(rt; ran, (Err(Fault::InputTooLong), 0, 0));
 }
 
 /// How a run ends that writes in so many calls, and what it writes.

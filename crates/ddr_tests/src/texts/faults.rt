@@ -43,6 +43,13 @@ const TOLD: &[(Fault, &str, u8)] = &[
     (Fault::ScriptLine { line: 12 }, "script line 12", 2),
     (Fault::ScriptLimit, "script limit", 2),
     (Fault::MapLine { line: 12 }, "map line 12", 2),
+    (Fault::ReplayLine { line: 12 }, "replay line 12", 2),
+    (
+        Fault::ReplayRange { line: 12 },
+        "replay line 12 OutOfRange",
+        2,
+    ),
+    (Fault::ReplayLimit, "replay limit", 2),
     // Of a trace.
     (Fault::TraceHeader, "trace Header", 2),
     (Fault::TraceTruncated, "trace Truncated", 2),

@@ -45,6 +45,8 @@ const JOBS: &[(&str, Job)] = &[
     ("ddr map --sample", Job::Map { sample: true }),
     ("ddr lint", Job::Lint { sample: false }),
     ("ddr lint --sample", Job::Lint { sample: true }),
+    ("ddr replay", Job::Replay { sample: false }),
+    ("ddr replay --sample", Job::Replay { sample: true }),
     // The program may have another name.
     ("/bin/model map", Job::Map { sample: false }),
 ];
@@ -103,6 +105,7 @@ const ERRORS: &[(&str, ErrorKind)] = &[
     ("ddr map --trace=0", ErrorKind::UnknownArgument),
     ("ddr run --trace 1", ErrorKind::UnknownArgument),
     ("ddr lint --trace 1", ErrorKind::UnknownArgument),
+    ("ddr replay --trace 1", ErrorKind::UnknownArgument),
     ("ddr trace", ErrorKind::InvalidSubcommand),
     ("ddr SIM", ErrorKind::InvalidSubcommand),
     ("ddr ", ErrorKind::InvalidSubcommand),
