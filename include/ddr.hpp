@@ -87,6 +87,13 @@ public:
         while (ddr_cycle(&core, count, &cycle) == DDR_OK) count++;
         return count;
     }
+    // How many ports there are.
+    std::uint32_t ports() {
+        std::uint32_t count = 0;
+        std::uint64_t accepted = 0, taken = 0;
+        while (ddr_counts(&core, count, &accepted, &taken) == DDR_OK) count++;
+        return count;
+    }
     std::size_t trace(std::uint32_t channel, std::uint64_t first, ddr_command *commands, std::size_t room) {
         std::uint64_t count = 0;
         check(ddr_trace(&core, channel, first, commands, room, &count), "ddr_trace");

@@ -3,8 +3,10 @@
 //     stream CONFIG REQUESTS [FOLDER]
 //
 // Lines are drawn from 2,048, half of the requests are writes, and as many are added in a cycle as are taken. With a folder
-// it writes there what it did: `script`, the requests and cycles as `./ddr sim` takes them (so no more than 10,000
-// requests), `replies`, and `trace-N` of each channel N, which have to be what `./ddr sim` prints of the script.
+// it writes there what it did: `requests`, each with the cycle in which its port took it, as `./ddr replay` takes them, and
+// `statistics`, which have to be what `./ddr replay` prints of them. Of no more than 10,000 requests, as many as `./ddr sim`
+// takes, also `script`, the requests and cycles, `replies`, and `trace-N` of each channel N, which have to be what
+// `./ddr sim` prints of the script.
 #include "ddr.hpp"
 
 #include <cinttypes>
@@ -12,12 +14,16 @@
 #include <fstream>
 #include <iostream>
 #include <iterator>
+#include <map>
 #include <sstream>
+#include <tuple>
 #include <vector>
 
 namespace {
 
 constexpr std::uint64_t LINES = 2048;
+// The most requests that `./ddr sim` takes.
+constexpr std::uint64_t SCRIPT_REQUESTS = 10000;
 
 // Numbers by chance, the same on every machine (xorshift64*).
 class Draw {
@@ -59,9 +65,11 @@ std::string hex(const std::uint8_t *bytes, std::size_t count) {
     return text;
 }
 
-// What is written of a run, where a folder is given. The line of a request stands before that of the cycle in which the port
-// took it.
+// What is written of a run: where a folder is given its requests, in the order of their replies, which is that in which they
+// were taken; and its script, where it is wanted. The line of a request stands there before that of the cycle in which the
+// port took it.
 struct Record {
+    std::ofstream requests;
     std::ostringstream script, replies;
     std::string held;
     bool wanted = false;
@@ -81,9 +89,11 @@ struct Record {
         if (wanted) script << "cycle 1\n";
     }
     void reply(const ddr::Reply &reply) {
-        if (!wanted) return;
         const bool is_write = reply.head.kind == DDR_WRITE;
-        replies << "0 " << reply.head.number << (is_write ? " write " : " read ") << reply.head.addr;
+        const char *const word = is_write ? " write " : " read ";
+        if (requests.is_open()) requests << reply.head.accepted << " 0" << word << reply.head.addr << '\n';
+        if (!wanted) return;
+        replies << "0 " << reply.head.number << word << reply.head.addr;
         if (!is_write) replies << ' ' << hex(reply.bytes.data(), reply.head.bytes);
         replies << '\n';
     }
@@ -95,33 +105,116 @@ void place(std::ostream &to, std::uint32_t value) {
     if (value != DDR_NONE) to << value;
 }
 
-// A channel's commands as the program writes a trace, and how many there are of each kind.
-std::string traced(ddr::Core &core, std::uint32_t channel, std::uint64_t (&counts)[8]) {
-    std::ostringstream text;
-    text << "cycle,cmd,rank,group,bank,row,col\n";
+// The numbers of channels' commands that `./ddr replay` prints.
+struct Numbers {
+    std::uint64_t turn_rounds = 0, rank_switches = 0, row_hits = 0, row_misses = 0, row_conflicts = 0;
+    std::uint64_t commands[8] = {};
+
+    std::uint64_t columns() const { return commands[DDR_RD] + commands[DDR_WR] + commands[DDR_RDA] + commands[DDR_WRA]; }
+    void add(const Numbers &more) {
+        turn_rounds += more.turn_rounds;
+        rank_switches += more.rank_switches;
+        row_hits += more.row_hits;
+        row_misses += more.row_misses;
+        row_conflicts += more.row_conflicts;
+        for (int kind = 0; kind < 8; kind++) commands[kind] += more.commands[kind];
+    }
+    void print(std::ostream &to) const {
+        to << "turn_rounds = " << turn_rounds << "\nrank_switches = " << rank_switches << "\nactivates = " << commands[DDR_ACT]
+           << "\nprecharges = " << commands[DDR_PRE] << "\nprecharges_all = " << commands[DDR_PREA]
+           << "\nrefreshes = " << commands[DDR_REF] << "\nreads = " << commands[DDR_RD] << "\nwrites = " << commands[DDR_WR]
+           << "\nreads_auto = " << commands[DDR_RDA] << "\nwrites_auto = " << commands[DDR_WRA] << "\nrow_hits = " << row_hits
+           << "\nrow_misses = " << row_misses << "\nrow_conflicts = " << row_conflicts << "\nbusy_clocks = " << 4 * columns() << '\n';
+    }
+};
+
+// The numbers of a channel, command by command.
+class Counter {
+public:
+    Numbers numbers;
+
+    void note(const ddr_command &it) {
+        numbers.commands[it.kind]++;
+        if (it.kind == DDR_REF) return;
+        if (it.kind == DDR_PREA) {
+            for (auto &[place, bank] : banks)
+                if (std::get<0>(place) == it.rank) bank.closed_by_pre = false;
+            return;
+        }
+        Bank &bank = banks[{it.rank, it.group, it.bank}];
+        if (it.kind == DDR_ACT) {
+            bank.found = bank.closed_by_pre ? &Numbers::row_conflicts : &Numbers::row_misses;
+        } else if (it.kind == DDR_PRE) {
+            bank.closed_by_pre = true;
+        } else {
+            const bool is_write = it.kind == DDR_WR || it.kind == DDR_WRA;
+            numbers.*bank.found += 1;
+            bank.found = &Numbers::row_hits;
+            if (it.kind == DDR_RDA || it.kind == DDR_WRA) bank.closed_by_pre = false;
+            if (any && is_write != last_is_write) numbers.turn_rounds++;
+            if (any && it.rank != last_rank) numbers.rank_switches++;
+            any = true;
+            last_is_write = is_write;
+            last_rank = it.rank;
+        }
+    }
+
+private:
+    // Whether a PRE closed it last, and what its next read or write counts as.
+    struct Bank {
+        bool closed_by_pre = false;
+        std::uint64_t Numbers::*found = &Numbers::row_misses;
+    };
+
+    std::map<std::tuple<std::uint32_t, std::uint32_t, std::uint32_t>, Bank> banks;
+    bool any = false, last_is_write = false;
+    std::uint32_t last_rank = 0;
+};
+
+// The numbers of a channel's commands, which are written as the program writes a trace where they are wanted.
+Numbers traced(ddr::Core &core, std::uint32_t channel, std::ostream *text) {
+    Counter counter;
+    if (text != nullptr) *text << "cycle,cmd,rank,group,bank,row,col\n";
     std::vector<ddr_command> some(4096);
     std::uint64_t first = 0;
     while (const std::size_t count = core.trace(channel, first, some.data(), some.size())) {
         for (std::size_t i = 0; i < count; i++) {
             const ddr_command &it = some[i];
-            counts[it.kind]++;
-            text << it.cycle << ',' << NAMES[it.kind];
+            counter.note(it);
+            if (text == nullptr) continue;
+            *text << it.cycle << ',' << NAMES[it.kind];
             for (const std::uint32_t value : {it.rank, it.group, it.bank, it.row, it.column}) {
-                text << ',';
-                place(text, value);
+                *text << ',';
+                place(*text, value);
             }
-            text << '\n';
+            *text << '\n';
         }
         first += count;
     }
-    text << core.cycle(channel) << ",END,,,,,\n";
-    return text.str();
+    if (text != nullptr) *text << core.cycle(channel) << ",END,,,,,\n";
+    return counter.numbers;
+}
+
+// All numbers, as `./ddr replay` prints them: of all together, of each channel, and of each port, of which the first alone
+// has requests.
+void print_statistics(std::ostream &to, ddr::Core &core, const std::vector<Numbers> &channels, const Numbers &total, const Latency &reads, const Latency &writes) {
+    const std::uint32_t ports = core.ports();
+    to << "channels = " << channels.size() << "\nports = " << ports << "\ncycles = " << core.cycle(0) << '\n';
+    to << "\n[total]\nread_requests = " << reads.count << "\nwrite_requests = " << writes.count << '\n';
+    total.print(to);
+    for (std::size_t channel = 0; channel < channels.size(); channel++) {
+        to << "\n[channel." << channel << "]\n";
+        channels[channel].print(to);
+    }
+    for (std::uint32_t port = 0; port < ports; port++)
+        to << "\n[port." << port << "]\nread_requests = " << (port == 0 ? reads.count : 0) << "\nwrite_requests = " << (port == 0 ? writes.count : 0) << '\n';
 }
 
 void run(const std::string &config, std::uint64_t requests, const std::string &folder) {
     Draw draw;
     Record record;
-    record.wanted = !folder.empty();
+    if (!folder.empty()) record.requests.open(folder + "/requests");
+    record.wanted = !folder.empty() && requests <= SCRIPT_REQUESTS;
     Latency reads, writes;
     ddr::Memory memory(
         config, [&](const ddr::Reply &reply) { reads.note(reply.head), record.reply(reply); },
@@ -146,20 +239,26 @@ void run(const std::string &config, std::uint64_t requests, const std::string &f
         cycles++;
     }
 
-    std::uint64_t counts[8] = {};
+    std::vector<Numbers> channels;
+    Numbers total;
     for (std::uint32_t channel = 0; channel < memory.Under().channels(); channel++) {
-        const std::string text = traced(memory.Under(), channel, counts);
-        if (record.wanted) std::ofstream(folder + "/trace-" + std::to_string(channel)) << text;
+        std::ofstream trace;
+        if (record.wanted) trace.open(folder + "/trace-" + std::to_string(channel));
+        channels.push_back(traced(memory.Under(), channel, record.wanted ? &trace : nullptr));
+        total.add(channels.back());
+    }
+    if (!folder.empty()) {
+        std::ofstream statistics(folder + "/statistics");
+        print_statistics(statistics, memory.Under(), channels, total, reads, writes);
     }
     if (record.wanted) {
         std::ofstream(folder + "/script") << record.script.str();
         std::ofstream(folder + "/replies") << record.replies.str();
     }
-    const std::uint64_t columns = counts[DDR_RD] + counts[DDR_WR] + counts[DDR_RDA] + counts[DDR_WRA];
     reads.print("reads");
     writes.print("writes");
     std::printf("cycles: %" PRIu64 ", %.2f bytes in each\n", cycles, 64.0 * static_cast<double>(requests) / static_cast<double>(cycles));
-    std::printf("columns: %" PRIu64 ", activates: %" PRIu64 ", refreshes: %" PRIu64 "\n", columns, counts[DDR_ACT], counts[DDR_REF]);
+    std::printf("columns: %" PRIu64 ", activates: %" PRIu64 ", refreshes: %" PRIu64 "\n", total.columns(), total.commands[DDR_ACT], total.commands[DDR_REF]);
 }
 
 } // namespace
