@@ -3,10 +3,11 @@
 //! Below stand the program's texts (`ddr_text`) and the core (`ddr_world`), and of what the core stands on `ddr_timing`,
 //! `ddr_trace`, `ddr_address_map`, `ddr_ports`, `ddr_reorder` and `ddr_channel`. Above stand `ddr_tool`, whose command line
 //! asks for `sim`, and `ddr_run`, which prints replies as `reply` does. `simulation` runs a script, whose replies `line` puts
-//! together, and `sim` reads it first, over a reader and a writer.
+//! together and whose traces `trace`, and `sim` reads it first, over a reader and a writer.
 #![tactic(auto)]
 
 mod line;
 pub mod reply;
 pub mod sim;
 mod simulation;
+pub mod trace;

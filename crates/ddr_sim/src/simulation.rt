@@ -8,7 +8,6 @@ ghost use Rattle.ddr_reorder.specs.Replies.{said};
 ghost use Rattle.ddr_world.specs.Answer.{IsAnswered};
 ghost use Rattle.ddr_world.specs.Events.{event_of};
 ghost use Rattle.ddr_world.specs.History.{front_of};
-ghost use Rattle.ddr_trace.specs.Text.{trace_text};
 ghost use Rattle.ddr_world.specs.Kept.{state_of};
 ghost use Rattle.ddr_world.specs.Quiet.{passed};
 ghost use Rattle.ddr_world.specs.State.{IsDrained};
@@ -17,20 +16,18 @@ ghost use Rattle.ddr_sim.specs.Replies.{reply_text};
 ghost use Rattle.ddr_sim.specs.Rounds.{channel_served, channels_served, outstanding, port_served, ports_served, round, rounds, until_refused};
 ghost use Rattle.ddr_sim.specs.Runs.{all_followed, begun, channel_text, channels_ended, drained, followed, ports_ended, submitted, whole};
 ghost use Rattle.ddr_text.specs.Script.{view};
-ghost use Rattle.ddr_text.specs.Sink.{write_fault};
 ghost use Rattle.ddr_sim.specs.Simulated.{IsCycleFault, IsFrontPrinted, IsSameRun, Leads, added, is_popping, run_at};
 
 use crate::line::reply_line;
 use crate::reply::{refused_text, reply_text};
-use ddr_channel::channel::Channel;
+use crate::trace::text_of;
 use ddr_ports::request::Request;
 use ddr_reorder::reply::Reply;
 use ddr_text::fault::Fault;
 use ddr_text::script::Instruction;
 use ddr_text::sink::Sink;
-use ddr_text::writing::write_text;
+use ddr_text::writing::{write_bytes, write_text};
 use ddr_timing::config::Config;
-use ddr_trace::text::write_trace;
 use ddr_world::event::{Event, Outcome, Refusal};
 use ddr_world::world::World;
 use std::alloc::{AllocError, Global};
@@ -446,18 +443,6 @@ impl Simulation {
     }
 }
 
-/// The text of a channel's trace.
-fn text_of(alloc: Global, channel: &Channel) -> Result<Vec<u8>, Fault>
-    ensures text { IfOk result (λ v. v.items ≡ trace_text channel.now.trace channel.now.now) }
-    ensures refused { IfErr result (λ fault. fault ≡ Fault.OutOfMemory) }
-{
-    let mut text = Vec::new(alloc);
-    match write_trace(alloc, channel.trace(), channel.now(), &mut text) {
-        Ok(()) => Ok(text),
-        Err(_) => Err(Fault::OutOfMemory),
-    }
-}
-
 /// Writes a reply as a line, at once. Where memory runs out nothing is written.
 fn write_reply<W: Sink>(
     alloc: Global,
@@ -475,14 +460,4 @@ fn write_reply<W: Sink>(
         return write_text(writer, text.as_str());
     };
     writer.write_bytes(line.as_slice())
-}
-
-/// Writes bytes, and gives them on. Where memory runs out nothing is written.
-fn write_bytes<W: Sink>(writer: &mut W, bytes: &[u8]) -> Result<(), Fault>
-    ensures written { OnOk result (Appends (W.contents writer.old) (W.contents writer.new) bytes.now) }
-    ensures refused { IfErr result (λ fault. fault ≡ write_fault W.may_fail) }
-    ensures spared { IsErrOf result Fault.OutOfMemory → W.contents writer.new ≡ W.contents writer.old }
-{
-    writer.write_bytes(bytes)?;
-    writer.flush_bytes()
 }

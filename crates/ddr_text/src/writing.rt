@@ -26,12 +26,21 @@ pub fn flush<W: Sink>(writer: &mut W) -> Result<(), Fault>
     writer.flush_bytes()
 }
 
+/// Writes all that a command writes, as bytes, and flushes. Fails as `write_text` does.
+pub fn write_bytes<W: Sink>(writer: &mut W, bytes: &[u8]) -> Result<(), Fault>
+    ensures written { OnOk result (Appends (W.contents writer.old) (W.contents writer.new) bytes.now) }
+    ensures refused { IfErr result (λ fault. fault ≡ write_fault W.may_fail) }
+    ensures spared { IsErrOf result Fault.OutOfMemory → W.contents writer.new ≡ W.contents writer.old }
+{
+    writer.write_bytes(bytes)?;
+    writer.flush_bytes()
+}
+
 /// Writes all that a command writes, and flushes. Fails as `write_text` does.
 pub fn write_whole<W: Sink>(writer: &mut W, text: &str) -> Result<(), Fault>
     ensures written { OnOk result (Appends (W.contents writer.old) (W.contents writer.new) text.now) }
     ensures refused { IfErr result (λ fault. fault ≡ write_fault W.may_fail) }
     ensures spared { IsErrOf result Fault.OutOfMemory → W.contents writer.new ≡ W.contents writer.old }
 {
-    write_text(writer, text)?;
-    flush(writer)
+    write_bytes(writer, text.as_bytes())
 }
