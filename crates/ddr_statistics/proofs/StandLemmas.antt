@@ -185,6 +185,15 @@ stands_after tally new history e is stands short rank group bank =
     subst P (sym same) (stands_with tally history e stands short rank group bank)
 
 -- the same, as the fields are set one by one
+pub finding_told : (tally : Tally) (history : List Entry) (c : Command) (place : ℕ) (found : Option Finding) (d : Rank)
+    → place ≡ rank_of c → found ≡ found_in (slice_index_or tally.ranks place d) c
+    → StandsFor tally history → rank_of c < MOST_RANKS → group_of c < MOST_GROUPS → bank_of c < GROUP_BANKS → found ≡ finding history c
+finding_told tally history c place found d is_place is_found stands rank group bank =
+    let within : rank_of c < length tally.ranks = omega (arith, stands.size, rank) in
+    let old : slice_index_or tally.ranks place d ≡ rank_at tally (rank_of c) =
+    ap (λ n. slice_index_or tally.ranks n d) is_place ∙ get_or_default tally.ranks (rank_of c) d new_rank within in
+    is_found ∙ ap (λ (r : Rank). found_in r c) old ∙ found_is history c (rank_at tally (rank_of c)) (stands.ranks (rank_of c) rank) group bank
+
 pub stands_noted : (tally : Tally) (history : List Entry) (e : Entry) (place : ℕ) (found : Option Finding) (total : Counts) (own d : Rank) (turns : Turns)
     → place ≡ rank_of e.command
     → found ≡ found_in (slice_index_or tally.ranks place d) e.command

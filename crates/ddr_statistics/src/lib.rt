@@ -1,7 +1,7 @@
 //! Exact statistics of a command trace, in one pass and in memory that doesn't grow with the trace.
 //!
 //! Each number is defined as a function of the trace (`specs/Counts.antt`, `specs/Visits.antt`, `specs/Turns.antt`), and
-//! what is counted here is proved to be that number. Below stand `ddr_timing` and `ddr_trace`; nothing stands above yet.
+//! what is counted here is proved to be that number. Below stand `ddr_timing` and `ddr_trace`; `ddr_replay` stands above.
 //! `statistics` is what takes a trace's commands one by one; it stands on `rank`, what is kept of a rank, that on `bank`,
 //! and both on `counts`, the numbers of one place. `turns` has the numbers of the data bus as a whole, `kind` says which
 //! commands move data, and `text` prints all numbers. `findings` and `sums` are laws: how a read or a write finds its bank is

@@ -9,14 +9,15 @@ ghost use Rattle.ddr_statistics.specs.Counts.{counts_of, is_any, is_of_one, is_o
 ghost use Rattle.ddr_statistics.specs.Noted.{bank_at};
 ghost use Rattle.ddr_statistics.specs.Stands.{StandsFor, rank_at};
 ghost use Rattle.ddr_statistics.specs.Turns.{rank_switches, turn_rounds};
+ghost use Rattle.ddr_statistics.specs.Visits.{finding};
 
-use crate::counts::Counts;
+use crate::counts::{Counts, Finding};
 use crate::rank::Rank;
 use crate::turns::Turns;
 use ddr_timing::bank::BankId;
 use ddr_timing::config::Config;
 use ddr_timing::geometry::Geometry;
-use ddr_trace::command::Entry;
+use ddr_trace::command::{Command, Entry};
 use std::marker::Model;
 
 /// The most ranks of a channel.
@@ -75,6 +76,14 @@ impl Statistics {
         self.total.note(command, found);
         self.ranks[rank].note(command, found);
         self.turns.note(command);
+    }
+
+    /// How the next command of the trace finds its bank; `None` where it is no read or write.
+    pub fn finding(&self, command: &Command) -> Option<Finding>
+        requires { IsTrue (is_in self.now.geometry command.now) }
+        ensures { (history : List Entry) → StandsFor self.entry.now history → result ≡ finding history command.now }
+    {
+        self.ranks[command.rank() as usize].finding(command)
     }
 
     /// The numbers of the whole channel.

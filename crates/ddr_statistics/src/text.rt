@@ -121,7 +121,8 @@ fn bank_text(alloc: Global, id: &BankId, counts: &Counts) -> Result<String, Allo
     titled(alloc, title, counts)
 }
 
-fn is_unused(counts: &Counts) -> bool
+/// Whether a bank of these numbers had no command of its own.
+pub fn is_unused(counts: &Counts) -> bool
     ensures { result ≡ is_unused counts.now }
 {
     counts.activates == 0
