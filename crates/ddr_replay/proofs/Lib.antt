@@ -1,11 +1,10 @@
-mod FieldLemmas
+mod FoundLemmas
 mod LegalLemmas
 mod NumberLemmas
 mod QuietLemmas
 mod ReleaseLemmas
 mod ReplayLemmas
 mod StepLemmas
-mod StreamLemmas
 mod SubmitLemmas
 mod TurnLemmas
 mod WaitLemmas

@@ -82,3 +82,11 @@ some_of f n k within is = some_from f 0 n k k (omega arith) within is
 -- a clock that is spent is told
 pub spent_told : {X : Type 0} (view : X → List Numbers) (s : State) (fault : Fault) (channels c : ℕ) → fault ≡ ClockSpent → c < channels → is_spent s c ≡ true → IsCounted view (Err fault) s channels
 spent_told view s fault channels c is within spent = subst (λ (f : Fault). IsCounted view (Err f) s channels) (sym is) (some_of (is_spent s) channels c within spent)
+
+-- none of so many passes, so neither does this one
+pub none_at : (f : ℕ → Bool) (n k : ℕ) → k < n → list_any f (range_with_len 0 n) ≡ false → f k ≡ false
+none_at f n k within none = go (f k) refl
+  where
+    go : (b : Bool) → f k ≡ b → f k ≡ false
+    go false is = is
+    go true is = absurd (let impossible : true ≡ false = sym (some_of f n k within is) ∙ none in cc)

@@ -19,7 +19,7 @@ use Rattle.ddr_sim.specs.Rounds.{channels_served, items_of, until_refused}
 use Rattle.ddr_sim.specs.Simulated.{IsCycleFault}
 use Rattle.ddr_sim.proofs.QuietLemmas.{channels_quiet, none_collected, nothing_popped, passed_more}
 use Rattle.ddr_replay.specs.Runs.{Run, port_served, ports_served, ports_submitted, released, replayed, round_closed, round_made, turn, unserved}
-use Rattle.ddr_replay.specs.Stream.{queue_at}
+use Rattle.ddr_stream.specs.Stream.{queue_at}
 use Rattle.ddr_replay.specs.View.{IsRunFault}
 use Rattle.ddr_replay.specs.Waits.{AreQuiet, AreWaiting}
 use Rattle.ddr_replay.proofs.ReleaseLemmas.{none_given}

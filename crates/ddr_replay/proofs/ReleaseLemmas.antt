@@ -12,7 +12,7 @@ use Rattle.ddr_world.specs.Step.{Step, made, step}
 use Rattle.ddr_sim.specs.Rounds.{after_step, items_of, until_refused}
 use Rattle.ddr_replay.specs.Ledgers.{Ledger, noted}
 use Rattle.ddr_replay.specs.Runs.{Run, port_served, released, released_by}
-use Rattle.ddr_replay.specs.Stream.{Queues}
+use Rattle.ddr_stream.specs.Stream.{Queues}
 use Rattle.ddr_replay.specs.View.{IsSame, Replay, run_of}
 
 -- where all but the core is as it was
@@ -56,9 +56,9 @@ port_led p run collected last is kept none =
     sym (none_given (items_of last.state (Release p)) p last none) ∙ kept ∙ ap (λ (r : Run). released (items_of r.state (Release p)) p r) is
 
 -- the reply in front was released, and noted
-pub front_taken : (p : ℕ) (old mid : Replay) (v : Service) (o : Outcome) (ledger : Ledger) → IsSame old mid → step (state_of old.world) (Release p) ≡ made (state_of mid.world) o → ledger ≡ noted p v.issued mid.round mid.ledger
+pub front_taken : (p : ℕ) (old mid : Replay) (v : Service) (o : Outcome) (ledger : Ledger) → IsSame old mid → step (state_of old.world) (Release p) ≡ made (state_of mid.world) o → ledger ≡ noted p v mid.round mid.ledger
     → record (run_of mid) { ledger = ledger } ≡ released_by p (run_of old) v
 front_taken p old mid v o ledger same is noted_is =
     ap (λ (l : Ledger). record (run_of mid) { ledger = l }) noted_is
-    ∙ ap (λ (r : Run). record r { ledger = noted p v.issued r.round r.ledger }) (same_run old mid same)
-    ∙ ap (λ (r : Step). record (run_of old) { state = after_step (state_of old.world) r; ledger = noted p v.issued old.round old.ledger }) (sym is)
+    ∙ ap (λ (r : Run). record r { ledger = noted p v r.round r.ledger }) (same_run old mid same)
+    ∙ ap (λ (r : Step). record (run_of old) { state = after_step (state_of old.world) r; ledger = noted p v old.round old.ledger }) (sym is)

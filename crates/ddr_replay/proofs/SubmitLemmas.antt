@@ -21,8 +21,8 @@ use Rattle.ddr_world.specs.State.{ChannelSide, PortSide, State, is_busy}
 use Rattle.ddr_world.specs.Step.{Made, Step, after_submit, at_channel, made, push_on, push_request, queued, step, submit, submit_by, with_channel, with_port}
 use Rattle.ddr_sim.specs.Rounds.{outstanding}
 use Rattle.ddr_sim.proofs.StepCounts.{Counted, at_channel_has, at_port_has, either_has, made_counts, maybe_has}
-use Rattle.ddr_replay.specs.declared.ask.Ask.{Ask}
-use Rattle.ddr_replay.specs.Asks.{asked_by}
+use Rattle.ddr_stream.specs.declared.ask.Ask.{Ask}
+use Rattle.ddr_stream.specs.Asks.{asked_by}
 use Rattle.ddr_replay.specs.Ledgers.{Ledger, with_accepted}
 use Rattle.ddr_replay.specs.Runs.{Submitted, accepted_in, after_answer, submitted}
 use Rattle.ddr_replay.specs.Waits.{IsFull}

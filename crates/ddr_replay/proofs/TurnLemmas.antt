@@ -10,7 +10,7 @@ use Rattle.ddr_sim.specs.Simulated.{IsCycleFault}
 use Rattle.ddr_sim.specs.Rounds.{channels_served}
 use Rattle.ddr_replay.specs.Ledgers.{Ledger}
 use Rattle.ddr_replay.specs.Runs.{Run, ports_submitted, replayed, round_made, unserved}
-use Rattle.ddr_replay.specs.Stream.{Queues}
+use Rattle.ddr_stream.specs.Stream.{Queues}
 use Rattle.ddr_replay.specs.View.{IsRunFault, Replay, run_of}
 use Rattle.ddr_replay.specs.Waits.{AreQuiet, AreWaiting}
 use Rattle.ddr_replay.proofs.QuietLemmas.{quietly, turn_failed, turn_made, turns_passed}

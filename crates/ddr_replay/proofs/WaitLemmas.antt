@@ -7,11 +7,11 @@ use Rattle.std.proofs.lemmas.List.{get_or-set_other, set-get_or}
 use Rattle.ddr_world.specs.Events.{Submit}
 use Rattle.ddr_world.specs.State.{PortSide, State}
 use Rattle.ddr_world.specs.Step.{Step, step}
-use Rattle.ddr_replay.specs.declared.ask.Ask.{Ask}
-use Rattle.ddr_replay.specs.Asks.{asked_by}
+use Rattle.ddr_stream.specs.declared.ask.Ask.{Ask}
+use Rattle.ddr_stream.specs.Asks.{asked_by}
 use Rattle.ddr_replay.specs.Ledgers.{Ledger, with_accepted}
 use Rattle.ddr_replay.specs.Runs.{Run, Submitted, accepted_in, after_answer, port_submitted, ports_submitted, submitted, with_submitted}
-use Rattle.ddr_replay.specs.Stream.{Queues, queue_at}
+use Rattle.ddr_stream.specs.Stream.{Queues, queue_at}
 use Rattle.ddr_replay.specs.Waits.{AreWaiting, IsFull, IsWaiting, IsWaitingIn}
 use Rattle.ddr_replay.proofs.SubmitLemmas.{others_kept, refused_full}
 

@@ -1,8 +1,10 @@
 -- The times of a replay's requests: which were accepted in which round, and how long those took whose replies were released.
-use Rattle.std.specs.Prelude.{ℕ, List, [], ◌∷◌, ◌++◌, drop, replicate, slice_get, slice_index_or, slice_set, Option, Some, None}
+use Rattle.std.specs.Prelude.{ℕ, Bool, if◌then◌else◌, List, [], ◌∷◌, ◌++◌, drop, replicate, slice_get, slice_index_or, slice_set, Option, Some, None}
 use Rattle.ddr_replay.specs.declared.times.Accepted.{Accepted}
 use Rattle.ddr_replay.specs.declared.times.Times.{Times}
-use Rattle.ddr_replay.specs.Times.{no_times, timed}
+use Rattle.ddr_reorder.specs.declared.reply.Service.{Service}
+use Rattle.ddr_replay.specs.declared.served.Served.{Served}
+use Rattle.ddr_replay.specs.Times.{count_of, no_times, timed}
 
 pub record Ledger : Type 0 where
   -- of each port the requests that were accepted and whose replies weren't released, the oldest first
@@ -10,10 +12,13 @@ pub record Ledger : Type 0 where
   -- the times of the others: of all ports, and of each
   pub total : Times
   pub ports : List Times
+  -- whether the others are kept, and those that are, in the order in which their replies were released
+  pub keeps : Bool
+  pub served : List Served
 
 -- of so many ports, before the first request
-abbrev pub no_ledger : ℕ → Ledger
-no_ledger ports = record { accepted = replicate ports []; total = no_times; ports = replicate ports no_times }
+abbrev pub no_ledger : ℕ → Bool → Ledger
+no_ledger ports keeps = record { accepted = replicate ports []; total = no_times; ports = replicate ports no_times; keeps = keeps; served = [] }
 
 abbrev pub accepted_at : Ledger → ℕ → List Accepted
 accepted_at ledger port = slice_index_or ledger.accepted port []
@@ -29,14 +34,34 @@ with_accepted port accepted ledger = record ledger { accepted = slice_set ledger
 abbrev pub without_oldest : ℕ → Ledger → Ledger
 without_oldest port ledger = record ledger { accepted = slice_set ledger.accepted port (drop 1 (accepted_at ledger port)) }
 
--- the times of this request are noted, which was issued in this cycle, and whose reply is released in this round
-abbrev pub with_times : ℕ → ℕ → ℕ → Option Accepted → Ledger → Ledger
-with_times port issued round None ledger = ledger
-with_times port issued round (Some accepted) ledger = record ledger {
+-- this request of a port, which was served so, and whose reply is released in this round
+abbrev pub served_of : ℕ → Service → ℕ → Accepted → Ledger → Served
+served_of port service round accepted ledger = record {
+  ask = accepted.ask;
+  port = port;
+  number = count_of (times_at ledger port);
+  accepted = accepted.round;
+  issued = service.issued;
+  due = service.due;
+  released = round;
+}
+
+-- it is kept, where requests are
+abbrev pub with_served : Served → Ledger → Ledger
+with_served served ledger = if ledger.keeps then record ledger { served = ledger.served ++ served ∷ [] } else ledger
+
+-- its times are noted
+abbrev pub with_times : ℕ → ℕ → ℕ → Accepted → Ledger → Ledger
+with_times port issued round accepted ledger = record ledger {
   total = timed accepted issued round ledger.total;
   ports = slice_set ledger.ports port (timed accepted issued round (times_at ledger port));
 }
 
+abbrev pub with_oldest : ℕ → Service → ℕ → Option Accepted → Ledger → Ledger
+with_oldest port service round None ledger = ledger
+with_oldest port service round (Some accepted) ledger =
+    with_times port service.issued round accepted (with_served (served_of port service round accepted ledger) ledger)
+
 -- the reply of the port's oldest request is released
-abbrev pub noted : ℕ → ℕ → ℕ → Ledger → Ledger
-noted port issued round ledger = with_times port issued round (slice_get (accepted_at ledger port) 0) (without_oldest port ledger)
+abbrev pub noted : ℕ → Service → ℕ → Ledger → Ledger
+noted port service round ledger = with_oldest port service round (slice_get (accepted_at ledger port) 0) (without_oldest port ledger)

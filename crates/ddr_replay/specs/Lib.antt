@@ -1,11 +1,11 @@
-pub mod Asks
+pub mod Found
 pub mod Ledgers
-pub mod Line
 pub mod Numbers
+pub mod Places
 pub mod Replays
 pub mod Report
 pub mod Runs
-pub mod Stream
+pub mod ServedText
 pub mod Times
 pub mod TimesReport
 pub mod View

@@ -13,7 +13,7 @@ use Rattle.ddr_statistics.specs.Turns as turns
 use Rattle.ddr_world.specs.State.{State}
 use Rattle.ddr_text.specs.declared.fault.Fault.{Fault}
 use Rattle.ddr_text.specs.declared.fault.Fault.TheVariants.{ClockSpent, OutOfMemory}
-use Rattle.ddr_replay.specs.declared.ask.Ask.{Ask}
+use Rattle.ddr_stream.specs.declared.ask.Ask.{Ask}
 use Rattle.ddr_replay.specs.declared.numbers.Numbers.{Numbers}
 use Rattle.ddr_replay.specs.declared.numbers.Requests.{Requests}
 

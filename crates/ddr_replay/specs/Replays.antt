@@ -1,34 +1,71 @@
 -- What the command `replay` writes, and by which faults it ends.
-use Rattle.std.specs.Prelude.{◌≡◌, ℕ, ◌<◌, ◌≤◌, Bool, if◌then◌else◌, List, length, Option, Some, Result, Ok, Err}
+use Rattle.std.specs.Prelude.{◌≡◌, ℕ, ◌<◌, ◌≤◌, Bool, true, false, nat_le, if◌then◌else◌, List, length, map, Option, Some, Result, Ok, Err}
 use Rattle.std.specs.Io.KnownBytes.{Appends}
 use Rattle.std.specs.Str.{IsUtf8}
 use Rattle.ddr_timing.specs.declared.config.Config.{Config}
 use Rattle.ddr_text.specs.declared.fault.Fault.{Fault}
 use Rattle.ddr_text.specs.declared.fault.Fault.TheVariants as faults
+use Rattle.ddr_text.specs.declared.command.Reading.{Reading}
+use Rattle.ddr_text.specs.declared.command.Told.{Told}
+use Rattle.ddr_text.specs.declared.command.Told.TheVariants as told
+use Rattle.ddr_sim.specs.Runs.{channel_text}
 use Rattle.ddr_text.specs.Body.{IsOpened, IsRefused, parts_of}
 use Rattle.ddr_text.specs.Instructions.{◌>>>◌}
 use Rattle.ddr_replay.specs.declared.replaying.TheConstants.{MOST_ROUNDS}
-use Rattle.ddr_replay.specs.declared.stream.TheConstants.{LONGEST_STREAM}
-use Rattle.ddr_replay.specs.Numbers.{is_any_spent}
+use Rattle.ddr_stream.specs.declared.stream.TheConstants.{LONGEST_STREAM}
+use Rattle.ddr_replay.specs.declared.numbers.Requests.{Requests}
+use Rattle.ddr_replay.specs.Found.{findings_of}
+use Rattle.ddr_replay.specs.Numbers.{is_any_spent, requests_in}
 use Rattle.ddr_replay.specs.Report.{report_text}
 use Rattle.ddr_replay.specs.Runs.{Run, begun, replayed}
-use Rattle.ddr_replay.specs.Stream.{Queues, queues_of}
+use Rattle.ddr_replay.specs.ServedText.{served_text}
+use Rattle.ddr_stream.specs.Stream.{Queues, queues_of}
 
--- the report of a run at whose end no clock is spent
-abbrev pub reported : Config → Queues → Run → Result (List ℕ) Fault
-reported config queues run =
-    if is_any_spent run.state config.geometry.channels then Err faults.ClockSpent else Ok (report_text config queues run)
+-- the statistics of a run at whose end no clock is spent
+abbrev pub reported : Config → List Requests → Run → Result (List ℕ) Fault
+reported config requests run =
+    if is_any_spent run.state config.geometry.channels then Err faults.ClockSpent else Ok (report_text config requests run)
 
--- The report of a body: of the run that its requests come to. Or the body's first line at fault, or why the run ends before.
-unfoldable pub report_of : Config → List ℕ → Result (List ℕ) Fault
-report_of config body =
-    queues_of config body >>> λ queues. replayed config MOST_ROUNDS (begun config queues) >>> λ run. reported config queues run
+-- the requests of such a run
+abbrev pub listed : Config → Run → Result (List ℕ) Fault
+listed config run =
+    let channels = config.geometry.channels in
+    if is_any_spent run.state channels then Err faults.ClockSpent else Ok (served_text config.geometry (findings_of run.state channels) run.ledger.served)
+
+-- what is to be told of a run: its statistics, its requests, or the trace of a channel
+abbrev pub told_of : Config → Told → List Requests → Run → Result (List ℕ) Fault
+told_of config told.Statistics requests run = reported config requests run
+told_of config told.Requests requests run = listed config run
+told_of config (told.Trace channel) requests run = Ok (channel_text run.state channel)
+
+-- the requests that were served are kept where they are to be told
+abbrev pub keeps_served : Told → Bool
+keeps_served told.Requests = true
+keeps_served _ = false
+
+-- a trace is asked for of a channel that isn't there
+abbrev pub names_no_channel : Config → Told → Bool
+names_no_channel config (told.Trace channel) = nat_le config.geometry.channels channel
+names_no_channel config _ = false
+
+-- what is told of the run that these requests come to, or why it ends before
+abbrev pub told_behind : Config → Told → Queues → Result (List ℕ) Fault
+told_behind config told queues =
+    replayed config MOST_ROUNDS (begun config (keeps_served told) queues) >>> λ run. told_of config told (map requests_in queues) run
+
+-- What is told of a body: of the run that its requests come to. Or that the channel isn't there, the body's first line at fault,
+-- or why the run ends before.
+unfoldable pub report_of : Config → Reading → Told → List ℕ → Result (List ℕ) Fault
+report_of config reading told body =
+    if names_no_channel config told then Err faults.TraceNoSuch
+    else queues_of config reading body >>> told_behind config told
 
 -- what is answered, seen by the view, is what the body says, unless memory ran out
 abbrev pub IsSaid : {X : Type 0} → (X → List ℕ) → Result X Fault → Result (List ℕ) Fault → Type 0
 IsSaid view (Ok x) said = said ≡ Ok (view x)
 IsSaid view (Err (faults.ReplayLine line)) said = said ≡ Err (faults.ReplayLine line)
 IsSaid view (Err (faults.ReplayRange line)) said = said ≡ Err (faults.ReplayRange line)
+IsSaid view (Err faults.TraceNoSuch) said = said ≡ Err faults.TraceNoSuch
 IsSaid view (Err faults.ReplayLimit) said = said ≡ Err faults.ReplayLimit
 IsSaid view (Err faults.ClockSpent) said = said ≡ Err faults.ClockSpent
 IsSaid view (Err faults.OutOfMemory) said = Unit {0}
@@ -43,34 +80,35 @@ pub record IsStream (input : List ℕ) : Type 0 where
 abbrev pub IsNoStream : List ℕ → Type 0
 IsNoStream input = (length input ≤ LONGEST_STREAM) × (¬ IsUtf8 input)
 
--- what an input says: the report of its body under its configuration, or why there is none
-pub record Says (sample : Bool) (profile input : List ℕ) (said : Result (List ℕ) Fault) : Type 0 where
+-- what an input says: what is to be told of its body under its configuration, or why there is none
+pub record Says (sample : Bool) (profile : List ℕ) (reading : Reading) (told : Told) (input : List ℕ) (said : Result (List ℕ) Fault) : Type 0 where
   pub text : IsStream input
   pub config : Config
   pub body : List ℕ
   pub opened : IsOpened (parts_of sample profile input) config body
-  pub report : report_of config body ≡ said
+  pub report : report_of config reading told body ≡ said
 
 -- what a replay without a fault writes
-pub record IsReplayed (sample : Bool) (profile input : List ℕ) (old new : Option (List ℕ)) : Type 0 where
+pub record IsReplayed (sample : Bool) (profile : List ℕ) (reading : Reading) (told : Told) (input : List ℕ) (old new : Option (List ℕ)) : Type 0 where
   pub text : List ℕ
-  pub says : Says sample profile input (Ok text)
+  pub says : Says sample profile reading told input (Ok text)
   pub written : Appends old new text
 
 -- the input has a report
-abbrev pub HasReport : Bool → List ℕ → List ℕ → Type 0
-HasReport sample profile input = (text : List ℕ) × Says sample profile input (Ok text)
+abbrev pub HasReport : Bool → List ℕ → Reading → Told → List ℕ → Type 0
+HasReport sample profile reading told input = (text : List ℕ) × Says sample profile reading told input (Ok text)
 
 -- the input has the fault that a replay ends by; where writing fails it has a report, and reading and memory fail by
 -- themselves
-abbrev pub HasReplayFault : Bool → List ℕ → List ℕ → Fault → Type 0
-HasReplayFault sample profile input (faults.ReplayLine line) = Says sample profile input (Err (faults.ReplayLine line))
-HasReplayFault sample profile input (faults.ReplayRange line) = Says sample profile input (Err (faults.ReplayRange line))
-HasReplayFault sample profile input faults.ReplayLimit = Says sample profile input (Err faults.ReplayLimit)
-HasReplayFault sample profile input faults.ClockSpent = Says sample profile input (Err faults.ClockSpent)
-HasReplayFault sample profile input faults.InputTooLong = LONGEST_STREAM < length input
-HasReplayFault sample profile input faults.InputNotUtf8 = IsNoStream input
-HasReplayFault sample profile input faults.Read = Unit {0}
-HasReplayFault sample profile input faults.Write = HasReport sample profile input
-HasReplayFault sample profile input faults.OutOfMemory = Unit {0}
-HasReplayFault sample profile input fault = IsStream input × IsRefused (parts_of sample profile input) fault
+abbrev pub HasReplayFault : Bool → List ℕ → Reading → Told → List ℕ → Fault → Type 0
+HasReplayFault sample profile reading told input (faults.ReplayLine line) = Says sample profile reading told input (Err (faults.ReplayLine line))
+HasReplayFault sample profile reading told input (faults.ReplayRange line) = Says sample profile reading told input (Err (faults.ReplayRange line))
+HasReplayFault sample profile reading told input faults.TraceNoSuch = Says sample profile reading told input (Err faults.TraceNoSuch)
+HasReplayFault sample profile reading told input faults.ReplayLimit = Says sample profile reading told input (Err faults.ReplayLimit)
+HasReplayFault sample profile reading told input faults.ClockSpent = Says sample profile reading told input (Err faults.ClockSpent)
+HasReplayFault sample profile reading told input faults.InputTooLong = LONGEST_STREAM < length input
+HasReplayFault sample profile reading told input faults.InputNotUtf8 = IsNoStream input
+HasReplayFault sample profile reading told input faults.Read = Unit {0}
+HasReplayFault sample profile reading told input faults.Write = HasReport sample profile reading told input
+HasReplayFault sample profile reading told input faults.OutOfMemory = Unit {0}
+HasReplayFault sample profile reading told input fault = IsStream input × IsRefused (parts_of sample profile input) fault

@@ -1,14 +1,14 @@
 -- The text of a replay's statistics: a TOML document.
-use Rattle.std.specs.Prelude.{ℕ, ◌+◌, List, [], ◌∷◌, ◌++◌, codes, map}
+use Rattle.std.specs.Prelude.{ℕ, ◌+◌, List, [], ◌∷◌, ◌++◌, codes}
 use Rattle.std.specs.Fmt.{decimal}
 use Rattle.ddr_timing.specs.declared.config.Config.{Config}
 use Rattle.ddr_statistics.specs.Text.{counts_text, line}
 use Rattle.ddr_replay.specs.declared.numbers.Numbers.{Numbers}
 use Rattle.ddr_replay.specs.declared.numbers.Requests.{Requests}
 use Rattle.ddr_replay.specs.Ledgers.{Ledger}
-use Rattle.ddr_replay.specs.Numbers.{many, numbers_of, requests_in, together}
+use Rattle.ddr_replay.specs.Places.{places_tables}
+use Rattle.ddr_replay.specs.Numbers.{many, numbers_of, together}
 use Rattle.ddr_replay.specs.Runs.{Run}
-use Rattle.ddr_replay.specs.Stream.{Queues}
 use Rattle.ddr_replay.specs.TimesReport.{ledger_tables}
 
 unfoldable pub head_text : Config → ℕ → List ℕ
@@ -45,6 +45,8 @@ unfoldable pub report_lines : Config → List Requests → List Numbers → Ledg
 report_lines config requests numbers ledger cycles =
     head_text config cycles ++ total_table (many requests) (together numbers) ++ channel_tables 0 numbers ++ port_tables 0 requests ++ ledger_tables ledger
 
--- what is written of a replay of these requests that came to this run
-abbrev pub report_text : Config → Queues → Run → List ℕ
-report_text config queues run = report_lines config (map requests_in queues) (numbers_of run.state config.geometry.channels) run.ledger run.round
+-- the statistics of a replay of so many requests that came to this run
+abbrev pub report_text : Config → List Requests → Run → List ℕ
+report_text config requests run =
+    report_lines config requests (numbers_of run.state config.geometry.channels) run.ledger run.round
+    ++ places_tables run.state config.geometry.channels

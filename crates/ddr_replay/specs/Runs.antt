@@ -1,5 +1,5 @@
 -- A replay: before each round each port submits what it may, then comes the round of `sim`.
-use Rattle.std.specs.Prelude.{ℕ, ◌+◌, ◌==◌, suc, zero, nat_lt, if◌then◌else◌, List, [], ◌∷◌, length, slice_set, sum_by, Option, Some, None, Result, Ok, Err}
+use Rattle.std.specs.Prelude.{ℕ, Bool, ◌+◌, ◌==◌, suc, zero, nat_lt, if◌then◌else◌, List, [], ◌∷◌, length, slice_set, sum_by, Option, Some, None, Result, Ok, Err}
 use Rattle.std.specs.Option.{option_map, option_map_or}
 use Rattle.ddr_timing.specs.declared.config.Config.{Config}
 use Rattle.ddr_world.specs.Events.{Submit, Collect, Release}
@@ -10,11 +10,11 @@ use Rattle.ddr_text.specs.declared.fault.Fault.TheVariants.{ClockSpent, ReplayLi
 use Rattle.ddr_world.specs.Served.{front_service}
 use Rattle.ddr_reorder.specs.declared.reply.Service.{Service}
 use Rattle.ddr_sim.specs.Rounds.{after, channels_served, items_of, outstanding, until_refused}
-use Rattle.ddr_replay.specs.declared.ask.Ask.{Ask}
+use Rattle.ddr_stream.specs.declared.ask.Ask.{Ask}
 use Rattle.ddr_replay.specs.declared.times.Accepted.{Accepted}
-use Rattle.ddr_replay.specs.Asks.{asked_by}
+use Rattle.ddr_stream.specs.Asks.{asked_by}
 use Rattle.ddr_replay.specs.Ledgers.{Ledger, no_ledger, noted, with_accepted}
-use Rattle.ddr_replay.specs.Stream.{Queues, queue_at}
+use Rattle.ddr_stream.specs.Stream.{Queues, queue_at}
 
 -- what a replay has come to: the core's state, what each port has still to submit, what is known of the times of requests, and
 -- how many rounds were made
@@ -37,7 +37,7 @@ after_answer on wait (Err cause) = wait
 
 -- a request that is accepted before a round
 abbrev pub accepted_in : ℕ → Ask → Accepted
-accepted_in round ask = record { kind = ask.kind; round = round }
+accepted_in round ask = record { ask = ask; round = round }
 
 -- a port's requests in order, while their cycle has come and they are not refused
 abbrev pub submitted : ℕ → ℕ → List Ask → State → Ledger → Submitted
@@ -59,7 +59,7 @@ ports_submitted (suc p) run = port_submitted p (ports_submitted p run)
 
 -- the reply in front of a port, whose request was served so, is released
 abbrev pub released_by : ℕ → Run → Service → Run
-released_by p run v = record run { state = after run.state (Release p); ledger = noted p v.issued run.round run.ledger }
+released_by p run v = record run { state = after run.state (Release p); ledger = noted p v run.round run.ledger }
 
 -- each reply in front of a port, so many at most
 abbrev pub released : ℕ → ℕ → Run → Run
@@ -97,6 +97,6 @@ abbrev pub replayed : Config → ℕ → Run → Result Run Fault
 replayed config zero run = if unserved run == 0 then Ok run else Err ReplayLimit
 replayed config (suc n) run = if unserved run == 0 then Ok run else option_map_or (replayed config n) (turn config run) (Err ClockSpent)
 
--- before the first round
-abbrev pub begun : Config → Queues → Run
-begun config queues = record { state = opened config 0 0; queues = queues; ledger = no_ledger config.limits.ports; round = 0 }
+-- before the first round; served requests are kept where that is asked for
+abbrev pub begun : Config → Bool → Queues → Run
+begun config keeps queues = record { state = opened config 0 0; queues = queues; ledger = no_ledger config.limits.ports keeps; round = 0 }

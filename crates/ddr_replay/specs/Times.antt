@@ -57,6 +57,10 @@ abbrev pub with_kind : Kind → ℕ → ℕ → Times → Times
 with_kind Read to_issue to_release times = record times { reads = with_took to_issue to_release times.reads }
 with_kind Write to_issue to_release times = record times { writes = with_took to_issue to_release times.writes }
 
+-- how many requests were noted
+abbrev pub count_of : Times → ℕ
+count_of times = raised times.writes.to_release.count times.reads.to_release.count
+
 -- one request more, which was accepted so, issued in this cycle, and whose reply is released in this round
 unfoldable pub timed : Accepted → ℕ → ℕ → Times → Times
-timed accepted issued round times = with_kind accepted.kind (issued - accepted.round) (round - accepted.round) times
+timed accepted issued round times = with_kind accepted.ask.kind (issued - accepted.round) (round - accepted.round) times

@@ -10,7 +10,7 @@ use Rattle.ddr_text.specs.declared.fault.Fault.TheVariants as faults
 use Rattle.ddr_replay.specs.declared.replaying.Replaying.TheInside.{Inside}
 use Rattle.ddr_replay.specs.Ledgers.{Ledger}
 use Rattle.ddr_replay.specs.Runs.{Run, released_by, unserved}
-use Rattle.ddr_replay.specs.Stream.{Queues}
+use Rattle.ddr_stream.specs.Stream.{Queues}
 
 pub record Replay : Type 0 where
   pub config : Config

@@ -6,10 +6,10 @@ use Rattle.ddr_ports.specs.declared.refusal.PortError.TheVariants.{WindowFull}
 use Rattle.ddr_world.specs.Quiet.{IsQuietFor}
 use Rattle.ddr_world.specs.Served.{front_service}
 use Rattle.ddr_world.specs.State.{PortSide, State}
-use Rattle.ddr_replay.specs.declared.ask.Ask.{Ask}
-use Rattle.ddr_replay.specs.Asks.{asked_by}
+use Rattle.ddr_stream.specs.declared.ask.Ask.{Ask}
+use Rattle.ddr_stream.specs.Asks.{asked_by}
 use Rattle.ddr_replay.specs.Runs.{Run}
-use Rattle.ddr_replay.specs.Stream.{queue_at}
+use Rattle.ddr_stream.specs.Stream.{queue_at}
 
 -- the port's window is full
 pub record IsFull (p : ℕ) (ask : Ask) (s : State) : Type 0 where

@@ -1,11 +1,13 @@
 //! When requests were accepted, and how long those took whose replies were released.
 //!
-//! `times` stands below, and `submitting`, `replaying` and `report` above.
+//! `times` and `served` stand below, and `submitting`, `replaying` and `telling` above.
 ghost use Rattle.std.specs.Prelude.{◌≡◌, [], ◌∷◌, ◌++◌, drop, replicate, slice_get, IfOk, OnOk, Some};
-ghost use Rattle.ddr_replay.specs.Ledgers.{accepted_at, no_ledger, noted, with_accepted, with_times, without_oldest};
-ghost use Rattle.ddr_replay.specs.Times.{no_times};
+ghost use Rattle.ddr_replay.specs.Ledgers.{accepted_at, no_ledger, noted, served_of, times_at, with_accepted, with_served, with_times, without_oldest};
+ghost use Rattle.ddr_replay.specs.Times.{count_of, no_times};
 
+use crate::served::Served;
 use crate::times::{Accepted, Times};
+use ddr_reorder::reply::Service;
 use std::alloc::{AllocError, Global};
 use std::collections::VecDeque;
 use std::marker::Model;
@@ -55,6 +57,9 @@ pub struct Ledger {
     accepted: Vec<Outstanding>,
     total: Times,
     ports: Vec<Times>,
+    /// Whether the requests whose replies were released are kept.
+    keeps: bool,
+    served: Vec<Served>,
 }
 
 impl Model for Ledger {
@@ -62,18 +67,20 @@ impl Model for Ledger {
 
     ghost Value = { Ledger };
 
-    ghost view = { λ a. record { accepted = a.accepted.items; total = a.total; ports = a.ports.items } };
+    ghost view = { λ a. record { accepted = a.accepted.items; total = a.total; ports = a.ports.items; keeps = a.keeps; served = a.served.items } };
 }
 
 impl Ledger {
-    /// That of so many ports, before the first request.
-    pub fn open(alloc: Global, ports: u32) -> Result<Ledger, AllocError>
-        ensures { IfOk result (λ ledger. ledger ≡ no_ledger ports) }
+    /// That of so many ports, before the first request. `keeps` says whether the requests whose replies are released are kept.
+    pub fn open(alloc: Global, ports: u32, keeps: bool) -> Result<Ledger, AllocError>
+        ensures { IfOk result (λ ledger. ledger ≡ no_ledger ports keeps) }
     {
         Ok(Ledger {
             accepted: none_outstanding(alloc, ports)?,
             total: Times::NONE,
             ports: no_times(alloc, ports)?,
+            keeps,
+            served: Vec::new(alloc),
         })
     }
 
@@ -87,12 +94,50 @@ impl Ledger {
         Ok(())
     }
 
-    /// Notes that the reply of a port's oldest request is released in that round, which was issued in that cycle.
-    pub fn release(&mut self, port: u32, issued: u64, round: u32)
-        ensures { self.new ≡ noted port issued round self.old }
+    /// Notes that the reply of a port's oldest request, which was served so, is released in that round.
+    pub fn release(&mut self, port: u32, service: Service, round: u32) -> Result<(), AllocError>
+        ensures { OnOk result (self.new ≡ noted port service round self.old) }
     {
-        if let Some(accepted) = self.take(port) {
-            self.note(port, accepted, issued, round);
+        let Some(accepted) = self.take(port) else {
+            return Ok(());
+        };
+        self.keep(port, accepted, service, round)?;
+        self.note(port, accepted, service.issued, round);
+        Ok(())
+    }
+
+    /// Keeps a request, where they are kept.
+    fn keep(
+        &mut self,
+        port: u32,
+        accepted: Accepted,
+        service: Service,
+        round: u32,
+    ) -> Result<(), AllocError>
+        ensures { OnOk result (self.new ≡ with_served (served_of port service round accepted self.old) self.old) }
+    {
+        if self.keeps {
+            let number = self.count_at(port);
+            self.served.push(Served {
+                ask: accepted.ask,
+                port,
+                number,
+                accepted: accepted.round,
+                issued: service.issued,
+                due: service.due,
+                released: round,
+            })?;
+        }
+        Ok(())
+    }
+
+    /// How many replies the port released.
+    fn count_at(&self, port: u32) -> u64
+        ensures { result ≡ count_of (times_at self.now port) }
+    {
+        match self.ports.get(port as usize) {
+            Some(times) => times.count(),
+            None => 0,
         }
     }
 
@@ -110,12 +155,19 @@ impl Ledger {
 
     /// Notes the times of a request.
     fn note(&mut self, port: u32, accepted: Accepted, issued: u64, round: u32)
-        ensures { self.new ≡ with_times port issued round (Some accepted) self.old }
+        ensures { self.new ≡ with_times port issued round accepted self.old }
     {
         self.total.note(accepted, issued, round);
         if (port as usize) < self.ports.len() {
             self.ports[port as usize].note(accepted, issued, round);
         }
+    }
+
+    /// The requests whose replies were released, in that order.
+    pub fn served(&self) -> &[Served]
+        ensures { result.now ≡ self.now.served }
+    {
+        self.served.as_slice()
     }
 
     /// The times of all ports together.

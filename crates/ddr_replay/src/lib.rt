@@ -1,21 +1,22 @@
 //! A replay of a stream of requests over the core, with its statistics: the command `replay`.
 //!
-//! Below stand the program's texts (`ddr_text`), the core (`ddr_world`) and the statistics of a trace (`ddr_statistics`), and
-//! of `ddr_sim` the definition of a round. Above stands `ddr_tool`, whose command line asks for `replay`. `ask` is a request
-//! of a stream, `line` reads one, `queue` keeps those of a port, and `stream` reads a whole body. `submitting` lets a port
-//! submit, `replaying` makes all the rounds, `ledger` keeps when requests were accepted and how long they took (`times`), `numbers` counts what they come to, `report` is the text of that, and `replay`
-//! does it all over a reader and a writer.
+//! Below stand the stream's requests (`ddr_stream`), the program's texts (`ddr_text`), the core (`ddr_world`) and the statistics of a
+//! trace (`ddr_statistics`), and of `ddr_sim` the definition of a round. Above stands `ddr_tool`, whose command line asks for
+//! `replay`. `submitting` lets a port submit, `replaying` makes all the rounds, `ledger` keeps when requests were accepted, how long
+//! they took (`times`) and, where that is asked for, each of them (`served`), with how it found its bank (`found`). `numbers` counts what
+//! they come to, `report` is the text of that and `places` that of ranks and banks, `times_report` that of how long requests took,
+//! `telling` is what is told of a run, and `replay` does it all over a reader and a writer.
 #![tactic(auto)]
 
-mod ask;
+mod found;
 mod ledger;
-mod line;
 mod numbers;
-mod queue;
+mod places;
 pub mod replay;
 mod replaying;
 mod report;
-mod stream;
+mod served;
 mod submitting;
+mod telling;
 mod times;
 mod times_report;

@@ -1,20 +1,20 @@
 //! What a replay comes to: of each channel the numbers of its commands, and of each port its requests.
 //!
-//! `queue`, `ddr_world` and `ddr_statistics` stand below, and `report` above.
+//! `ddr_stream`, `ddr_world` and `ddr_statistics` stand below, and `report`, `places` and `telling` above.
 ghost use Rattle.std.specs.Prelude.{◌≡◌, ◌≢◌, All, true, false, ◌+◌, ◌<◌, ◌≤◌, ◌==◌, IfErr, IfOk, IsTrue, length, map};
 ghost use Rattle.std.specs.List.{range_with_len};
 ghost use Rattle.ddr_timing.specs.declared.units.TheConstants.{CLOCK_STOP};
 ghost use Rattle.ddr_trace.specs.Rules.{is_in};
 ghost use Rattle.ddr_statistics.specs.Stands.{StandsFor};
 ghost use Rattle.ddr_world.specs.Kept.{state_of};
-ghost use Rattle.ddr_replay.specs.Numbers.{IsCounted, added, both, is_kind, is_spent, many, numbers_at, numbers_in, of_kind, requests_in, together};
+ghost use Rattle.ddr_replay.specs.Numbers.{IsCounted, added, both, is_any_spent, is_kind, is_spent, many, numbers_at, numbers_in, of_kind, requests_in, together};
 
-use crate::ask::Ask;
-use crate::queue::Queue;
 use ddr_address_map::request::Kind;
 use ddr_channel::channel::Channel;
 use ddr_statistics::counts::Counts;
 use ddr_statistics::statistics::Statistics;
+use ddr_stream::ask::Ask;
+use ddr_stream::queue::Queue;
 use ddr_text::fault::Fault;
 use ddr_timing::config::Config;
 use ddr_timing::units::CLOCK_STOP;
@@ -138,7 +138,7 @@ fn numbers_in(channel: &Channel) -> Result<Numbers, Fault>
     if channel.now() == CLOCK_STOP {
         return Err(Fault::ClockSpent);
     }
-    let statistics = statistics_of(channel.config(), channel.trace());
+    let statistics = statistics_in(channel);
     Ok(Numbers {
         turn_rounds: statistics.turn_rounds(),
         rank_switches: statistics.rank_switches(),
@@ -146,11 +146,43 @@ fn numbers_in(channel: &Channel) -> Result<Numbers, Fault>
     })
 }
 
+/// Whether the clock of one of so many channels has come to its end.
+pub fn is_any_spent(world: &World, channels: u32) -> bool
+    ensures { result ≡ is_any_spent (state_of world.now) channels }
+{
+    for channel in 0..channels {
+        if is_spent(world, channel) {
+            return true;
+        }
+    }
+    false
+}
+
+/// Whether the clock of the channel of that number has come to its end.
+fn is_spent(world: &World, channel: u32) -> bool
+    ensures { result ≡ is_spent (state_of world.now) channel }
+{
+    match world.channel(channel) {
+        Some(channel) => channel.now() == CLOCK_STOP,
+        None => false,
+    }
+}
+
+/// The statistics of a channel whose clock has not come to its end.
+pub fn statistics_in(channel: &Channel) -> Statistics
+    requires { channel.now.now ≢ CLOCK_STOP }
+    ensures stands { StandsFor result channel.now.trace }
+    ensures geometry { result.geometry ≡ channel.now.config.geometry }
+{
+    statistics_of(channel.config(), channel.trace())
+}
+
 /// The statistics of a trace.
 fn statistics_of(config: &Config, trace: &[Entry]) -> Statistics
     requires placed { All (λ e. IsTrue (is_in config.now.geometry e.command)) trace.now }
     requires few { length trace.now < CLOCK_STOP }
-    ensures { StandsFor result trace.now }
+    ensures stands { StandsFor result trace.now }
+    ensures geometry { result.geometry ≡ config.now.geometry }
 {
     let mut statistics = Statistics::open(config, 0);
     for entry in trace {

@@ -1,39 +1,43 @@
-//! A replay of a stream of requests: bytes in, statistics out.
+//! A replay of a stream of requests: bytes in, statistics, requests or a trace out.
 //!
-//! `stream`, `replaying`, `report` and `ddr_text` stand below, and `ddr_tool` above.
-ghost use Rattle.std.specs.Prelude.{◌≡◌, ◌≤◌, ◌⊎◌, IfErr, IfOk, IfSome, IsErrOf, IsTrue, OnOk, length, string_bytes};
+//! `ddr_stream`, `replaying`, `telling` and `ddr_text` stand below, and `ddr_tool` above.
+ghost use Rattle.std.specs.Prelude.{◌≡◌, ◌≤◌, ◌⊎◌, IfErr, IfOk, IfSome, IsErrOf, IsTrue, OnOk, length};
 ghost use Rattle.ddr_text.specs.Fault.{is_before_output};
-ghost use Rattle.ddr_replay.specs.Replays.{HasReplayFault, IsNoStream, IsReplayed, IsSaid, IsStream, report_of};
+ghost use Rattle.ddr_replay.specs.Replays.{HasReplayFault, IsNoStream, IsReplayed, IsSaid, IsStream, keeps_served, names_no_channel, report_of};
 
-use crate::numbers::{numbers_of, requests_of};
+use crate::numbers::requests_of;
 use crate::replaying::Replaying;
-use crate::report::report_lines;
-use crate::stream::{LONGEST_STREAM, queues_of};
+use crate::telling::told_of;
+use ddr_stream::stream::{LONGEST_STREAM, queues_of};
 use ddr_text::body::open;
+use ddr_text::command::{Reading, Told};
 use ddr_text::fault::Fault;
 use ddr_text::input::read_at_most;
 use ddr_text::sink::Sink;
 use ddr_text::source::Source;
-use ddr_text::writing::write_whole;
+use ddr_text::writing::write_bytes;
 use ddr_timing::config::Config;
 use ddr_timing::profile::PROFILE_S;
 use std::alloc::Global;
 use std::str;
 
-/// Reads a stream of requests, replays it, and writes what it comes to as TOML.
+/// Reads a stream of requests, replays it, and writes what is to be told of it.
 ///
 /// With `sample` the whole input is the stream, on the sample configuration; else the input is a configuration of either
-/// version, a line `---` and the stream. A line of it is `AT PORT read ADDR` or `AT PORT write ADDR`, and asks for the whole
-/// line of the memory that holds `ADDR`. Before each round every port, from port 0 on, submits its next requests in order
-/// while their `AT` is at most the rounds made so far and they aren't refused; then comes the round of `sim`; until every
-/// request was submitted and its reply released.
+/// version, a line `---` and the stream. `reading` says how its lines are read; each asks for the whole line of the memory that
+/// holds an address. Before each round every port, from port 0 on, submits its next requests in order while their cycle is at
+/// most the rounds made so far and they aren't refused; then comes the round of `sim`; until every request was submitted and its
+/// reply released. Then `told` says what is written: statistics as TOML, the requests as CSV, or a channel's trace.
 ///
-/// Fails as `open` does, then as `ReplayLine` or `ReplayRange` at the first line of the stream that is at fault, then as
-/// `ReplayLimit` where more than `MOST_ROUNDS` rounds are needed, or as `ClockSpent`. Nothing is written before the statistics
-/// are there, so only `Write` may leave a part of them. Over bytes in memory it never fails as `Read` or as `Write`.
+/// Fails as `open` does, then as `TraceNoSuch` where there is no channel of that number, then as `ReplayLine` or `ReplayRange` at
+/// the first line of the stream that is at fault, then as `ReplayLimit` where more than `MOST_ROUNDS` rounds are needed, or as
+/// `ClockSpent`. Nothing is written before all of it is there, so only `Write` may leave a part of it. Over bytes in memory it
+/// never fails as `Read` or as `Write`.
 pub fn replay<R: Source, W: Sink>(
     alloc: Global,
     sample: bool,
+    reading: Reading,
+    told: Told,
     reader: &mut R,
     writer: &mut W,
 ) -> Result<(), Fault>
@@ -44,15 +48,15 @@ pub fn replay<R: Source, W: Sink>(
     ensures spared { IsErrOf result Fault.OutOfMemory → W.contents writer.new ≡ W.contents writer.old }
     ensures unmoved { IsErrOf result Fault.OutOfMemory → IsTrue W.may_fail → writer.new ≡ writer.old }
     ensures fault { IfErr result (λ fault. IfSome (R.remaining reader.old) (λ input.
-        HasReplayFault sample PROFILE_S.now input fault)) }
+        HasReplayFault sample PROFILE_S.now reading told input fault)) }
     ensures written { OnOk result (IfSome (R.remaining reader.old) (λ input.
-        IsReplayed sample PROFILE_S.now input (W.contents writer.old) (W.contents writer.new))) }
+        IsReplayed sample PROFILE_S.now reading told input (W.contents writer.old) (W.contents writer.new))) }
 {
     let input = read_at_most(alloc, LONGEST_STREAM, reader)?;
     let text = text_of(input.as_slice())?;
     let (config, body) = open(alloc, sample, text)?;
-    let report = report_of(alloc, &config, body)?;
-    write_whole(writer, report.as_str())
+    let report = report_of(alloc, &config, reading, told, body)?;
+    write_bytes(writer, report.as_slice())
 }
 
 /// The text that the bytes of a whole input encode. Fails as `InputNotUtf8` where they encode none.
@@ -64,23 +68,43 @@ fn text_of(bytes: &[u8]) -> Result<&str, Fault>
     str::from_utf8(bytes).map_err(|_| Fault::InputNotUtf8)
 }
 
-/// What is written of a body. Fails where the body is at fault, or its replay comes to no end.
-fn report_of(alloc: Global, config: &Config, body: &str) -> Result<String, Fault>
+/// What is told of a body. Fails where the channel isn't there, the body is at fault, or its replay comes to no end.
+fn report_of(
+    alloc: Global,
+    config: &Config,
+    reading: Reading,
+    told: Told,
+    body: &str,
+) -> Result<Vec<u8>, Fault>
     requires { length body.now ≤ LONGEST_STREAM }
-    ensures { IsSaid string_bytes result (report_of config.now body.now) }
+    ensures { IsSaid (λ v. v.items) result (report_of config.now reading told body.now) }
 {
-    let queues = queues_of(alloc, config, body)?;
+    if names_no_channel(config, told) {
+        return Err(Fault::TraceNoSuch);
+    }
+    let queues = queues_of(alloc, config, reading, body)?;
     let requests = requests_of(alloc, queues.as_slice())?;
-    let mut replaying = Replaying::open(alloc, config, queues)?;
+    let mut replaying = Replaying::open(alloc, config, keeps_served(told), queues)?;
     replaying.run()?;
-    let numbers = numbers_of(alloc, replaying.world(), config.geometry.channels)?;
-    let report = report_lines(
-        alloc,
-        config,
-        requests.as_slice(),
-        numbers.as_slice(),
-        replaying.ledger(),
-        replaying.round(),
-    )?;
-    Ok(report)
+    told_of(alloc, config, told, requests.as_slice(), &replaying)
+}
+
+/// Whether a trace is asked for of a channel that isn't there.
+fn names_no_channel(config: &Config, told: Told) -> bool
+    ensures { result ≡ names_no_channel config.now told }
+{
+    match told {
+        Told::Trace { channel } => channel >= config.geometry.channels,
+        _ => false,
+    }
+}
+
+/// Whether the requests that were served are to be kept.
+fn keeps_served(told: Told) -> bool
+    ensures { result ≡ keeps_served told }
+{
+    match told {
+        Told::Requests => true,
+        _ => false,
+    }
 }

@@ -1,6 +1,6 @@
 //! The core, and the requests that are still to be submitted: a replay from its first round to its last.
 //!
-//! `submitting`, `queue`, `ledger` and `ddr_world` stand below, and `replay` above.
+//! `submitting`, `ddr_stream`, `ledger` and `ddr_world` stand below, and `replay` above.
 ghost use Rattle.std.specs.Prelude.{◌≡◌, ◌==◌, ℕ, ◌+◌, ◌-◌, ◌<◌, ◌≤◌, false, true, IfErr, IfOk, IsTrue, OnOk, Some, None, Ok, length, sum_by};
 ghost use Rattle.ddr_sim.specs.Rounds.{channel_served, channels_served, items_of, until_refused};
 ghost use Rattle.ddr_sim.specs.Simulated.{IsCycleFault, added};
@@ -14,8 +14,10 @@ ghost use Rattle.ddr_replay.specs.View.{IsFrontReleased, IsRunFault, IsSame, is_
 ghost use Rattle.ddr_replay.specs.Waits.{AreQuiet, AreWaiting, IsWaitingIn};
 
 use crate::ledger::Ledger;
-use crate::queue::Queue;
 use crate::submitting::submit_from;
+use ddr_reorder::reply::{Reply, Service};
+use ddr_stream::queue::Queue;
+use ddr_stream::stream::count_all;
 use ddr_text::fault::Fault;
 use ddr_timing::config::Config;
 use ddr_world::event::{Event, Outcome, Refusal};
@@ -54,14 +56,19 @@ impl Model for Replaying {
 }
 
 impl Replaying {
-    /// A replay before its first round.
-    pub fn open(alloc: Global, config: &Config, queues: Vec<Queue>) -> Result<Replaying, AllocError>
+    /// A replay before its first round. `keeps` says whether the requests that were served are kept.
+    pub fn open(
+        alloc: Global,
+        config: &Config,
+        keeps: bool,
+        queues: Vec<Queue>,
+    ) -> Result<Replaying, AllocError>
         requires { length queues.items ≡ config.now.limits.ports }
-        ensures begun { IfOk result (λ replay. run_of replay ≡ begun config.now queues.items) }
+        ensures begun { IfOk result (λ replay. run_of replay ≡ begun config.now keeps queues.items) }
         ensures config { IfOk result (λ replay. replay.config ≡ config.now) }
     {
         let unserved = count_all(queues.as_slice());
-        let ledger = Ledger::open(alloc, config.limits.ports)?;
+        let ledger = Ledger::open(alloc, config.limits.ports, keeps)?;
         Ok(Replaying {
             config: *config,
             world: World::open(alloc, config)?,
@@ -198,7 +205,7 @@ impl Replaying {
         ensures within { self.new.round ≤ MOST_ROUNDS }
     {
         self.serve_channels()?;
-        self.serve_ports();
+        self.serve_ports()?;
         self.round += 1;
         Ok(())
     }
@@ -232,40 +239,43 @@ impl Replaying {
     }
 
     /// The ports' part of a round.
-    fn serve_ports(&mut self)
-        ensures run { run_of self.new ≡ ports_served self.old.config.limits.ports (run_of self.old) }
+    fn serve_ports(&mut self) -> Result<(), AllocError>
+        ensures run { OnOk result (run_of self.new ≡ ports_served self.old.config.limits.ports (run_of self.old)) }
         ensures config { self.new.config ≡ self.old.config }
         ensures round { self.new.round ≡ self.old.round }
     {
         for port in 0..self.config.limits.ports {
-            self.serve_port(port);
+            self.serve_port(port)?;
         }
+        Ok(())
     }
 
     /// A port's part of a round: it collects what was delivered, and releases its replies.
-    fn serve_port(&mut self, port: u32)
-        ensures run { run_of self.new ≡ port_served port (run_of self.old) }
+    fn serve_port(&mut self, port: u32) -> Result<(), AllocError>
+        ensures run { OnOk result (run_of self.new ≡ port_served port (run_of self.old)) }
         ensures config { self.new.config ≡ self.old.config }
         ensures round { self.new.round ≡ self.old.round }
     {
         self.repeat(Event::Collect(port));
-        'replies: while self.release_front(port) {}
+        'replies: while self.release_front(port)? {}
+        Ok(())
     }
 
     /// Releases the reply in front of a port, if there is one, and tells whether there was.
-    fn release_front(&mut self, port: u32) -> bool
-        ensures released { IsFrontReleased port (run_of self.old) (run_of self.new) result }
-        ensures fewer { result ≡ true → items_of (state_of self.old.world) (Release port) ≡ items_of (state_of self.new.world) (Release port) + 1 }
+    fn release_front(&mut self, port: u32) -> Result<bool, AllocError>
+        ensures released { IfOk result (λ more. IsFrontReleased port (run_of self.old) (run_of self.new) more) }
+        ensures fewer { IfOk result (λ more. more ≡ true → items_of (state_of self.old.world) (Release port) ≡ items_of (state_of self.new.world) (Release port) + 1) }
         ensures config { self.new.config ≡ self.old.config }
         ensures round { self.new.round ≡ self.old.round }
     {
         let Some(reply) = self.world.front(port) else {
-            return false;
+            return Ok(false);
         };
-        let issued = reply.issued;
+        let Reply { issued, due, .. } = reply;
         let _ = self.make(Event::Release(port));
-        self.ledger.release(port, issued, self.round);
-        true
+        self.ledger
+            .release(port, Service { issued, due }, self.round)?;
+        Ok(true)
     }
 
     /// Makes an event that pops something until it is refused.
@@ -310,15 +320,4 @@ impl Replaying {
     {
         &self.world
     }
-}
-
-/// How many requests the queues have.
-fn count_all(queues: &[Queue]) -> u128
-    ensures { result ≡ sum_by length queues.now }
-{
-    let mut count: u128 = 0;
-    for queue in queues {
-        count += queue.len() as u128;
-    }
-    count
 }

@@ -1,6 +1,6 @@
 //! The statistics of a replay as text.
 //!
-//! `numbers`, `times_report` and `ddr_statistics` stand below, and `replay` above. `specs/Report.antt` has the text, byte for byte.
+//! `numbers`, `times_report` and `ddr_statistics` stand below, and `telling` above. `specs/Report.antt` has the text, byte for byte.
 ghost use Rattle.std.specs.Prelude.{◌≡◌, IfOk, string_bytes};
 ghost use Rattle.ddr_replay.specs.Report.{channel_table, channel_tables, head_text, numbers_lines, port_table, port_tables, report_lines, requests_lines, total_table};
 

@@ -1,6 +1,6 @@
 //! What a port submits before a round.
 //!
-//! `queue`, `ledger` and `ddr_world` stand below, and `replaying` above.
+//! `ddr_stream`, `ledger` and `ddr_world` stand below, and `replaying` above.
 ghost use Rattle.std.specs.Prelude.{◌≡◌, ◌+◌, OnOk, IfOk, length};
 ghost use Rattle.ddr_sim.specs.Rounds.{outstanding};
 ghost use Rattle.ddr_world.specs.Kept.{state_of};
@@ -8,8 +8,8 @@ ghost use Rattle.ddr_replay.specs.Runs.{submitted};
 ghost use Rattle.ddr_replay.specs.Waits.{IsWaiting};
 
 use crate::ledger::Ledger;
-use crate::queue::Queue;
 use crate::times::Accepted;
+use ddr_stream::queue::Queue;
 use ddr_world::event::{Event, Refusal};
 use ddr_world::world::World;
 use std::alloc::AllocError;
@@ -37,13 +37,7 @@ pub fn submit_from(
         match world.step(Event::Submit(port, ask.request())) {
             Ok(_) => {
                 queue.pop();
-                ledger.accept(
-                    port,
-                    Accepted {
-                        kind: ask.kind,
-                        round,
-                    },
-                )?;
+                ledger.accept(port, Accepted { ask, round })?;
             }
             Err(Refusal::WindowFull) => return Ok(u64::MAX),
             Err(_) => return Ok(0),

@@ -1,12 +1,13 @@
 //! How long requests take, in clocks.
 //!
-//! Nothing stands below; `replaying` and `report` stand above. A request is accepted in the round before which its port
+//! `ddr_stream` stands below, and `ledger` and `report` above. A request is accepted in the round before which its port
 //! submits it, issued in the cycle of its read or write, and released in the round in which its port releases the reply. A
 //! round is a clock cycle of each channel.
 ghost use Rattle.std.specs.Prelude.{◌≡◌, ◌≤◌};
-ghost use Rattle.ddr_replay.specs.Times.{bound_of, bucket_of, least_of, timed, with_bucket, with_time, with_took};
+ghost use Rattle.ddr_replay.specs.Times.{bound_of, bucket_of, count_of, least_of, timed, with_bucket, with_time, with_took};
 
 use ddr_address_map::request::Kind;
+use ddr_stream::ask::Ask;
 
 /// How many classes a histogram has.
 pub const BUCKETS: usize = 33;
@@ -14,7 +15,7 @@ pub const BUCKETS: usize = 33;
 /// A request that a port submitted, and whose reply it didn't release.
 #[derive(Clone, Copy, Debug, PartialEq, Eq)]
 pub struct Accepted {
-    pub kind: Kind,
+    pub ask: Ask,
     /// How many rounds were made before it was accepted.
     pub round: u32,
 }
@@ -137,6 +138,16 @@ impl Times {
         writes: Waits::NONE,
     };
 
+    /// How many requests were noted.
+    pub(crate) fn count(&self) -> u64
+        ensures { result ≡ count_of self.now }
+    {
+        self.reads
+            .to_release
+            .count
+            .saturating_add(self.writes.to_release.count)
+    }
+
     /// Notes a request that was accepted so, issued in that cycle, and whose reply is released in that round.
     #[tactic(auto, unfolding(crate::specs::Times::timed))]
     pub(crate) fn note(&mut self, accepted: Accepted, issued: u64, round: u32)
@@ -144,7 +155,7 @@ impl Times {
     {
         let to_issue = issued.saturating_sub(u64::from(accepted.round));
         let to_release = u64::from(round.saturating_sub(accepted.round));
-        match accepted.kind {
+        match accepted.ask.kind {
             Kind::Read => self.reads.note(to_issue, to_release),
             Kind::Write => self.writes.note(to_issue, to_release),
         }

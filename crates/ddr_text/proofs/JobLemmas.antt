@@ -21,7 +21,7 @@ use Rattle.clap.specs.declared.error.kind.ErrorKind.TheVariants.{OutOfMemory}
 use Rattle.clap.proofs.CallerReads.{signed_reads}
 use Rattle.clap.proofs.ValueTestLemmas.{accepts-Accepts}
 use Rattle.ddr_text.specs.declared.command.Job.TheVariants.{Sim}
-use Rattle.ddr_text.specs.Job.{Answers, AreTaken, IsTaken, all_rule, ddr_app, explain_rule, flag_rule, is_subcommand, job_of, job_or, job_with, most_rule, number_rule, sample_rule, trace_rule}
+use Rattle.ddr_text.specs.Job.{Answers, AreTaken, IsTaken, all_rule, ddr_app, dramsim3_rule, explain_rule, flag_rule, is_subcommand, job_of, job_or, job_with, most_rule, number_rule, ramulator2_rule, requests_rule, sample_rule, spread_rule, trace_rule, wrap_rule}
 use Rattle.ddr_text.proofs.PassLemmas.{AllFit, AllSubsLike, IsLike, fit_subcommand, one_passes}
 
 -- a flag, as `get_flag` reads it
@@ -142,27 +142,52 @@ like_other t a differ uncounted =
 samples_alike : AllSubsLike (filled sample_rule) (built ddr_app).subs
 unfolding ddr_app is_count
 samples_alike =
-    ((like_same _ _ refl refl refl, (like_other _ _ refl refl, (like_other _ _ refl refl, tt))), ((like_same _ _ refl refl refl, (like_other _ _ refl refl, tt)), ((like_same _ _ refl refl refl, (like_other _ _ refl refl, tt)), ((like_same _ _ refl refl refl, (like_other _ _ refl refl, (like_other _ _ refl refl, (like_other _ _ refl refl, (like_other _ _ refl refl, tt))))), ((like_same _ _ refl refl refl, (like_other _ _ refl refl, tt)), ((like_same _ _ refl refl refl, (like_other _ _ refl refl, tt)), tt))))))
+    ((like_same _ _ refl refl refl, (like_other _ _ refl refl, (like_other _ _ refl refl, tt))), ((like_same _ _ refl refl refl, (like_other _ _ refl refl, tt)), ((like_same _ _ refl refl refl, (like_other _ _ refl refl, (like_other _ _ refl refl, (like_other _ _ refl refl, (like_other _ _ refl refl, (like_other _ _ refl refl, (like_other _ _ refl refl, (like_other _ _ refl refl, tt)))))))), ((like_same _ _ refl refl refl, (like_other _ _ refl refl, (like_other _ _ refl refl, (like_other _ _ refl refl, (like_other _ _ refl refl, tt))))), ((like_same _ _ refl refl refl, (like_other _ _ refl refl, tt)), ((like_same _ _ refl refl refl, (like_other _ _ refl refl, tt)), tt))))))
 
 traces_alike : AllSubsLike (filled trace_rule) (built ddr_app).subs
 unfolding ddr_app is_count
 traces_alike =
-    ((like_other _ _ refl refl, (like_same _ _ refl refl refl, (like_other _ _ refl refl, tt))), ((like_other _ _ refl refl, (like_other _ _ refl refl, tt)), ((like_other _ _ refl refl, (like_other _ _ refl refl, tt)), ((like_other _ _ refl refl, (like_other _ _ refl refl, (like_other _ _ refl refl, (like_other _ _ refl refl, (like_other _ _ refl refl, tt))))), ((like_other _ _ refl refl, (like_other _ _ refl refl, tt)), ((like_other _ _ refl refl, (like_other _ _ refl refl, tt)), tt))))))
+    ((like_other _ _ refl refl, (like_same _ _ refl refl refl, (like_other _ _ refl refl, tt))), ((like_other _ _ refl refl, (like_other _ _ refl refl, tt)), ((like_other _ _ refl refl, (like_other _ _ refl refl, (like_other _ _ refl refl, (like_other _ _ refl refl, (like_other _ _ refl refl, (like_other _ _ refl refl, (like_same _ _ refl refl refl, (like_other _ _ refl refl, tt)))))))), ((like_other _ _ refl refl, (like_other _ _ refl refl, (like_other _ _ refl refl, (like_other _ _ refl refl, (like_other _ _ refl refl, tt))))), ((like_other _ _ refl refl, (like_other _ _ refl refl, tt)), ((like_other _ _ refl refl, (like_other _ _ refl refl, tt)), tt))))))
 
 explains_alike : AllSubsLike (filled explain_rule) (built ddr_app).subs
 unfolding ddr_app is_count
 explains_alike =
-    ((like_other _ _ refl refl, (like_other _ _ refl refl, (like_other _ _ refl refl, tt))), ((like_other _ _ refl refl, (like_other _ _ refl refl, tt)), ((like_other _ _ refl refl, (like_other _ _ refl refl, tt)), ((like_other _ _ refl refl, (like_same _ _ refl refl refl, (like_other _ _ refl refl, (like_other _ _ refl refl, (like_other _ _ refl refl, tt))))), ((like_other _ _ refl refl, (like_other _ _ refl refl, tt)), ((like_other _ _ refl refl, (like_other _ _ refl refl, tt)), tt))))))
+    ((like_other _ _ refl refl, (like_other _ _ refl refl, (like_other _ _ refl refl, tt))), ((like_other _ _ refl refl, (like_other _ _ refl refl, tt)), ((like_other _ _ refl refl, (like_other _ _ refl refl, (like_other _ _ refl refl, (like_other _ _ refl refl, (like_other _ _ refl refl, (like_other _ _ refl refl, (like_other _ _ refl refl, (like_other _ _ refl refl, tt)))))))), ((like_other _ _ refl refl, (like_same _ _ refl refl refl, (like_other _ _ refl refl, (like_other _ _ refl refl, (like_other _ _ refl refl, tt))))), ((like_other _ _ refl refl, (like_other _ _ refl refl, tt)), ((like_other _ _ refl refl, (like_other _ _ refl refl, tt)), tt))))))
 
 alls_alike : AllSubsLike (filled all_rule) (built ddr_app).subs
 unfolding ddr_app is_count
 alls_alike =
-    ((like_other _ _ refl refl, (like_other _ _ refl refl, (like_other _ _ refl refl, tt))), ((like_other _ _ refl refl, (like_other _ _ refl refl, tt)), ((like_other _ _ refl refl, (like_other _ _ refl refl, tt)), ((like_other _ _ refl refl, (like_other _ _ refl refl, (like_same _ _ refl refl refl, (like_other _ _ refl refl, (like_other _ _ refl refl, tt))))), ((like_other _ _ refl refl, (like_other _ _ refl refl, tt)), ((like_other _ _ refl refl, (like_other _ _ refl refl, tt)), tt))))))
+    ((like_other _ _ refl refl, (like_other _ _ refl refl, (like_other _ _ refl refl, tt))), ((like_other _ _ refl refl, (like_other _ _ refl refl, tt)), ((like_other _ _ refl refl, (like_other _ _ refl refl, (like_other _ _ refl refl, (like_other _ _ refl refl, (like_other _ _ refl refl, (like_other _ _ refl refl, (like_other _ _ refl refl, (like_other _ _ refl refl, tt)))))))), ((like_other _ _ refl refl, (like_other _ _ refl refl, (like_same _ _ refl refl refl, (like_other _ _ refl refl, (like_other _ _ refl refl, tt))))), ((like_other _ _ refl refl, (like_other _ _ refl refl, tt)), ((like_other _ _ refl refl, (like_other _ _ refl refl, tt)), tt))))))
 
 mosts_alike : AllSubsLike (filled most_rule) (built ddr_app).subs
 unfolding ddr_app is_count
 mosts_alike =
-    ((like_other _ _ refl refl, (like_other _ _ refl refl, (like_other _ _ refl refl, tt))), ((like_other _ _ refl refl, (like_other _ _ refl refl, tt)), ((like_other _ _ refl refl, (like_other _ _ refl refl, tt)), ((like_other _ _ refl refl, (like_other _ _ refl refl, (like_other _ _ refl refl, (like_same _ _ refl refl refl, (like_other _ _ refl refl, tt))))), ((like_other _ _ refl refl, (like_other _ _ refl refl, tt)), ((like_other _ _ refl refl, (like_other _ _ refl refl, tt)), tt))))))
+    ((like_other _ _ refl refl, (like_other _ _ refl refl, (like_other _ _ refl refl, tt))), ((like_other _ _ refl refl, (like_other _ _ refl refl, tt)), ((like_other _ _ refl refl, (like_other _ _ refl refl, (like_other _ _ refl refl, (like_other _ _ refl refl, (like_other _ _ refl refl, (like_other _ _ refl refl, (like_other _ _ refl refl, (like_other _ _ refl refl, tt)))))))), ((like_other _ _ refl refl, (like_other _ _ refl refl, (like_other _ _ refl refl, (like_same _ _ refl refl refl, (like_other _ _ refl refl, tt))))), ((like_other _ _ refl refl, (like_other _ _ refl refl, tt)), ((like_other _ _ refl refl, (like_other _ _ refl refl, tt)), tt))))))
+
+dramsim3_alike : AllSubsLike (filled dramsim3_rule) (built ddr_app).subs
+unfolding ddr_app is_count
+dramsim3_alike =
+    ((like_other _ _ refl refl, (like_other _ _ refl refl, (like_other _ _ refl refl, tt))), ((like_other _ _ refl refl, (like_other _ _ refl refl, tt)), ((like_other _ _ refl refl, (like_same _ _ refl refl refl, (like_other _ _ refl refl, (like_other _ _ refl refl, (like_other _ _ refl refl, (like_other _ _ refl refl, (like_other _ _ refl refl, (like_other _ _ refl refl, tt)))))))), ((like_other _ _ refl refl, (like_other _ _ refl refl, (like_other _ _ refl refl, (like_other _ _ refl refl, (like_other _ _ refl refl, tt))))), ((like_other _ _ refl refl, (like_other _ _ refl refl, tt)), ((like_other _ _ refl refl, (like_other _ _ refl refl, tt)), tt))))))
+
+ramulator2_alike : AllSubsLike (filled ramulator2_rule) (built ddr_app).subs
+unfolding ddr_app is_count
+ramulator2_alike =
+    ((like_other _ _ refl refl, (like_other _ _ refl refl, (like_other _ _ refl refl, tt))), ((like_other _ _ refl refl, (like_other _ _ refl refl, tt)), ((like_other _ _ refl refl, (like_other _ _ refl refl, (like_same _ _ refl refl refl, (like_other _ _ refl refl, (like_other _ _ refl refl, (like_other _ _ refl refl, (like_other _ _ refl refl, (like_other _ _ refl refl, tt)))))))), ((like_other _ _ refl refl, (like_other _ _ refl refl, (like_other _ _ refl refl, (like_other _ _ refl refl, (like_other _ _ refl refl, tt))))), ((like_other _ _ refl refl, (like_other _ _ refl refl, tt)), ((like_other _ _ refl refl, (like_other _ _ refl refl, tt)), tt))))))
+
+spreads_alike : AllSubsLike (filled spread_rule) (built ddr_app).subs
+unfolding ddr_app is_count
+spreads_alike =
+    ((like_other _ _ refl refl, (like_other _ _ refl refl, (like_other _ _ refl refl, tt))), ((like_other _ _ refl refl, (like_other _ _ refl refl, tt)), ((like_other _ _ refl refl, (like_other _ _ refl refl, (like_other _ _ refl refl, (like_same _ _ refl refl refl, (like_other _ _ refl refl, (like_other _ _ refl refl, (like_other _ _ refl refl, (like_other _ _ refl refl, tt)))))))), ((like_other _ _ refl refl, (like_other _ _ refl refl, (like_other _ _ refl refl, (like_other _ _ refl refl, (like_other _ _ refl refl, tt))))), ((like_other _ _ refl refl, (like_other _ _ refl refl, tt)), ((like_other _ _ refl refl, (like_other _ _ refl refl, tt)), tt))))))
+
+wraps_alike : AllSubsLike (filled wrap_rule) (built ddr_app).subs
+unfolding ddr_app is_count
+wraps_alike =
+    ((like_other _ _ refl refl, (like_other _ _ refl refl, (like_other _ _ refl refl, tt))), ((like_other _ _ refl refl, (like_other _ _ refl refl, tt)), ((like_other _ _ refl refl, (like_other _ _ refl refl, (like_other _ _ refl refl, (like_other _ _ refl refl, (like_same _ _ refl refl refl, (like_other _ _ refl refl, (like_other _ _ refl refl, (like_other _ _ refl refl, tt)))))))), ((like_other _ _ refl refl, (like_other _ _ refl refl, (like_other _ _ refl refl, (like_other _ _ refl refl, (like_other _ _ refl refl, tt))))), ((like_other _ _ refl refl, (like_other _ _ refl refl, tt)), ((like_other _ _ refl refl, (like_other _ _ refl refl, tt)), tt))))))
+
+requests_alike : AllSubsLike (filled requests_rule) (built ddr_app).subs
+unfolding ddr_app is_count
+requests_alike =
+    ((like_other _ _ refl refl, (like_other _ _ refl refl, (like_other _ _ refl refl, tt))), ((like_other _ _ refl refl, (like_other _ _ refl refl, tt)), ((like_other _ _ refl refl, (like_other _ _ refl refl, (like_other _ _ refl refl, (like_other _ _ refl refl, (like_other _ _ refl refl, (like_same _ _ refl refl refl, (like_other _ _ refl refl, (like_other _ _ refl refl, tt)))))))), ((like_other _ _ refl refl, (like_other _ _ refl refl, (like_other _ _ refl refl, (like_other _ _ refl refl, (like_other _ _ refl refl, tt))))), ((like_other _ _ refl refl, (like_other _ _ refl refl, tt)), ((like_other _ _ refl refl, (like_other _ _ refl refl, tt)), tt))))))
 
 taken_of : (t : Rule) (words : List Text) (name : Text) (options : List Row) → AllSubsLike t (built ddr_app).subs → fault_of ddr_app words ≡ [] → subcommand_of ddr_app words ≡ Some (name, options) → IfSome (one_of t.id options) (IsTaken t)
 taken_of t words name options alike none met =
@@ -176,4 +201,9 @@ met_taken words name options none met = record {
   explain = taken_of (filled explain_rule) words name options explains_alike none met;
   all = taken_of (filled all_rule) words name options alls_alike none met;
   most = taken_of (filled most_rule) words name options mosts_alike none met;
+  dramsim3 = taken_of (filled dramsim3_rule) words name options dramsim3_alike none met;
+  ramulator2 = taken_of (filled ramulator2_rule) words name options ramulator2_alike none met;
+  spread = taken_of (filled spread_rule) words name options spreads_alike none met;
+  wrap = taken_of (filled wrap_rule) words name options wraps_alike none met;
+  requests = taken_of (filled requests_rule) words name options requests_alike none met;
 }

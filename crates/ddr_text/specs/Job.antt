@@ -14,6 +14,11 @@ use Rattle.clap.specs.declared.error.Error.{Error}
 use Rattle.clap.specs.declared.error.kind.ErrorKind.TheVariants.{OutOfMemory}
 use Rattle.ddr_text.specs.declared.command.Job.{Job}
 use Rattle.ddr_text.specs.declared.command.Job.TheVariants.{Sim, Run, Replay, Check, Explain, All, Map, Lint}
+use Rattle.ddr_text.specs.declared.command.Format.{Format}
+use Rattle.ddr_text.specs.declared.command.Format.TheVariants.{Own, Dramsim3, Ramulator2}
+use Rattle.ddr_text.specs.declared.command.Reading.{Reading}
+use Rattle.ddr_text.specs.declared.command.Told.{Told}
+use Rattle.ddr_text.specs.declared.command.Told.TheVariants.{Statistics, Requests, Trace}
 
 -- a flag of this name
 abbrev pub flag_rule : Text → Rule
@@ -47,6 +52,26 @@ trace_rule = number_rule (codes "trace")
 abbrev pub most_rule : Rule
 most_rule = number_rule (codes "most")
 
+-- the flag `--dramsim3`
+abbrev pub dramsim3_rule : Rule
+dramsim3_rule = flag_rule (codes "dramsim3")
+
+-- the flag `--ramulator2`
+abbrev pub ramulator2_rule : Rule
+ramulator2_rule = flag_rule (codes "ramulator2")
+
+-- the flag `--spread`
+abbrev pub spread_rule : Rule
+spread_rule = flag_rule (codes "spread")
+
+-- the flag `--wrap`
+abbrev pub wrap_rule : Rule
+wrap_rule = flag_rule (codes "wrap")
+
+-- the flag `--requests`
+abbrev pub requests_rule : Rule
+requests_rule = flag_rule (codes "requests")
+
 -- a subcommand with the flag
 abbrev pub with_sample : Text → App
 with_sample name = with_rule (new_app name) sample_rule
@@ -54,6 +79,18 @@ with_sample name = with_rule (new_app name) sample_rule
 -- the subcommand `check`, with its own flags and its option behind
 abbrev pub check_app : App
 check_app = with_rule (with_rule (with_rule (with_sample (codes "check")) explain_rule) all_rule) most_rule
+
+-- a subcommand with the options that say how a stream is read
+abbrev pub with_reading : App → App
+with_reading app = with_rule (with_rule (with_rule (with_rule app dramsim3_rule) ramulator2_rule) spread_rule) wrap_rule
+
+-- a subcommand with the options that say what is told of a replay
+abbrev pub with_telling : App → App
+with_telling app = with_rule (with_rule app requests_rule) trace_rule
+
+-- the subcommand `replay`, with its own options behind the flag
+abbrev pub replay_app : App
+replay_app = with_telling (with_reading (with_sample (codes "replay")))
 
 -- the program's name, which a subcommand has to follow
 abbrev pub name_alone : App
@@ -65,7 +102,7 @@ unfoldable pub ddr_app : App
 ddr_app =
     let sim = with_subcommand name_alone (with_rule (with_sample (codes "sim")) trace_rule).top in
     let run = with_subcommand sim (with_sample (codes "run")).top in
-    let replay = with_subcommand run (with_sample (codes "replay")).top in
+    let replay = with_subcommand run replay_app.top in
     let check = with_subcommand replay check_app.top in
     let map = with_subcommand check (with_sample (codes "map")).top in
     with_subcommand map (with_sample (codes "lint")).top
@@ -89,6 +126,18 @@ channel_of = number_in (codes "trace")
 abbrev pub most_of : List Row → Option ℕ
 most_of = number_in (codes "most")
 
+-- the format that the flags name, or the program's own; next to `--dramsim3` `--ramulator2` says nothing
+abbrev pub format_of : List Row → Format
+format_of options = if is_used (codes "dramsim3") options then Dramsim3 else if is_used (codes "ramulator2") options then Ramulator2 else Own
+
+-- how the stream of `replay` is read
+abbrev pub reading_of : List Row → Reading
+reading_of options = record { format = format_of options; spread = is_used (codes "spread") options; wrap = is_used (codes "wrap") options }
+
+-- what `replay` tells; next to `--trace` `--requests` asks for nothing
+abbrev pub told_of : List Row → Told
+told_of options = option_map_or (λ channel. Trace channel) (channel_of options) (if is_used (codes "requests") options then Requests else Statistics)
+
 -- the text is that of a value that the rule's parser takes
 abbrev pub IsTaken : Rule → Text → Type 0
 IsTaken rule text = (value : Text) × (text ≡ read_as (reading_by rule) value)
@@ -101,6 +150,11 @@ pub record AreTaken (options : List Row) : Type 0 where
   pub explain : IfSome (one_of (codes "explain") options) (IsTaken (filled explain_rule))
   pub all : IfSome (one_of (codes "all") options) (IsTaken (filled all_rule))
   pub most : IfSome (one_of (codes "most") options) (IsTaken (filled most_rule))
+  pub dramsim3 : IfSome (one_of (codes "dramsim3") options) (IsTaken (filled dramsim3_rule))
+  pub ramulator2 : IfSome (one_of (codes "ramulator2") options) (IsTaken (filled ramulator2_rule))
+  pub spread : IfSome (one_of (codes "spread") options) (IsTaken (filled spread_rule))
+  pub wrap : IfSome (one_of (codes "wrap") options) (IsTaken (filled wrap_rule))
+  pub requests : IfSome (one_of (codes "requests") options) (IsTaken (filled requests_rule))
 
 abbrev pub is_subcommand : Text → Bool
 is_subcommand name = bytes_eq name (codes "sim") || bytes_eq name (codes "run") || bytes_eq name (codes "replay") || bytes_eq name (codes "check") || bytes_eq name (codes "map") || bytes_eq name (codes "lint")
@@ -117,7 +171,7 @@ abbrev pub job_with : Text → List Row → Job
 job_with name options =
     if bytes_eq name (codes "sim") then Sim (is_sample options) (channel_of options)
     else if bytes_eq name (codes "run") then Run (is_sample options)
-    else if bytes_eq name (codes "replay") then Replay (is_sample options)
+    else if bytes_eq name (codes "replay") then Replay (is_sample options) (reading_of options) (told_of options)
     else if bytes_eq name (codes "check") then check_job options (is_sample options)
     else if bytes_eq name (codes "map") then Map (is_sample options)
     else Lint (is_sample options)

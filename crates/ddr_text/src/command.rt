@@ -6,19 +6,70 @@
 #[derive(Clone, Copy, Debug, PartialEq, Eq)]
 pub enum Job {
     /// Runs a script. Where `trace` names a channel, the trace of that channel is written in place of the replies.
-    Sim { sample: bool, trace: Option<u32> },
+    Sim {
+        sample: bool,
+        trace: Option<u32>,
+    },
     /// Runs a script with a thread for each port and each channel.
-    Run { sample: bool },
-    /// Replays a request stream, and tells its statistics.
-    Replay { sample: bool },
+    Run {
+        sample: bool,
+    },
+    /// Replays a request stream, which is read so, and tells of it what is asked for.
+    Replay {
+        sample: bool,
+        reading: Reading,
+        told: Told,
+    },
     /// Checks a trace.
-    Check { sample: bool },
+    Check {
+        sample: bool,
+    },
     /// Checks a trace, and says what its first fault rests on.
-    Explain { sample: bool },
+    Explain {
+        sample: bool,
+    },
     /// Checks a trace, and tells all its faults, or the first `most` of them.
-    All { sample: bool, most: Option<u32> },
+    All {
+        sample: bool,
+        most: Option<u32>,
+    },
     /// Says where addresses lie.
-    Map { sample: bool },
+    Map {
+        sample: bool,
+    },
     /// Tells what is at fault in a configuration, and what is strange.
-    Lint { sample: bool },
+    Lint {
+        sample: bool,
+    },
+}
+
+/// How a request stream is read.
+#[derive(Clone, Copy, Debug, PartialEq, Eq)]
+pub struct Reading {
+    pub format: Format,
+    /// Whether requests that name no port go round the ports, and not all to port 0.
+    pub spread: bool,
+    /// Whether an address is taken modulo the capacity.
+    pub wrap: bool,
+}
+
+/// The form of a request stream's lines.
+#[derive(Clone, Copy, Debug, PartialEq, Eq)]
+pub enum Format {
+    /// This project's own: `AT PORT read ADDR` or `AT PORT write ADDR`.
+    Own,
+    /// That of DRAMSim3: `ADDR READ CYCLE` or `ADDR WRITE CYCLE`.
+    Dramsim3,
+    /// That of Ramulator 2's loads and stores: `LD ADDR` or `ST ADDR`, or `R` and `W` in their places.
+    Ramulator2,
+}
+
+/// What a replay tells.
+#[derive(Clone, Copy, Debug, PartialEq, Eq)]
+pub enum Told {
+    Statistics,
+    /// Of each request, when it was accepted and served.
+    Requests,
+    /// The commands of a channel.
+    Trace { channel: u32 },
 }

@@ -49,9 +49,15 @@ Input: a configuration, a line `---` and a stream of requests; with --sample the
   line of 64 bytes that holds ADDR, which is decimal, or hexadecimal behind 0x. AT is the
   cycle from which on the port may submit it, or `-` for as soon as possible. Empty lines
   and lines that begin with # are skipped.
+  With --dramsim3 a request is a line `ADDR READ AT` or `ADDR WRITE AT`, with --ramulator2
+  a line `LD ADDR` or `ST ADDR`, or `R ADDR` or `W ADDR`; there ADDR is hexadecimal behind
+  0x, and AT a cycle. Such requests are for port 0, or with --spread for each port in turn.
+  With --wrap an address is taken modulo the capacity.
   Each port submits its requests in order, and waits where one is not taken.
-Output: statistics as TOML, once all requests are served: a table for all channels, and
-  one for each channel.
+Output: statistics as TOML, once all requests are served: tables of all channels and of
+  each, of each port, and of how long requests took, from all ports and from each.
+  With --requests a line of comma-separated values for each request in their place, in the
+  order in which replies are released; with --trace the commands of that channel.
 Status: 0; 2 for a bad input or command line; 3 where the device, the memory or the
   clock fails.
 

@@ -4,9 +4,9 @@
 ghost use Rattle.std.specs.Prelude.{◌≡◌, ◌≤◌, IfOk, IsTrue, None, Ok, codes, false, length, map, true};
 ghost use Rattle.clap.specs.Words.{app_of, found_of, rows_of, rule_of, with_rule, with_subcommand};
 ghost use Rattle.clap.specs.declared.Command.TheViews.{out-Command as settings_of};
-ghost use Rattle.ddr_text.specs.Job.{Answers, AreTaken, channel_of, check_app, check_job, ddr_app, flag_rule, is_subcommand, is_used, job_of, job_with, most_of, name_alone, number_rule, trace_rule, with_sample};
+ghost use Rattle.ddr_text.specs.Job.{Answers, AreTaken, channel_of, check_app, check_job, ddr_app, flag_rule, format_of, is_subcommand, is_used, job_of, job_with, most_of, name_alone, number_rule, reading_of, replay_app, told_of, trace_rule, with_reading, with_sample, with_telling};
 
-use crate::command::Job;
+use crate::command::{Format, Job, Reading, Told};
 use crate::help;
 use clap::{Arg, ArgAction, ArgMatches, Command, Error, value_parser};
 use std::alloc::{AllocError, Global};
@@ -15,7 +15,8 @@ use std::alloc::{AllocError, Global};
 ///
 /// The subcommands are `sim`, `run`, `replay`, `check`, `map` and `lint`. Each has the flag `--sample`, `sim` the option `--trace C` with
 /// the number of a channel, a `u32`, and `check` the flags `--explain` and `--all` and the option `--most N` with a `u32`, which
-/// asks for all faults too. No words, or the name alone, are read as `sim --sample`.
+/// asks for all faults too. `replay` has the flags `--dramsim3` and `--ramulator2`, of which the first goes before the second,
+/// `--spread`, `--wrap` and `--requests`, and `--trace C`, which goes before `--requests`. No words, or the name alone, are read as `sim --sample`.
 ///
 /// Fails with an error of `clap`, whose `Display` is the text for the user, where the words are of another form,
 /// where they ask for help, and where memory runs out.
@@ -49,7 +50,11 @@ fn job_with(name: &str, options: &ArgMatches<'_>) -> Job
             trace: channel_of(options),
         },
         "run" => Job::Run { sample },
-        "replay" => Job::Replay { sample },
+        "replay" => Job::Replay {
+            sample,
+            reading: reading_of(options),
+            told: told_of(options),
+        },
         "check" => check_job(options, sample),
         "map" => Job::Map { sample },
         "lint" => Job::Lint { sample },
@@ -70,6 +75,84 @@ fn check_job(options: &ArgMatches<'_>, sample: bool) -> Job
     } else {
         Job::Check { sample }
     }
+}
+
+/// How the options say that a stream is read.
+fn reading_of(options: &ArgMatches<'_>) -> Reading
+    requires { AreTaken (rows_of (found_of options.now)) }
+    ensures { result ≡ reading_of (rows_of (found_of options.now)) }
+{
+    Reading {
+        format: format_of(options),
+        spread: is_spread(options),
+        wrap: is_wrapped(options),
+    }
+}
+
+/// The format that the flags name, or the program's own.
+fn format_of(options: &ArgMatches<'_>) -> Format
+    requires { AreTaken (rows_of (found_of options.now)) }
+    ensures { result ≡ format_of (rows_of (found_of options.now)) }
+{
+    if is_of_dramsim3(options) {
+        Format::Dramsim3
+    } else if is_of_ramulator2(options) {
+        Format::Ramulator2
+    } else {
+        Format::Own
+    }
+}
+
+/// Whether the flag `--dramsim3` was used.
+fn is_of_dramsim3(options: &ArgMatches<'_>) -> bool
+    requires { AreTaken (rows_of (found_of options.now)) }
+    ensures { result ≡ is_used (codes "dramsim3") (rows_of (found_of options.now)) }
+{
+    options.get_flag("dramsim3")
+}
+
+/// Whether the flag `--ramulator2` was used.
+fn is_of_ramulator2(options: &ArgMatches<'_>) -> bool
+    requires { AreTaken (rows_of (found_of options.now)) }
+    ensures { result ≡ is_used (codes "ramulator2") (rows_of (found_of options.now)) }
+{
+    options.get_flag("ramulator2")
+}
+
+/// Whether the flag `--spread` was used.
+fn is_spread(options: &ArgMatches<'_>) -> bool
+    requires { AreTaken (rows_of (found_of options.now)) }
+    ensures { result ≡ is_used (codes "spread") (rows_of (found_of options.now)) }
+{
+    options.get_flag("spread")
+}
+
+/// What the options ask a replay for.
+fn told_of(options: &ArgMatches<'_>) -> Told
+    requires { AreTaken (rows_of (found_of options.now)) }
+    ensures { result ≡ told_of (rows_of (found_of options.now)) }
+{
+    match channel_of(options) {
+        Some(channel) => Told::Trace { channel },
+        None if is_of_requests(options) => Told::Requests,
+        None => Told::Statistics,
+    }
+}
+
+/// Whether the flag `--wrap` was used.
+fn is_wrapped(options: &ArgMatches<'_>) -> bool
+    requires { AreTaken (rows_of (found_of options.now)) }
+    ensures { result ≡ is_used (codes "wrap") (rows_of (found_of options.now)) }
+{
+    options.get_flag("wrap")
+}
+
+/// Whether the flag `--requests` was used.
+fn is_of_requests(options: &ArgMatches<'_>) -> bool
+    requires { AreTaken (rows_of (found_of options.now)) }
+    ensures { result ≡ is_used (codes "requests") (rows_of (found_of options.now)) }
+{
+    options.get_flag("requests")
 }
 
 /// Whether the flag `--all` was used.
@@ -125,13 +208,7 @@ fn command<'a>(alloc: Global) -> Result<Command<'a>, AllocError>
         "Runs a script with a thread for each port and each channel",
         help::RUN,
     )?;
-    let replay = with_one(
-        alloc,
-        run,
-        "replay",
-        "Replays a stream of requests, and tells its statistics",
-        help::REPLAY,
-    )?;
+    let replay = with_replay(alloc, run)?;
     let check = with_check(alloc, replay)?;
     let map = with_one(alloc, check, "map", "Says where addresses lie", help::MAP)?;
     with_one(
@@ -168,6 +245,46 @@ fn with_sim<'a>(alloc: Global, command: Command<'a>) -> Result<Command<'a>, Allo
     let sim = subcommand(alloc, "sim", "Runs a script of reads and writes", help::SIM)?;
     let about = "Writes the trace of this channel in place of the replies";
     command.subcommand(sim.arg(number_option(alloc, "trace", "CHANNEL", about))?)
+}
+
+/// The command with the subcommand that replays a stream, which has options of its own.
+fn with_replay<'a>(alloc: Global, command: Command<'a>) -> Result<Command<'a>, AllocError>
+    requires local { (settings_of command).has_globals ≡ false }
+    ensures app { IfOk result (λ all. app_of all ≡ with_subcommand (app_of command.entry) replay_app.top) }
+    ensures local { IfOk result (λ all. (settings_of all).has_globals ≡ false) }
+{
+    let about = "Replays a stream of requests, and tells its statistics";
+    let replay = subcommand(alloc, "replay", about, help::REPLAY)?;
+    let reading = with_reading(alloc, replay)?;
+    command.subcommand(with_telling(alloc, reading)?)
+}
+
+/// The command with the options that say how a stream is read.
+fn with_reading<'a>(alloc: Global, command: Command<'a>) -> Result<Command<'a>, AllocError>
+    requires local { (settings_of command).has_globals ≡ false }
+    ensures app { IfOk result (λ all. app_of all ≡ with_reading (app_of command.entry)) }
+    ensures local { IfOk result (λ all. (settings_of all).has_globals ≡ false) }
+{
+    let about = "Reads lines `ADDR READ CYCLE` and `ADDR WRITE CYCLE`, as DRAMSim3 does";
+    let with_dramsim3 = command.arg(flag(alloc, "dramsim3", about))?;
+    let about = "Reads lines `LD ADDR` and `ST ADDR`, as Ramulator 2 does";
+    let with_ramulator2 = with_dramsim3.arg(flag(alloc, "ramulator2", about))?;
+    let about = "Sends requests that name no port round the ports, and not all to port 0";
+    let with_spread = with_ramulator2.arg(flag(alloc, "spread", about))?;
+    let about = "Takes an address modulo the capacity";
+    with_spread.arg(flag(alloc, "wrap", about))
+}
+
+/// The command with the options that say what is told of a replay.
+fn with_telling<'a>(alloc: Global, command: Command<'a>) -> Result<Command<'a>, AllocError>
+    requires local { (settings_of command).has_globals ≡ false }
+    ensures app { IfOk result (λ all. app_of all ≡ with_telling (app_of command.entry)) }
+    ensures local { IfOk result (λ all. (settings_of all).has_globals ≡ false) }
+{
+    let about = "Tells of each request when it was accepted and served, as CSV";
+    let listing = command.arg(flag(alloc, "requests", about))?;
+    let about = "Writes the trace of this channel in place of the statistics";
+    listing.arg(number_option(alloc, "trace", "CHANNEL", about))
 }
 
 /// The command with the subcommand that checks a trace, which has the flags `--explain` and `--all` and the option `--most` too.

@@ -1,6 +1,6 @@
 //! Command lines, and the jobs that they state.
 use clap::error::ErrorKind;
-use ddr_text::command::Job;
+use ddr_text::command::{Format, Job, Reading, Told};
 use ddr_text::job::job;
 use std::alloc::{AllocError, Global};
 use std::process::Abort;
@@ -45,8 +45,6 @@ const JOBS: &[(&str, Job)] = &[
     ("ddr map --sample", Job::Map { sample: true }),
     ("ddr lint", Job::Lint { sample: false }),
     ("ddr lint --sample", Job::Lint { sample: true }),
-    ("ddr replay", Job::Replay { sample: false }),
-    ("ddr replay --sample", Job::Replay { sample: true }),
     // The program may have another name.
     ("/bin/model map", Job::Map { sample: false }),
 ];
@@ -105,7 +103,9 @@ const ERRORS: &[(&str, ErrorKind)] = &[
     ("ddr map --trace=0", ErrorKind::UnknownArgument),
     ("ddr run --trace 1", ErrorKind::UnknownArgument),
     ("ddr lint --trace 1", ErrorKind::UnknownArgument),
-    ("ddr replay --trace 1", ErrorKind::UnknownArgument),
+    ("ddr replay --most 1", ErrorKind::UnknownArgument),
+    ("ddr sim --wrap", ErrorKind::UnknownArgument),
+    ("ddr check --requests", ErrorKind::UnknownArgument),
     ("ddr trace", ErrorKind::InvalidSubcommand),
     ("ddr SIM", ErrorKind::InvalidSubcommand),
     ("ddr ", ErrorKind::InvalidSubcommand),
@@ -114,6 +114,7 @@ const ERRORS: &[(&str, ErrorKind)] = &[
     ("ddr sim --trace=-1", ErrorKind::ValueValidation),
     ("ddr sim --trace=4294967296", ErrorKind::ValueValidation),
     ("ddr sim --trace", ErrorKind::InvalidValue),
+    ("ddr replay --trace x", ErrorKind::ValueValidation),
     ("ddr check --most x", ErrorKind::ValueValidation),
     ("ddr check --all --most", ErrorKind::InvalidValue),
     ("ddr sim --all", ErrorKind::UnknownArgument),
@@ -124,6 +125,78 @@ const ERRORS: &[(&str, ErrorKind)] = &[
     ("ddr -h", ErrorKind::DisplayHelp),
     ("ddr sim --help", ErrorKind::DisplayHelp),
 ];
+
+const OWN: Reading = Reading {
+    format: Format::Own,
+    spread: false,
+    wrap: false,
+};
+
+/// Words behind `ddr replay`, how they say that a stream is read, and what they ask for. `--dramsim3` goes before `--ramulator2`, and
+/// `--trace` before `--requests`.
+const REPLAYS: &[(&str, Reading, Told)] = &[
+    ("--sample", OWN, Told::Statistics),
+    (
+        "--sample --dramsim3",
+        Reading {
+            format: Format::Dramsim3,
+            ..OWN
+        },
+        Told::Statistics,
+    ),
+    (
+        "--ramulator2 --sample --spread",
+        Reading {
+            format: Format::Ramulator2,
+            spread: true,
+            wrap: false,
+        },
+        Told::Statistics,
+    ),
+    (
+        "--ramulator2 --dramsim3 --wrap --sample --requests",
+        Reading {
+            format: Format::Dramsim3,
+            spread: false,
+            wrap: true,
+        },
+        Told::Requests,
+    ),
+    (
+        "--trace 3 --sample --requests",
+        OWN,
+        Told::Trace { channel: 3 },
+    ),
+    (
+        "--sample --spread --wrap --trace=0",
+        Reading {
+            format: Format::Own,
+            spread: true,
+            wrap: true,
+        },
+        Told::Trace { channel: 0 },
+    ),
+];
+
+#[test]
+fn replays(rt: HostRuntime) -> Result<(), Fail> {
+    let alloc = rt.alloc();
+    for (words, reading, told) in REPLAYS {
+        let wanted = Job::Replay {
+            sample: true,
+            reading: *reading,
+            told: *told,
+        };
+        let line = format!(in alloc; "ddr replay {words}")?;
+        states(&rt, alloc, line.as_str(), wanted)?;
+    }
+    let plain = Job::Replay {
+        sample: false,
+        reading: OWN,
+        told: Told::Statistics,
+    };
+    states(&rt, alloc, "ddr replay", plain)
+}
 
 /// Words behind `ddr check`, and how many faults they ask for. Beside `--all` `--explain` adds nothing, and `--most` asks for it.
 const ALL_FAULTS: &[(&str, Option<u32>)] = &[

@@ -7,8 +7,8 @@ use Rattle.ddr_world.specs.Kept.{state_of}
 use Rattle.ddr_world.specs.State.{State}
 use Rattle.ddr_world.specs.Step.{Step, step}
 use Rattle.ddr_sim.specs.Rounds.{outstanding}
-use Rattle.ddr_replay.specs.declared.ask.Ask.{Ask}
-use Rattle.ddr_replay.specs.Asks.{asked_by}
+use Rattle.ddr_stream.specs.declared.ask.Ask.{Ask}
+use Rattle.ddr_stream.specs.Asks.{asked_by}
 use Rattle.ddr_replay.specs.Ledgers.{Ledger}
 use Rattle.ddr_replay.specs.Runs.{Submitted, submitted}
 use Rattle.ddr_replay.specs.Waits.{IsFull}

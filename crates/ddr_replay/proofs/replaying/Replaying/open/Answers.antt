@@ -5,7 +5,7 @@ use Rattle.ddr_world.specs.Kept.{state_of}
 use Rattle.ddr_world.specs.State.{State}
 use Rattle.ddr_sim.specs.Rounds.{outstanding}
 use Rattle.ddr_sim.proofs.StepCounts.{none_opened}
-use Rattle.ddr_replay.specs.Stream.{Queues}
+use Rattle.ddr_stream.specs.Stream.{Queues}
 use Rattle.ddr_replay.proofs.replaying.Replaying.open.Goals as goal
 
 pub invariant_of-result : goal.invariant_of-result

@@ -22,7 +22,7 @@ returns-clause-released c =
     let answered = front_answered old.world c.make.new.self.world p c.make.result (said c.in-Some.reply) front c.make.ensures.answer in
     let same = subst (λ (s : Replay). IsSame old s) (sym c.self-2.view_is) c.make.ensures.same in
     let is = subst (λ (s : Replay). step (state_of old.world) (Release p) ≡ made (state_of s.world) answered.0) (sym c.self-2.view_is) answered.1 in
-    (v, service, front_taken p old mid v answered.0 _ same is c.release.ensures)
+    (v, service, front_taken p old mid v answered.0 _ same is c.in_ok-release.ensures)
 
 pub returns-clause-fewer : goal.returns-clause-fewer
 returns-clause-fewer c = λ _.

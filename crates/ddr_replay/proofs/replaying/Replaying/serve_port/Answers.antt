@@ -10,28 +10,29 @@ replies-preserved c =
     let now = run_of c.replies.self in
     let next = run_of c.release_front.new.self in
     let kept = c.replies.invariant in
-    let released = c.release_front.ensures in
-    let there = subst (IsFrontReleased c.args.port now next) c.replies-test.true released.released in
+    let released = c.in_ok-release_front.ensures in
+    let there = subst (IsFrontReleased c.args.port now next) c.if-branch.true released.released in
     record {
-      run = released_more c.args.port now next there.0 there.1 there.2 (released.fewer c.replies-test.true) ∙ kept.run;
-      config = released.config ∙ kept.config;
-      round = released.round ∙ kept.round;
+      run = released_more c.args.port now next there.0 there.1 there.2 (released.fewer c.if-branch.true) ∙ kept.run;
+      config = c.release_front.ensures.config ∙ kept.config;
+      round = c.release_front.ensures.round ∙ kept.round;
     }
 
 pub replies-smaller : goal.replies-smaller
-replies-smaller c = omega (arith, c.release_front.ensures.fewer c.replies-test.true)
+replies-smaller c = omega (arith, c.in_ok-release_front.ensures.fewer c.if-branch.true)
 
-pub returns : goal.returns
-returns c =
+pub returns-clause-run : goal.returns-clause-run
+returns-clause-run c =
     let start = run_of c.args.self.now in
     let now = run_of c.replies.self in
     let kept = c.replies.invariant in
     let repeat = c.repeat.ensures in
-    let released = c.release_front.ensures in
-    let none = subst (IsFrontReleased c.args.port now (run_of c.release_front.new.self)) c.replies-test.false released.released in
+    let none = subst (IsFrontReleased c.args.port now (run_of c.release_front.new.self)) c.if-branch.false c.in_ok-release_front.ensures.released in
     let collected = same_run c.args.self.now c.repeat.new.self repeat.same ∙ ap (λ (s : State). record start { state = s }) repeat.state in
-    record {
-      run = none.1 ∙ port_led c.args.port start (run_of c.repeat.new.self) now collected kept.run none.0;
-      config = released.config ∙ kept.config ∙ repeat.same.config;
-      round = released.round ∙ kept.round ∙ repeat.same.round;
-    }
+    none.1 ∙ port_led c.args.port start (run_of c.repeat.new.self) now collected kept.run none.0
+
+pub returns-clause-config : goal.returns-clause-config
+returns-clause-config c = c.release_front.ensures.config ∙ c.replies.invariant.config ∙ c.repeat.ensures.same.config
+
+pub returns-clause-round : goal.returns-clause-round
+returns-clause-round c = c.release_front.ensures.round ∙ c.replies.invariant.round ∙ c.repeat.ensures.same.round

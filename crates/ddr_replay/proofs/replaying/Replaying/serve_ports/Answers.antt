@@ -10,7 +10,7 @@ loop-port-preserved c =
     let serve = c.serve_port.ensures in
     let p = c.loop-port.port in
     record {
-      run = serve.run ∙ ap (port_served p) kept.run ∙ sym (ap (λ n. ports_served n (run_of c.args.self.now)) (add-one p));
+      run = c.in_ok-serve_port.ensures.run ∙ ap (port_served p) kept.run ∙ sym (ap (λ n. ports_served n (run_of c.args.self.now)) (add-one p));
       config = serve.config ∙ kept.config;
       round = serve.round ∙ kept.round;
     }

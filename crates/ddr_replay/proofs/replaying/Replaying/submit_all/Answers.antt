@@ -2,7 +2,7 @@
 use Rattle.std.proofs.Common.{◌≡◌, ◌≢◌, ◌<◌, ◌≤◌, ◌+◌, ℕ, suc, ap, add-one, below_more, arith, sym, subst, ◌∙◌}
 use Rattle.ddr_world.specs.Kept.{state_of}
 use Rattle.ddr_replay.specs.Runs.{Run, port_submitted, ports_submitted}
-use Rattle.ddr_replay.specs.Stream.{queue_at}
+use Rattle.ddr_stream.specs.Stream.{queue_at}
 use Rattle.ddr_replay.specs.View.{run_of}
 use Rattle.ddr_replay.specs.Waits.{IsWaitingIn}
 use Rattle.ddr_replay.proofs.WaitLemmas.{waits_beside, waits_less}

@@ -1,0 +1,19 @@
+-- One channel more.
+use Rattle.std.proofs.Common.{[], ◌∷◌, ◌++◌, List, Option, ap₂, sym, arith, ◌∙◌}
+use Rattle.std.proofs.lemmas.List.FromFn.{map-range_with_len_more}
+use Rattle.ddr_statistics.specs.declared.counts.Finding.{Finding}
+use Rattle.ddr_world.specs.Kept.{state_of}
+use Rattle.ddr_replay.specs.Found.{findings_at}
+use Rattle.ddr_replay.specs.Numbers.{is_spent}
+use Rattle.ddr_replay.proofs.NumberLemmas.{none_at}
+use Rattle.ddr_replay.proofs.found.findings_of.Goals as goal
+
+pub findings_at-requires : goal.findings_at-requires
+findings_at-requires c = none_at (is_spent (state_of c.args.world.now)) c.args.channels c.loop-channel.channel c.loop-channel-test.true c.requires
+
+pub loop-channel-preserved : goal.loop-channel-preserved
+loop-channel-preserved c =
+    let n = c.loop-channel.channel in
+    c.in_ok-push.ensures.items
+    ∙ ap₂ (λ (xs : List (List (Option Finding))) (x : List (Option Finding)). xs ++ x ∷ []) c.loop-channel.invariant c.in_ok-findings_at.ensures
+    ∙ sym (map-range_with_len_more (findings_at (state_of c.args.world.now)) 0 n n (omega arith))

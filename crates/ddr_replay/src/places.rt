@@ -1,0 +1,146 @@
+//! The numbers of each rank and of each bank, as text.
+//!
+//! `numbers` and `ddr_statistics` stand below, and `telling` above. `specs/Places.antt` has the text, byte for byte.
+ghost use Rattle.std.specs.Prelude.{◌≡◌, ◌≢◌, false, IfOk, string_bytes};
+ghost use Rattle.ddr_timing.specs.declared.units.TheConstants.{CLOCK_STOP};
+ghost use Rattle.ddr_world.specs.Kept.{state_of};
+ghost use Rattle.ddr_replay.specs.Numbers.{is_any_spent, is_spent};
+ghost use Rattle.ddr_replay.specs.Places.{bank_head, bank_table, bank_title, banks_tables, channel_places, places_at, places_tables, rank_table, rank_title, ranks_tables};
+
+use crate::numbers::statistics_in;
+use ddr_channel::channel::Channel;
+use ddr_statistics::counts::Counts;
+use ddr_statistics::text::{counts_text, is_unused};
+use ddr_timing::bank::BankId;
+use ddr_timing::units::GROUP_BANKS;
+use ddr_world::world::World;
+use std::alloc::{AllocError, Global};
+
+/// A table `channel.C.rank.R` of each rank of each channel, and behind those of a channel a table `channel.C.bank.R.G.B` of each
+/// bank that had a command of its own.
+#[tactic(auto, unfolding(crate::specs::Places::places_tables))]
+pub fn places_tables(alloc: Global, world: &World, channels: u32) -> Result<String, AllocError>
+    requires { is_any_spent (state_of world.now) channels ≡ false }
+    ensures { IfOk result (λ text. string_bytes text ≡ places_tables (state_of world.now) channels) }
+{
+    let mut text = String::new(alloc);
+    for channel in 0..channels {
+        let tables = places_at(alloc, world, channel)?;
+        text.push_str(tables.as_str())?;
+    }
+    Ok(text)
+}
+
+/// The tables of the channel of that number.
+fn places_at(alloc: Global, world: &World, number: u32) -> Result<String, AllocError>
+    requires { is_spent (state_of world.now) number ≡ false }
+    ensures { IfOk result (λ text. string_bytes text ≡ places_at (state_of world.now) number) }
+{
+    match world.channel(number) {
+        Some(channel) => channel_places(alloc, number, channel),
+        None => Ok(String::new(alloc)),
+    }
+}
+
+/// The tables of a channel's ranks and banks.
+#[tactic(auto, unfolding(crate::specs::Places::channel_places))]
+fn channel_places(alloc: Global, number: u32, channel: &Channel) -> Result<String, AllocError>
+    requires { channel.now.now ≢ CLOCK_STOP }
+    ensures { IfOk result (λ text. string_bytes text ≡ channel_places channel.now.config.geometry number channel.now.trace) }
+{
+    let mut text = ranks_tables(alloc, number, channel)?;
+    let banks = banks_tables(alloc, number, channel)?;
+    text.push_str(banks.as_str())?;
+    Ok(text)
+}
+
+/// The tables of a channel's ranks.
+#[tactic(auto, unfolding(crate::specs::Places::ranks_tables))]
+fn ranks_tables(alloc: Global, number: u32, channel: &Channel) -> Result<String, AllocError>
+    requires { channel.now.now ≢ CLOCK_STOP }
+    ensures { IfOk result (λ text. string_bytes text ≡ ranks_tables channel.now.config.geometry number channel.now.trace) }
+{
+    let statistics = statistics_in(channel);
+    let mut text = String::new(alloc);
+    for rank in 0..statistics.geometry().ranks {
+        let table = rank_table(alloc, number, rank, &statistics.rank(rank))?;
+        text.push_str(table.as_str())?;
+    }
+    Ok(text)
+}
+
+/// The table of a rank of these numbers, behind an empty line.
+#[tactic(auto, unfolding(crate::specs::Places::rank_table))]
+fn rank_table(alloc: Global, channel: u32, rank: u32, counts: &Counts) -> Result<String, AllocError>
+    ensures { IfOk result (λ text. string_bytes text ≡ rank_table channel rank counts.now) }
+{
+    let mut text = rank_title(alloc, channel, rank)?;
+    let lines = counts_text(alloc, counts)?;
+    text.push_str(lines.as_str())?;
+    Ok(text)
+}
+
+#[tactic(auto, unfolding(crate::specs::Places::rank_title))]
+fn rank_title(alloc: Global, channel: u32, rank: u32) -> Result<String, AllocError>
+    ensures { IfOk result (λ text. string_bytes text ≡ rank_title channel rank) }
+{
+    format!(in alloc; "\n[channel.{channel}.rank.{rank}]\n")
+}
+
+/// The tables of a channel's banks that had a command.
+#[tactic(auto, unfolding(crate::specs::Places::banks_tables))]
+fn banks_tables(alloc: Global, number: u32, channel: &Channel) -> Result<String, AllocError>
+    requires { channel.now.now ≢ CLOCK_STOP }
+    ensures { IfOk result (λ text. string_bytes text ≡ banks_tables channel.now.config.geometry number channel.now.trace) }
+{
+    let statistics = statistics_in(channel);
+    let rank_banks = statistics.geometry().groups * GROUP_BANKS;
+    let mut text = String::new(alloc);
+    for place in 0..statistics.geometry().ranks * rank_banks {
+        let id = BankId {
+            rank: place / rank_banks,
+            group: place % rank_banks / GROUP_BANKS,
+            bank: place % GROUP_BANKS,
+        };
+        let table = bank_table(alloc, number, &id, &statistics.bank(&id))?;
+        text.push_str(table.as_str())?;
+    }
+    Ok(text)
+}
+
+/// The table of a bank of these numbers, behind an empty line; nothing where it had no command.
+#[tactic(auto, unfolding(crate::specs::Places::bank_table))]
+fn bank_table(
+    alloc: Global,
+    channel: u32,
+    id: &BankId,
+    counts: &Counts,
+) -> Result<String, AllocError>
+    ensures { IfOk result (λ text. string_bytes text ≡ bank_table channel id.now.rank id.now.group id.now.bank counts.now) }
+{
+    if is_unused(counts) {
+        return Ok(String::new(alloc));
+    }
+    let title = bank_title(alloc, id)?;
+    let mut text = bank_head(alloc, channel, title.as_str())?;
+    let lines = counts_text(alloc, counts)?;
+    text.push_str(lines.as_str())?;
+    Ok(text)
+}
+
+#[tactic(auto, unfolding(crate::specs::Places::bank_title))]
+fn bank_title(alloc: Global, id: &BankId) -> Result<String, AllocError>
+    ensures { IfOk result (λ text. string_bytes text ≡ bank_title id.now.rank id.now.group id.now.bank) }
+{
+    let rank = id.rank;
+    let group = id.group;
+    let bank = id.bank;
+    format!(in alloc; "{rank}.{group}.{bank}")
+}
+
+#[tactic(auto, unfolding(crate::specs::Places::bank_head))]
+fn bank_head(alloc: Global, channel: u32, title: &str) -> Result<String, AllocError>
+    ensures { IfOk result (λ text. string_bytes text ≡ bank_head channel title.now) }
+{
+    format!(in alloc; "\n[channel.{channel}.bank.{title}]\n")
+}

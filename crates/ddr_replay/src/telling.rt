@@ -1,0 +1,93 @@
+//! What is told of a replay that has come to its end.
+//!
+//! `replaying`, `report`, `places`, `served` and `found` stand below, and `replay` above.
+ghost use Rattle.std.specs.Prelude.{◌≡◌, IfErr, IfOk};
+ghost use Rattle.ddr_sim.specs.Runs.{channel_text};
+ghost use Rattle.ddr_world.specs.Kept.{state_of};
+ghost use Rattle.ddr_replay.specs.Replays.{IsSaid, listed, reported, told_of};
+ghost use Rattle.ddr_replay.specs.View.{run_of};
+
+use crate::found::findings_of;
+use crate::numbers::{Requests, is_any_spent, numbers_of};
+use crate::places::places_tables;
+use crate::replaying::Replaying;
+use crate::report::report_lines;
+use crate::served::served_text;
+use ddr_address_map::map::Map;
+use ddr_sim::trace::text_of;
+use ddr_text::command::Told;
+use ddr_text::fault::Fault;
+use ddr_timing::config::Config;
+use ddr_world::world::World;
+use std::alloc::Global;
+
+/// What is to be told of a replay of these requests.
+pub fn told_of(
+    alloc: Global,
+    config: &Config,
+    told: Told,
+    requests: &[Requests],
+    replaying: &Replaying,
+) -> Result<Vec<u8>, Fault>
+    ensures { IsSaid (λ v. v.items) result (told_of config.now told requests.now (run_of replaying.now)) }
+{
+    match told {
+        Told::Statistics => reported(alloc, config, requests, replaying),
+        Told::Requests => listed(alloc, config, replaying),
+        Told::Trace { channel } => channel_text(alloc, replaying.world(), channel),
+    }
+}
+
+/// The requests. Fails as `ClockSpent` where a channel's clock has come to its end.
+fn listed(alloc: Global, config: &Config, replaying: &Replaying) -> Result<Vec<u8>, Fault>
+    ensures { IsSaid (λ v. v.items) result (listed config.now (run_of replaying.now)) }
+{
+    let world = replaying.world();
+    let channels = config.geometry.channels;
+    if is_any_spent(world, channels) {
+        return Err(Fault::ClockSpent);
+    }
+    let findings = findings_of(alloc, world, channels)?;
+    let map = Map::new(config);
+    let text = served_text(
+        alloc,
+        &map,
+        findings.as_slice(),
+        replaying.ledger().served(),
+    )?;
+    Ok(text.into_bytes())
+}
+
+/// The statistics. Fails as `ClockSpent` where a channel's clock has come to its end.
+fn reported(
+    alloc: Global,
+    config: &Config,
+    requests: &[Requests],
+    replaying: &Replaying,
+) -> Result<Vec<u8>, Fault>
+    ensures { IsSaid (λ v. v.items) result (reported config.now requests.now (run_of replaying.now)) }
+{
+    let numbers = numbers_of(alloc, replaying.world(), config.geometry.channels)?;
+    let mut report = report_lines(
+        alloc,
+        config,
+        requests,
+        numbers.as_slice(),
+        replaying.ledger(),
+        replaying.round(),
+    )?;
+    let places = places_tables(alloc, replaying.world(), config.geometry.channels)?;
+    report.push_str(places.as_str())?;
+    Ok(report.into_bytes())
+}
+
+/// The trace of a channel as a text, empty where there is no such channel.
+fn channel_text(alloc: Global, world: &World, channel: u32) -> Result<Vec<u8>, Fault>
+    ensures text { IfOk result (λ v. v.items ≡ channel_text (state_of world.now) channel) }
+    ensures refused { IfErr result (λ fault. fault ≡ Fault.OutOfMemory) }
+{
+    match world.channel(channel) {
+        Some(channel) => text_of(alloc, channel),
+        None => Ok(Vec::new(alloc)),
+    }
+}
