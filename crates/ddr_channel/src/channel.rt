@@ -422,6 +422,13 @@ impl Channel {
         self.legality.now()
     }
 
+    /// Whether writes were drained in the cycle before.
+    pub fn is_draining(&self) -> bool
+        ensures { result ≡ self.entry.now.drain }
+    {
+        self.drain
+    }
+
     /// The commands so far. The open rows of the row array are those that they leave for reads and writes.
     pub fn trace(&self) -> &[Entry]
         ensures value { result.now ≡ self.entry.now.trace }

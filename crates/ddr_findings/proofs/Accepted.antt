@@ -13,7 +13,7 @@ use Rattle.ddr_timing.specs.Keys.{has_key, keys}
 use Rattle.ddr_timing.specs.Refusals.{broken_relation, first_of, has_other, has_unknown, is_key, is_missing, is_no_power, is_out_of_range, not_power_of_two, out_of_range, refusal_of, relations, table_refusal}
 use Rattle.ddr_timing.specs.Tables.{keys_of, number_of, value_of, version_of}
 use Rattle.ddr_timing.proofs.Ranges.{passes}
-use Rattle.ddr_findings.specs.declared.fault.Fault.{Fault}
+use Rattle.ddr_findings.specs.declared.fault.ConfigFault.{ConfigFault}
 use Rattle.ddr_findings.specs.declared.relation.Relation.{Relation}
 use Rattle.ddr_findings.specs.declared.takes.Takes.{Takes}
 use Rattle.ddr_findings.specs.Faults.{Told, faults_of, key_fault, missing, name_fault, names_of, no_power, range, related, told}
@@ -253,7 +253,7 @@ map_nil f [] e = refl
 map_nil f (x ∷ xs) e = absurd (cc)
 
 -- what is told of a table is nothing exactly where nothing refuses the table
-pub accepted : (parsed : Option Members) (table : Members) (faults : List Fault) → parsed ≡ Some table → map told faults ≡ faults_of (Some table) → (faults ≡ [] → refusal_of parsed ≡ None) × (refusal_of parsed ≡ None → faults ≡ [])
+pub accepted : (parsed : Option Members) (table : Members) (faults : List ConfigFault) → parsed ≡ Some table → map told faults ≡ faults_of (Some table) → (faults ≡ [] → refusal_of parsed ≡ None) × (refusal_of parsed ≡ None → faults ≡ [])
 accepted parsed table faults is said = (
   λ none. rw is (accepted_table table (sym said ∙ ap (map told) none)),
   λ none. map_nil told faults (said ∙ table_accepted table (rw is at none)),

@@ -7,8 +7,8 @@ use Rattle.ddr_timing.specs.declared.key.Key.{Key}
 use Rattle.ddr_timing.specs.Keys.{keys}
 use Rattle.ddr_timing.specs.Refusals.{is_key, is_no_power, is_out_of_range}
 use Rattle.ddr_timing.specs.Tables.{keys_of, number_of, value_of, version_of}
-use Rattle.ddr_findings.specs.declared.fault.Fault.{Fault}
-use Rattle.ddr_findings.specs.declared.fault.Fault.TheVariants as faults
+use Rattle.ddr_findings.specs.declared.fault.ConfigFault.{ConfigFault}
+use Rattle.ddr_findings.specs.declared.fault.ConfigFault.TheVariants as faults
 use Rattle.ddr_findings.specs.declared.relation.Relation.{Relation}
 use Rattle.ddr_findings.specs.declared.takes.Takes.{Takes}
 use Rattle.ddr_findings.specs.Nearest.{nearest}
@@ -34,7 +34,7 @@ pub data Told : Type 0 where
   related : Relation → Told
 
 -- what a fault tells
-abbrev pub told : Fault → Told
+abbrev pub told : ConfigFault → Told
 told faults.Syntax = syntax
 told (faults.Missing key) = missing key
 told (faults.Range key given takes) = range key (string_bytes given) takes

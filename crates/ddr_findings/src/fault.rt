@@ -7,7 +7,7 @@ use ddr_timing::key::Key;
 
 /// One thing that speaks against a configuration's text.
 #[derive(Debug, Drop)]
-pub enum Fault {
+pub enum ConfigFault {
     /// The text is no TOML document. No other fault is told beside it.
     Syntax,
     /// The key is not there.

@@ -9,7 +9,7 @@ ghost use Rattle.ddr_timing.specs.Tables.{keys_of, number_of};
 ghost use Rattle.ddr_findings.specs.Faults.{faults_of, key_fault, name_fault, names_of, related, told, value_fault};
 ghost use Rattle.ddr_findings.specs.Relations.{told_relations};
 
-use crate::fault::Fault;
+use crate::fault::ConfigFault;
 use crate::nearest::nearest;
 use crate::relation::Relation;
 use crate::relations::relations;
@@ -22,7 +22,7 @@ use toml::{Table, Value};
 
 /// The faults of the table: of its keys, in their order, of the names that are none, in theirs, and the broken relations.
 #[tactic(auto, unfolding(crate::specs::Faults::faults_of))]
-pub(crate) fn faults(alloc: Global, table: &Table) -> Result<Vec<Fault>, AllocError>
+pub(crate) fn faults(alloc: Global, table: &Table) -> Result<Vec<ConfigFault>, AllocError>
     ensures { IfOk result (λ faults. map told faults.items ≡ faults_of (Some (table_view table.now))) }
 {
     let mut faults = Vec::new(alloc);
@@ -33,7 +33,7 @@ pub(crate) fn faults(alloc: Global, table: &Table) -> Result<Vec<Fault>, AllocEr
 }
 
 /// Adds a fault, where there is one.
-fn add(faults: &mut Vec<Fault>, found: Option<Fault>) -> Result<(), AllocError>
+fn add(faults: &mut Vec<ConfigFault>, found: Option<ConfigFault>) -> Result<(), AllocError>
     ensures { OnOk result (map told faults.new.items ≡ map told faults.old.items ++ option_to_list (option_map told found)) }
 {
     if let Some(fault) = found {
@@ -42,7 +42,11 @@ fn add(faults: &mut Vec<Fault>, found: Option<Fault>) -> Result<(), AllocError>
     Ok(())
 }
 
-fn add_key_faults(alloc: Global, table: &Table, faults: &mut Vec<Fault>) -> Result<(), AllocError>
+fn add_key_faults(
+    alloc: Global,
+    table: &Table,
+    faults: &mut Vec<ConfigFault>,
+) -> Result<(), AllocError>
     ensures { OnOk result (map told faults.new.items ≡ map told faults.old.items ++ filter_map (key_fault (table_view table.now)) (keys_of (table_view table.now))) }
 {
     for key in keys(table) {
@@ -54,11 +58,11 @@ fn add_key_faults(alloc: Global, table: &Table, faults: &mut Vec<Fault>) -> Resu
 
 /// What speaks against the table at a key that it is to have.
 #[tactic(auto, unfolding(crate::specs::Faults::key_fault))]
-fn key_fault(alloc: Global, table: &Table, key: Key) -> Result<Option<Fault>, AllocError>
+fn key_fault(alloc: Global, table: &Table, key: Key) -> Result<Option<ConfigFault>, AllocError>
     ensures { IfOk result (λ found. option_map told found ≡ key_fault (table_view table.now) key) }
 {
     match value_at(table, key) {
-        None => Ok(Some(Fault::Missing { key })),
+        None => Ok(Some(ConfigFault::Missing { key })),
         Some(value) => value_fault(alloc, table, key, value),
     }
 }
@@ -69,16 +73,16 @@ fn value_fault(
     table: &Table,
     key: Key,
     value: &Value,
-) -> Result<Option<Fault>, AllocError>
+) -> Result<Option<ConfigFault>, AllocError>
     ensures { IfOk result (λ found. option_map told found ≡ value_fault (table_view table.now) key (view value.now)) }
 {
     if is_out_of_range(table, key) {
         let given = shown(alloc, value)?;
         let takes = Takes::of(version(table), key);
-        return Ok(Some(Fault::Range { key, given, takes }));
+        return Ok(Some(ConfigFault::Range { key, given, takes }));
     }
     match no_power(table, key) {
-        Some(given) => Ok(Some(Fault::NotPowerOfTwo { key, given })),
+        Some(given) => Ok(Some(ConfigFault::NotPowerOfTwo { key, given })),
         None => Ok(None),
     }
 }
@@ -94,7 +98,11 @@ fn no_power(table: &Table, key: Key) -> Option<u32>
     }
 }
 
-fn add_name_faults(alloc: Global, table: &Table, faults: &mut Vec<Fault>) -> Result<(), AllocError>
+fn add_name_faults(
+    alloc: Global,
+    table: &Table,
+    faults: &mut Vec<ConfigFault>,
+) -> Result<(), AllocError>
     ensures { OnOk result (map told faults.new.items ≡ map told faults.old.items ++ filter_map (name_fault (table_view table.now)) (names_of (table_view table.now))) }
 {
     for name in table.keys() {
@@ -106,7 +114,7 @@ fn add_name_faults(alloc: Global, table: &Table, faults: &mut Vec<Fault>) -> Res
 
 /// What speaks against a name of the table.
 #[tactic(auto, unfolding(crate::specs::Faults::name_fault))]
-fn name_fault(alloc: Global, table: &Table, name: &str) -> Result<Option<Fault>, AllocError>
+fn name_fault(alloc: Global, table: &Table, name: &str) -> Result<Option<ConfigFault>, AllocError>
     ensures { IfOk result (λ found. option_map told found ≡ name_fault (table_view table.now) name.now) }
 {
     let keys = keys(table);
@@ -115,16 +123,16 @@ fn name_fault(alloc: Global, table: &Table, name: &str) -> Result<Option<Fault>,
     }
     let text = String::from_str(alloc, name)?;
     if is_key(Key::all(2), name) {
-        return Ok(Some(Fault::Later { name: text }));
+        return Ok(Some(ConfigFault::Later { name: text }));
     }
     let nearest = nearest(alloc, keys, name)?;
-    Ok(Some(Fault::Unknown {
+    Ok(Some(ConfigFault::Unknown {
         name: text,
         nearest,
     }))
 }
 
-fn add_relations(table: &Table, faults: &mut Vec<Fault>) -> Result<(), AllocError>
+fn add_relations(table: &Table, faults: &mut Vec<ConfigFault>) -> Result<(), AllocError>
     ensures { OnOk result (map told faults.new.items ≡ map told faults.old.items ++ filter_map (option_map related) (told_relations (table_view table.now))) }
 {
     let relations = relations(table);
@@ -135,11 +143,11 @@ fn add_relations(table: &Table, faults: &mut Vec<Fault>) -> Result<(), AllocErro
 }
 
 /// A broken relation as a fault.
-fn related(found: Option<Relation>) -> Option<Fault>
+fn related(found: Option<Relation>) -> Option<ConfigFault>
     ensures { option_map told result ≡ option_map related found }
 {
     match found {
-        Some(relation) => Some(Fault::Related { relation }),
+        Some(relation) => Some(ConfigFault::Related { relation }),
         None => None,
     }
 }

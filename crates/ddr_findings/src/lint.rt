@@ -7,7 +7,7 @@ ghost use Rattle.ddr_timing.specs.Refusals.{refusal_of};
 ghost use Rattle.ddr_findings.specs.Faults.{faults_of, told};
 ghost use Rattle.ddr_findings.specs.Warnings.{warnings_of};
 
-use crate::fault::Fault;
+use crate::fault::ConfigFault;
 use crate::faults::faults;
 use crate::warning::Warning;
 use crate::warnings::warnings;
@@ -17,7 +17,7 @@ use std::alloc::{AllocError, Global};
 #[derive(Debug, Drop)]
 pub struct Findings {
     /// All that speaks against it. `Config::read` accepts the text exactly where there is none.
-    pub faults: Vec<Fault>,
+    pub faults: Vec<ConfigFault>,
     /// What is strange about its values, also beside faults: each value is looked at for itself.
     pub warnings: Vec<Warning>,
 }
@@ -50,7 +50,7 @@ fn unread(alloc: Global) -> Result<Findings, AllocError>
     ensures warnings { IfOk result (λ findings. findings.warnings.items ≡ warnings_of None) }
 {
     let mut faults = Vec::new(alloc);
-    faults.push(Fault::Syntax)?;
+    faults.push(ConfigFault::Syntax)?;
     Ok(Findings {
         faults,
         warnings: Vec::new(alloc),

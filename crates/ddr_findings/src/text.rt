@@ -5,7 +5,7 @@ ghost use Rattle.std.specs.Prelude.{◌≡◌, ◌≤◌, IfOk, map, string_byte
 ghost use Rattle.ddr_findings.specs.Faults.{told};
 ghost use Rattle.ddr_findings.specs.Texts.{closing_text, fault_text, findings_text, refresh_text, relation_text, takes_text, warning_text};
 
-use crate::fault::Fault;
+use crate::fault::ConfigFault;
 use crate::lint::Findings;
 use crate::relation::{RefreshClocks, Relation};
 use crate::shown::plain;
@@ -33,34 +33,37 @@ pub fn findings_text(alloc: Global, findings: &Findings) -> Result<String, Alloc
 
 /// The line of a fault, with its line feed.
 #[tactic(auto, unfolding(crate::specs::Texts::fault_text))]
-pub fn fault_text(alloc: Global, fault: &Fault) -> Result<String, AllocError>
+pub fn fault_text(alloc: Global, fault: &ConfigFault) -> Result<String, AllocError>
     ensures { IfOk result (λ text. string_bytes text ≡ fault_text (told fault.now)) }
 {
     match fault {
-        Fault::Syntax => String::from_str(alloc, "syntax: the configuration is no TOML text\n"),
-        Fault::Missing { key } => {
+        ConfigFault::Syntax => String::from_str(
+            alloc,
+            "syntax: the configuration is no TOML text\n",
+        ),
+        ConfigFault::Missing { key } => {
             let name = key.name();
             format!(in alloc; "missing: there is no key {name}\n")
         }
-        Fault::Range { key, given, takes } => {
+        ConfigFault::Range { key, given, takes } => {
             let name = key.name();
             let takes = takes_text(alloc, *takes)?;
             format!(in alloc; "range: {name} = {given} {takes}\n")
         }
-        Fault::NotPowerOfTwo { key, given } => {
+        ConfigFault::NotPowerOfTwo { key, given } => {
             let name = key.name();
             format!(in alloc; "power of two: {name} = {given} is none\n")
         }
-        Fault::Unknown { name, nearest } => {
+        ConfigFault::Unknown { name, nearest } => {
             let name = plain(alloc, name.as_str())?;
             let nearest = nearest.name();
             format!(in alloc; "unknown key: {name}, the nearest known one is {nearest}\n")
         }
-        Fault::Later { name } => {
+        ConfigFault::Later { name } => {
             let name = plain(alloc, name.as_str())?;
             format!(in alloc; "unknown key: {name}, which version 2 alone has\n")
         }
-        Fault::Related { relation } => relation_text(alloc, *relation),
+        ConfigFault::Related { relation } => relation_text(alloc, *relation),
     }
 }
 

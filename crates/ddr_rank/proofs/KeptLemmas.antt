@@ -9,20 +9,20 @@ use Rattle.ddr_trace.specs.Commands.{bank_of, group_of, is_activate, is_other_ba
 use Rattle.ddr_trace.specs.Rules.{is_in}
 use Rattle.ddr_rank.proofs.LatestLemmas.{any_below, any_below-none, any_below-one, any_below-some, latest-alike, latest-none, latest_among-latest}
 use Rattle.ddr_rank.proofs.PlaceLemmas.{bank_in, group_in, same_number}
-use Rattle.ddr_rank.specs.declared.last.Kind.{Kind}
-use Rattle.ddr_rank.specs.declared.last.Kind.TheVariants.{Activate, Read, Write}
+use Rattle.ddr_rank.specs.declared.last.LastKind.{LastKind}
+use Rattle.ddr_rank.specs.declared.last.LastKind.TheVariants.{Activate, Read, Write}
 use Rattle.ddr_rank.specs.declared.last.Last.{Last}
 use Rattle.ddr_rank.specs.Breaks.{all_groups, any_precharge, other_banks, other_groups}
 use Rattle.ddr_rank.specs.Latest.{latest}
 use Rattle.ddr_rank.specs.Readiness.{Readiness, bank_at, group_at, last_of}
 use Rattle.ddr_rank.specs.Stands.{KeepsLast, StandsFor, is_of_bank, is_of_group, is_of_rank}
 
-abbrev pub is_kind : Kind → Command → Bool
+abbrev pub is_kind : LastKind → Command → Bool
 is_kind Activate c = is_activate c
 is_kind Read c = is_read c
 is_kind Write c = is_write c
 
-pub last_told : (place : Command → Bool) (history : List Entry) (last : Last) → KeepsLast place history last → (kind : Kind) → last_of kind last ≡ latest (λ a. is_kind kind a && place a) history
+pub last_told : (place : Command → Bool) (history : List Entry) (last : Last) → KeepsLast place history last → (kind : LastKind) → last_of kind last ≡ latest (λ a. is_kind kind a && place a) history
 last_told place history last kept Activate = kept.activate
 last_told place history last kept Read = kept.read
 last_told place history last kept Write = kept.write
@@ -60,7 +60,7 @@ alone true true = refl
 alone true false = refl
 alone false r = refl
 
-pub other_groups_told : (r : Readiness) (k : ℕ) (history : List Entry) → StandsFor r k history → (kind : Kind) (g : ℕ) → other_groups r kind g ≡ latest (λ a. is_kind kind a && is_other_group a (Pre k g 0)) history
+pub other_groups_told : (r : Readiness) (k : ℕ) (history : List Entry) → StandsFor r k history → (kind : LastKind) (g : ℕ) → other_groups r kind g ≡ latest (λ a. is_kind kind a && is_other_group a (Pre k g 0)) history
 other_groups_told r k history s kind g =
     latest_among-latest (λ i. if i == g then None else last_of kind (group_at r i)) (λ i a. not (i == g) && (is_kind kind a && is_of_group k i a)) history r.config.geometry.groups
     (λ i within. unless (i == g) _ (λ a. is_kind kind a && is_of_group k i a) history (last_told _ history _ (s.groups i within) kind))
@@ -68,7 +68,7 @@ other_groups_told r k history s kind g =
     any_below-one (λ i. not (i == g) && (is_kind kind a && is_of_group k i a)) r.config.geometry.groups (group_of a) (group_in r.config.geometry a placed) (λ i apart. rw (other_number i (group_of a) apart) (dead (not (i == g)) (is_kind kind a) (rank_of a == k)))
     ∙ rw (same_number (group_of a)) (moved (not (group_of a == g)) (is_kind kind a) (rank_of a == k)))
 
-pub all_groups_told : (r : Readiness) (k : ℕ) (history : List Entry) → StandsFor r k history → (kind : Kind) → all_groups r kind ≡ latest (λ a. is_kind kind a && is_of_rank k a) history
+pub all_groups_told : (r : Readiness) (k : ℕ) (history : List Entry) → StandsFor r k history → (kind : LastKind) → all_groups r kind ≡ latest (λ a. is_kind kind a && is_of_rank k a) history
 all_groups_told r k history s kind =
     latest_among-latest (λ i. last_of kind (group_at r i)) (λ i a. is_kind kind a && is_of_group k i a) history r.config.geometry.groups
     (λ i within. last_told _ history _ (s.groups i within) kind)

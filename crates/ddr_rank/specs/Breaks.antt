@@ -7,8 +7,8 @@ use Rattle.ddr_trace.specs.declared.command.Command.TheVariants.{Act, Rd, Wr, Rd
 use Rattle.ddr_trace.specs.declared.rule.Rule.{Rule}
 use Rattle.ddr_trace.specs.declared.rule.Rule.TheVariants as rule
 use Rattle.ddr_trace.specs.Banks.{is_active, is_auto_within, is_row, open_row, ready_row}
-use Rattle.ddr_rank.specs.declared.last.Kind.{Kind}
-use Rattle.ddr_rank.specs.declared.last.Kind.TheVariants.{Activate, Read, Write}
+use Rattle.ddr_rank.specs.declared.last.LastKind.{LastKind}
+use Rattle.ddr_rank.specs.declared.last.LastKind.TheVariants.{Activate, Read, Write}
 use Rattle.ddr_rank.specs.Latest.{is_within, latest_among}
 use Rattle.ddr_rank.specs.Readiness.{Readiness, bank_at, fourth_activate, group_at, idle, last_of}
 
@@ -17,11 +17,11 @@ abbrev pub other_banks : Readiness → ℕ → ℕ → Option ℕ
 other_banks r group bank = latest_among (λ b. if b == bank then None else (bank_at r group b).last.activate) GROUP_BANKS
 
 -- the last command of the kind in the other groups
-abbrev pub other_groups : Readiness → Kind → ℕ → Option ℕ
+abbrev pub other_groups : Readiness → LastKind → ℕ → Option ℕ
 other_groups r kind group = latest_among (λ g. if g == group then None else last_of kind (group_at r g)) r.config.geometry.groups
 
 -- the last command of the kind in any group
-abbrev pub all_groups : Readiness → Kind → Option ℕ
+abbrev pub all_groups : Readiness → LastKind → Option ℕ
 all_groups r kind = latest_among (λ g. last_of kind (group_at r g)) r.config.geometry.groups
 
 -- the last precharge of any bank

@@ -3,8 +3,8 @@ use Rattle.std.specs.Prelude.{◌≡◌, ℕ, ◌+◌, ◌*◌, List, length, Op
 use Rattle.ddr_timing.specs.declared.config.Config.{Config}
 use Rattle.ddr_timing.specs.declared.units.TheConstants.{GROUP_BANKS}
 use Rattle.ddr_rank.specs.declared.bank.Bank.{Bank}
-use Rattle.ddr_rank.specs.declared.last.Kind.{Kind}
-use Rattle.ddr_rank.specs.declared.last.Kind.TheVariants.{Activate, Read, Write}
+use Rattle.ddr_rank.specs.declared.last.LastKind.{LastKind}
+use Rattle.ddr_rank.specs.declared.last.LastKind.TheVariants.{Activate, Read, Write}
 use Rattle.ddr_rank.specs.declared.last.Last.{Last}
 use Rattle.ddr_rank.specs.declared.ready.Ready.{Ready}
 use Rattle.ddr_rank.specs.declared.ready.ReadyAll.{ReadyAll}
@@ -32,7 +32,7 @@ never = record { activate = None; read = None; write = None }
 abbrev pub idle : Bank
 idle = record { opened = None; precharge = None; last = never }
 
-abbrev pub last_of : Kind → Last → Option ℕ
+abbrev pub last_of : LastKind → Last → Option ℕ
 last_of Activate last = last.activate
 last_of Read last = last.read
 last_of Write last = last.write

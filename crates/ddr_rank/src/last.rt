@@ -5,9 +5,9 @@ ghost use Rattle.ddr_rank.specs.Readiness.{last_of};
 
 use ddr_trace::command::{Command, Entry};
 
-/// A command that opens a row, or that moves data.
+/// The kinds of command whose last cycle is kept: those that open a row, and those that move data.
 #[derive(Clone, Copy)]
-pub enum Kind {
+pub enum LastKind {
     Activate,
     Read,
     Write,
@@ -29,13 +29,13 @@ impl Last {
         write: None,
     };
 
-    pub fn of(&self, kind: Kind) -> Option<u64>
+    pub fn of(&self, kind: LastKind) -> Option<u64>
         ensures { result ≡ last_of kind self.now }
     {
         match kind {
-            Kind::Activate => self.activate,
-            Kind::Read => self.read,
-            Kind::Write => self.write,
+            LastKind::Activate => self.activate,
+            LastKind::Read => self.read,
+            LastKind::Write => self.write,
         }
     }
 

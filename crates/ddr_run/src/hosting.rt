@@ -129,7 +129,7 @@ impl Host {
     }
 
     /// Waits for the replies to all that was asked for.
-    fn drain<R: Wait>(&mut self, rt: &R, alloc: Global, flag: &Flag) -> Result<(), Stop>
+    fn await_all<R: Wait>(&mut self, rt: &R, alloc: Global, flag: &Flag) -> Result<(), Stop>
         ensures { OnOk result (HasAsked self.old self.new []) }
     {
         for _ in rt.forever() {
@@ -234,7 +234,7 @@ pub fn run_port<R: Wait>(
 {
     let mut host = Host::new(alloc, number, port);
     host.ask_all(rt, alloc, flag, instructions)?;
-    host.drain(rt, alloc, flag)?;
+    host.await_all(rt, alloc, flag)?;
     host.finish(rt, flag)
 }
 

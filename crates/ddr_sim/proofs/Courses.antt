@@ -25,7 +25,7 @@ use Rattle.ddr_text.specs.declared.fault.Fault.{Fault}
 use Rattle.ddr_text.specs.declared.fault.Fault.TheVariants as faults
 use Rattle.ddr_sim.specs.Replies.{refused_text, reply_text}
 use Rattle.ddr_sim.specs.Rounds.{Run, Course, ◌then◌, after, channel_served, channels_served, items_of, outstanding, port_served, ports_served, replied, round, rounds, round_closed, stopped, until_refused}
-use Rattle.ddr_sim.specs.Runs.{after_submit, all_followed, channel_text, channels_ended, drained, followed, ports_ended, submitted}
+use Rattle.ddr_sim.specs.Runs.{after_submit, all_followed, channel_text, channels_ended, served_out, followed, ports_ended, submitted}
 use Rattle.ddr_text.specs.Script.{view}
 use Rattle.ddr_text.specs.Sink.{write_fault}
 use Rattle.ddr_text.specs.declared.script.Instruction as kept
@@ -278,16 +278,16 @@ onward_end f s cs g a ca v same onward = onward a ca (Ok v) (leads_nowhere g a c
 
 -- rounds while something is outstanding
 
-pub drained_turn : (config : Config) (n : ℕ) (s : State) (text : List ℕ) → (outstanding s == 0) ≡ false → drained config n (record { state = s; text = text; left = n }) ≡ (round config (record { state = s; text = text; left = n }) then drained config (n - 1))
-drained_turn config zero s text busy = ap (λ (b : Bool). cond b (Ok (record { state = s; text = text; left = 0 })) (stopped faults.ScriptLimit (record { state = s; text = text; left = 0 }))) busy
-drained_turn config (suc n) s text busy =
+pub served_out_turn : (config : Config) (n : ℕ) (s : State) (text : List ℕ) → (outstanding s == 0) ≡ false → served_out config n (record { state = s; text = text; left = n }) ≡ (round config (record { state = s; text = text; left = n }) then served_out config (n - 1))
+served_out_turn config zero s text busy = ap (λ (b : Bool). cond b (Ok (record { state = s; text = text; left = 0 })) (stopped faults.ScriptLimit (record { state = s; text = text; left = 0 }))) busy
+served_out_turn config (suc n) s text busy =
     let run : Run = record { state = s; text = text; left = suc n } in
     let rest : n ≡ suc n - 1 = omega arith in
-    ap (λ (b : Bool). cond b (Ok run) (round config run then drained config n)) busy ∙ ap (λ m. round config run then drained config m) rest
+    ap (λ (b : Bool). cond b (Ok run) (round config run then served_out config n)) busy ∙ ap (λ m. round config run then served_out config m) rest
 
-pub drained_end : (config : Config) (n : ℕ) (run : Run) → (outstanding run.state == 0) ≡ true → drained config n run ≡ Ok run
-drained_end config zero run idle = ap (λ (b : Bool). cond b (Ok run) (stopped faults.ScriptLimit run)) idle
-drained_end config (suc n) run idle = ap (λ (b : Bool). cond b (Ok run) (round config run then drained config n)) idle
+pub served_out_end : (config : Config) (n : ℕ) (run : Run) → (outstanding run.state == 0) ≡ true → served_out config n run ≡ Ok run
+served_out_end config zero run idle = ap (λ (b : Bool). cond b (Ok run) (stopped faults.ScriptLimit run)) idle
+served_out_end config (suc n) run idle = ap (λ (b : Bool). cond b (Ok run) (round config run then served_out config n)) idle
 
 -- the Ends
 

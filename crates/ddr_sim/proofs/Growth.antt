@@ -12,7 +12,7 @@ use Rattle.ddr_world.specs.Step.{Step, step}
 use Rattle.ddr_text.specs.declared.fault.Fault.TheVariants as faults
 use Rattle.ddr_sim.specs.Replies.{refused_text, reply_text}
 use Rattle.ddr_sim.specs.Rounds.{Run, Course, ◌then◌, after, channels_served, items_of, outstanding, port_served, ports_served, replied, round, round_closed, rounds, stopped, until_refused}
-use Rattle.ddr_sim.specs.Runs.{after_submit, all_followed, drained, ended, followed, submitted}
+use Rattle.ddr_sim.specs.Runs.{after_submit, all_followed, served_out, ended, followed, submitted}
 use Rattle.ddr_text.specs.Script.{Instruction, Ask, Rounds}
 use Rattle.ddr_sim.specs.Simulated.{BeginsWith, printed_in}
 
@@ -89,11 +89,11 @@ pub rounds_grow : (config : Config) (n : ℕ) → Grows (rounds config n)
 rounds_grow config zero run = begins_same run.text
 rounds_grow config (suc n) run = grows_then (round config) (rounds config n) (round_grows config) (rounds_grow config n) run
 
-pub drained_grows : (config : Config) (n : ℕ) → Grows (drained config n)
-drained_grows config zero run = either_grows (outstanding run.state == 0) (Ok run) (stopped faults.ScriptLimit run) run.text (begins_same run.text) (begins_same run.text)
-drained_grows config (suc n) run =
-    either_grows (outstanding run.state == 0) (Ok run) (round config run then drained config n) run.text (begins_same run.text)
-    (grows_then (round config) (drained config n) (round_grows config) (drained_grows config n) run)
+pub served_out_grows : (config : Config) (n : ℕ) → Grows (served_out config n)
+served_out_grows config zero run = either_grows (outstanding run.state == 0) (Ok run) (stopped faults.ScriptLimit run) run.text (begins_same run.text) (begins_same run.text)
+served_out_grows config (suc n) run =
+    either_grows (outstanding run.state == 0) (Ok run) (round config run then served_out config n) run.text (begins_same run.text)
+    (grows_then (round config) (served_out config n) (round_grows config) (served_out_grows config n) run)
 
 -- instructions
 

@@ -21,7 +21,7 @@ use Rattle.ddr_world.proofs.QuietLemmas.{fewer_of_side, first_all, first_at, fir
 use Rattle.ddr_text.specs.declared.fault.Fault.TheVariants as faults
 use Rattle.ddr_sim.specs.Quiet.{AreQuiet, HasMade, quietly}
 use Rattle.ddr_sim.specs.Rounds.{Run, Course, ◌then◌, channel_served, channels_served, items_of, made_state, outstanding, port_served, ports_served, repeated, replied, round, round_closed, rounds, stopped, until_refused}
-use Rattle.ddr_sim.specs.Runs.{drained}
+use Rattle.ddr_sim.specs.Runs.{served_out}
 use Rattle.ddr_sim.specs.Simulated.{Prints, Simulated, run_at}
 use Rattle.ddr_sim.proofs.Courses.{none_replied}
 
@@ -144,16 +144,16 @@ rounds_behind config (suc n) m run =
     let more : suc n + m ≡ suc (n + m) = omega arith in
     ap (λ k. rounds config k run) more ∙ behind config n (rounds config (n + m)) (rounds config m) (round config run) (λ next is. rounds_behind config n m next)
 
-pub drained_behind : (config : Config) (n m : ℕ) (run : Run) → ((k : ℕ) → k < n → IfOk (rounds config k run) (λ next. (outstanding next.state == 0) ≡ false)) → drained config (n + m) run ≡ (rounds config n run then drained config m)
-drained_behind config zero m run busy =
+pub served_out_behind : (config : Config) (n m : ℕ) (run : Run) → ((k : ℕ) → k < n → IfOk (rounds config k run) (λ next. (outstanding next.state == 0) ≡ false)) → served_out config (n + m) run ≡ (rounds config n run then served_out config m)
+served_out_behind config zero m run busy =
     let none : 0 + m ≡ m = omega arith in
-    ap (λ k. drained config k run) none
-drained_behind config (suc n) m run busy =
+    ap (λ k. served_out config k run) none
+served_out_behind config (suc n) m run busy =
     let more : suc n + m ≡ suc (n + m) = omega arith in
-    ap (λ k. drained config k run) more
-    ∙ ap (λ (b : Bool). cond b (Ok run) (round config run then drained config (n + m))) (busy 0 (omega arith))
-    ∙ behind config n (drained config (n + m)) (drained config m) (round config run) (λ next is.
-    drained_behind config n m next (λ k below. subst (λ (course : Course). IfOk (course then rounds config k) (λ last. (outstanding last.state == 0) ≡ false)) is (busy (suc k) (omega (arith, below)))))
+    ap (λ k. served_out config k run) more
+    ∙ ap (λ (b : Bool). cond b (Ok run) (round config run then served_out config (n + m))) (busy 0 (omega arith))
+    ∙ behind config n (served_out config (n + m)) (served_out config m) (round config run) (λ next is.
+    served_out_behind config n m next (λ k below. subst (λ (course : Course). IfOk (course then rounds config k) (λ last. (outstanding last.state == 0) ≡ false)) is (busy (suc k) (omega (arith, below)))))
 
 -- some of the rounds, and the others behind them
 
@@ -166,13 +166,13 @@ waits_on : (course : Course) (s : State) → (outstanding s == 0) ≡ false → 
 waits_on (Ok next) s busy waits = ap (λ n. n == 0) waits ∙ busy
 waits_on (Err stop) s busy waits = tt
 
-pub drained_some : (config : Config) (now : Simulated) (m made : ℕ) → now.left ≡ m + made → (outstanding (state_of now.world) == 0) ≡ false
+pub served_out_some : (config : Config) (now : Simulated) (m made : ℕ) → now.left ≡ m + made → (outstanding (state_of now.world) == 0) ≡ false
     → ((text : List ℕ) (k : ℕ) → k < made → IfOk (rounds config k (run_at now text)) (λ run. outstanding run.state ≡ outstanding (state_of now.world)))
-    → (text : List ℕ) → drained config now.left (run_at now text) ≡ (rounds config made (run_at now text) then drained config m)
-drained_some config now m made left busy waits text =
+    → (text : List ℕ) → served_out config now.left (run_at now text) ≡ (rounds config made (run_at now text) then served_out config m)
+served_out_some config now m made left busy waits text =
     let all : now.left ≡ made + m = omega (arith, left) in
-    ap (λ k. drained config k (run_at now text)) all
-    ∙ drained_behind config made m (run_at now text) (λ k below. waits_on (rounds config k (run_at now text)) (state_of now.world) busy (waits text k below))
+    ap (λ k. served_out config k (run_at now text)) all
+    ∙ served_out_behind config made m (run_at now text) (λ k below. waits_on (rounds config k (run_at now text)) (state_of now.world) busy (waits text k below))
 
 -- no reply was found in front of a port
 pub none_in_front : (found : Option Reply) (front : Option Answer) → is_some found ≡ false → option_map said found ≡ front → front ≡ None

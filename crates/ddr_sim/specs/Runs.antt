@@ -38,9 +38,9 @@ all_followed config [] run = Ok run
 all_followed config (instruction ∷ more) run = followed config instruction run then all_followed config more
 
 -- rounds while a number is outstanding, of so many that may be made
-abbrev pub drained : Config → ℕ → Run → Course
-drained config zero run = if outstanding run.state == 0 then Ok run else stopped ScriptLimit run
-drained config (suc n) run = if outstanding run.state == 0 then Ok run else round config run then drained config n
+abbrev pub served_out : Config → ℕ → Run → Course
+served_out config zero run = if outstanding run.state == 0 then Ok run else stopped ScriptLimit run
+served_out config (suc n) run = if outstanding run.state == 0 then Ok run else round config run then served_out config n
 
 -- the Ends of the first so many ports to a channel, each taken behind its push
 abbrev pub ports_ended : ℕ → ℕ → State → State
@@ -58,7 +58,7 @@ ended config run = record run { state = channels_ended config.limits.ports confi
 -- the instructions, then rounds while a number is outstanding, then the Ends
 abbrev pub whole : Config → List Instruction → Run → Course
 whole config instructions run =
-    all_followed config instructions run then (λ next. drained config next.left next) then λ last. Ok (ended config last)
+    all_followed config instructions run then (λ next. served_out config next.left next) then λ last. Ok (ended config last)
 
 -- a whole run
 unfoldable pub run_of : Config → List Instruction → Course

@@ -14,7 +14,7 @@ ghost use Rattle.ddr_world.specs.State.{IsDrained};
 ghost use Rattle.ddr_sim.specs.Quiet.{AreQuiet, HasMade};
 ghost use Rattle.ddr_sim.specs.Replies.{reply_text};
 ghost use Rattle.ddr_sim.specs.Rounds.{channel_served, channels_served, outstanding, port_served, ports_served, round, rounds, until_refused};
-ghost use Rattle.ddr_sim.specs.Runs.{all_followed, begun, channel_text, channels_ended, drained, followed, ports_ended, submitted, whole};
+ghost use Rattle.ddr_sim.specs.Runs.{all_followed, begun, channel_text, channels_ended, served_out, followed, ports_ended, submitted, whole};
 ghost use Rattle.ddr_text.specs.Script.{view};
 ghost use Rattle.ddr_sim.specs.Simulated.{IsCycleFault, IsFrontPrinted, IsSameRun, Leads, added, is_popping, run_at};
 
@@ -95,7 +95,7 @@ impl Simulation {
         ensures silent { self.new.silent ≡ self.old.silent }
     {
         self.follow_all(alloc, instructions, writer)?;
-        self.drain(alloc, writer)?;
+        self.serve_out(alloc, writer)?;
         self.end();
         Ok(())
     }
@@ -191,8 +191,8 @@ impl Simulation {
     }
 
     /// Makes rounds until nothing is outstanding.
-    fn drain<W: Sink>(&mut self, alloc: Global, writer: &mut W) -> Result<(), Fault>
-        ensures leads { Leads (drained self.old.config self.old.left) self.old (W.contents writer.old) self.new (W.contents writer.new) result }
+    fn serve_out<W: Sink>(&mut self, alloc: Global, writer: &mut W) -> Result<(), Fault>
+        ensures leads { Leads (served_out self.old.config self.old.left) self.old (W.contents writer.old) self.new (W.contents writer.new) result }
         ensures taken { IsErrOf result Fault.Write → IsTrue W.may_fail }
         ensures same { IsSameRun self.old self.new 0 }
     {

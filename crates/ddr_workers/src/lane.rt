@@ -62,5 +62,5 @@ pub fn join<S: Copy + Drop, T: Drop, K: Carries<S, T>, R: Wait>(
         spare,
     } = take;
     joining::give_back(&lane.queue, &mut pass, puts);
-    joining::drain(rt, &lane.queue, &mut pass, spare)
+    joining::take_left(rt, &lane.queue, &mut pass, spare)
 }

@@ -9,7 +9,7 @@ ghost use Rattle.ddr_rank.specs.Readiness.{fourth_activate};
 
 use super::{Rank, fourth_of};
 use crate::cycles::{is_within, later};
-use crate::last::Kind;
+use crate::last::LastKind;
 use ddr_timing::units::{BURST_CLOCKS, GROUP_BANKS};
 use ddr_trace::command::Command;
 use ddr_trace::rule::Rule;
@@ -171,7 +171,7 @@ impl Rank {
             Rule::Rc => is_within(t.rc, cycle, kept.last.activate),
             Rule::Rp => is_within(t.rp, cycle, kept.precharge) || kept.is_auto_within(cycle, t),
             Rule::RrdL => is_within(t.rrd_l, cycle, self.other_banks(group, bank)),
-            Rule::RrdS => is_within(t.rrd_s, cycle, self.other_groups(Kind::Activate, group)),
+            Rule::RrdS => is_within(t.rrd_s, cycle, self.other_groups(LastKind::Activate, group)),
             Rule::Faw => is_within(t.faw, cycle, self.fourth_activate()),
             Rule::Rfc => is_within(t.rfc, cycle, self.refresh),
             _ => false,
@@ -192,10 +192,10 @@ impl Rank {
             Rule::Row => kept.open_row(cycle, t) != Some(row),
             Rule::Rcd => is_within(t.rcd, cycle, kept.last.activate),
             Rule::CcdL => is_within(t.ccd_l, cycle, in_group.read),
-            Rule::CcdS => is_within(t.ccd_s, cycle, self.other_groups(Kind::Read, group)),
+            Rule::CcdS => is_within(t.ccd_s, cycle, self.other_groups(LastKind::Read, group)),
             Rule::WtrL => is_within(data_end + t.wtr_l, cycle, in_group.write),
             Rule::WtrS => {
-                let last = self.other_groups(Kind::Write, group);
+                let last = self.other_groups(LastKind::Write, group);
                 is_within(data_end + t.wtr_s, cycle, last)
             }
             Rule::Rfc => is_within(t.rfc, cycle, self.refresh),
@@ -215,8 +215,8 @@ impl Rank {
             Rule::Row => kept.open_row(cycle, t) != Some(row),
             Rule::Rcd => is_within(t.rcd, cycle, kept.last.activate),
             Rule::CcdL => is_within(t.ccd_l, cycle, self.group(group).write),
-            Rule::CcdS => is_within(t.ccd_s, cycle, self.other_groups(Kind::Write, group)),
-            Rule::Rtw => is_within(t.rtw, cycle, self.all_groups(Kind::Read)),
+            Rule::CcdS => is_within(t.ccd_s, cycle, self.other_groups(LastKind::Write, group)),
+            Rule::Rtw => is_within(t.rtw, cycle, self.all_groups(LastKind::Read)),
             Rule::Rfc => is_within(t.rfc, cycle, self.refresh),
             _ => false,
         }
@@ -243,10 +243,10 @@ impl Rank {
     {
         let t = &self.config.timing;
         match rule {
-            Rule::Ras => is_within(t.ras, cycle, self.all_groups(Kind::Activate)),
-            Rule::Rtp => is_within(t.rtp, cycle, self.all_groups(Kind::Read)),
+            Rule::Ras => is_within(t.ras, cycle, self.all_groups(LastKind::Activate)),
+            Rule::Rtp => is_within(t.rtp, cycle, self.all_groups(LastKind::Read)),
             Rule::Wr => {
-                let last = self.all_groups(Kind::Write);
+                let last = self.all_groups(LastKind::Write);
                 is_within(t.cwl + BURST_CLOCKS + t.wr, cycle, last)
             }
             Rule::Rfc => is_within(t.rfc, cycle, self.refresh),
@@ -301,7 +301,7 @@ impl Rank {
     }
 
     /// The last command of the kind in the other groups.
-    fn other_groups(&self, kind: Kind, group: u32) -> Option<u64>
+    fn other_groups(&self, kind: LastKind, group: u32) -> Option<u64>
         ensures { result ≡ other_groups self.now kind group }
     {
         let mut last = None;
@@ -314,7 +314,7 @@ impl Rank {
     }
 
     /// The last command of the kind in any group.
-    fn all_groups(&self, kind: Kind) -> Option<u64>
+    fn all_groups(&self, kind: LastKind) -> Option<u64>
         ensures { result ≡ all_groups self.now kind }
     {
         let mut last = None;

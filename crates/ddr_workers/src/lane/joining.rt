@@ -31,7 +31,7 @@ pub fn give_back<S: Copy + Drop, T: Drop, K: Carries<S, T>>(
 }
 
 /// Pops what is left, once no other side can push.
-pub fn drain<S: Copy + Drop, T: Drop, K: Carries<S, T>, R: Wait>(
+pub fn take_left<S: Copy + Drop, T: Drop, K: Carries<S, T>, R: Wait>(
     rt: &R,
     queue: &LaneQueue<S, T, K>,
     pass: &mut LanePass<S, T>,

@@ -12,5 +12,5 @@ returns-clause-asked g c =
     let asked = c.ask_all.new.self in
     let first = subst (λ (s : PortState). HasAsked s asked (asks_of s.core.port script)) c.new-host.ensures c.in_ok-ask_all.ensures in
     IfOk-weaker c.finish.result _ _ (λ hosted finished.
-    asked_whole c.args.number c.args.port asked c.drain.new.self hosted.end (asks_of c.args.number script) c.requires
-    (subst (λ n. HasAsked c.args.port asked (asks_of n script)) c.requires.port first) c.in_ok-drain.ensures finished) c.finish.ensures.finished
+    asked_whole c.args.number c.args.port asked c.await_all.new.self hosted.end (asks_of c.args.number script) c.requires
+    (subst (λ n. HasAsked c.args.port asked (asks_of n script)) c.requires.port first) c.in_ok-await_all.ensures finished) c.finish.ensures.finished

@@ -2,7 +2,7 @@ use Rattle.std.proofs.Common.{rules, sym, ap, ◌∙◌, arith}
 use Rattle.crossbeam_queue.specs.Passes.{view}
 use Rattle.ddr_workers.specs.Law.{with_all_taken}
 use Rattle.ddr_workers.proofs.JoinLemmas.{with_all_taken-nil, learns_left, fits_left, learns_left_now, pops_left, room_left, falls, is_left}
-use Rattle.ddr_workers.proofs.lane.joining.drain.Goals as goal
+use Rattle.ddr_workers.proofs.lane.joining.take_left.Goals as goal
 
 pub len_as-requires-clause-rule : goal.len_as-requires-clause-rule
 len_as-requires-clause-rule g c = learns_left g.K.Carries.source g.K.Carries.proper _ _ c.requires.whole

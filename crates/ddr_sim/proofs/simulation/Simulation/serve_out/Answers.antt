@@ -4,12 +4,12 @@ use Rattle.std.proofs.lemmas.Result.{err_from_is_err_and}
 use Rattle.ddr_timing.specs.declared.config.Config.{Config}
 use Rattle.ddr_world.specs.Kept.{state_of}
 use Rattle.ddr_sim.specs.Rounds.{outstanding, round, rounds}
-use Rattle.ddr_sim.specs.Runs.{drained}
+use Rattle.ddr_sim.specs.Runs.{served_out}
 use Rattle.ddr_sim.specs.Simulated.{Leads, run_at}
-use Rattle.ddr_sim.proofs.Courses.{drained_end, drained_turn, onward_end, onward_stop, onward_turn, same_on}
-use Rattle.ddr_sim.proofs.Growth.{drained_grows}
-use Rattle.ddr_sim.proofs.QuietLemmas.{drained_some}
-use Rattle.ddr_sim.proofs.simulation.Simulation.drain.Goals as goal
+use Rattle.ddr_sim.proofs.Courses.{served_out_end, served_out_turn, onward_end, onward_stop, onward_turn, same_on}
+use Rattle.ddr_sim.proofs.Growth.{served_out_grows}
+use Rattle.ddr_sim.proofs.QuietLemmas.{served_out_some}
+use Rattle.ddr_sim.proofs.simulation.Simulation.serve_out.Goals as goal
 
 pub rounds-preserved : goal.rounds-preserved
 rounds-preserved g c =
@@ -21,8 +21,8 @@ rounds-preserved g c =
     let made = c.in_ok-next_rounds.field-0 in
     let busy = sym c.is_idle.ensures ∙ c.rounds-test.true in
     record {
-      onward = onward_turn (drained config c.args.self.now.left) c.args.self.now (contents c.args.writer.now) (drained config now.left) (rounds config made) (drained config next.left) now next (contents c.rounds.writer) (contents c.next_rounds.new.writer) tt
-          (drained_some config now next.left made c.in_ok-next_rounds.ensures.made.left busy
+      onward = onward_turn (served_out config c.args.self.now.left) c.args.self.now (contents c.args.writer.now) (served_out config now.left) (rounds config made) (served_out config next.left) now next (contents c.rounds.writer) (contents c.next_rounds.new.writer) tt
+          (served_out_some config now next.left made c.in_ok-next_rounds.ensures.made.left busy
           (subst (λ (k : Config). (text : List ℕ) (n : ℕ) → n < made → IfOk (rounds k n (run_at now text)) (λ run. outstanding run.state ≡ outstanding (state_of now.world))) kept.same.config c.in_ok-next_rounds.ensures.made.waits))
           (subst (λ (k : Config). Leads (rounds k made) now (contents c.rounds.writer) next (contents c.next_rounds.new.writer) (Ok tt)) kept.same.config c.in_ok-next_rounds.ensures.made.leads) kept.onward;
       same = same_on c.args.self.now now next 0 0 kept.same c.next_rounds.ensures.same;
@@ -37,8 +37,8 @@ returns-in_err-next_rounds-clause-leads g c =
     let kept = c.rounds.invariant in
     let busy = sym c.is_idle.ensures ∙ c.rounds-test.true in
     let p = err_from_is_err_and c.from_residual.result c.from_residual.ensures.1 in
-    rw (p.1, p.2) (onward_stop (drained config c.args.self.now.left) c.args.self.now (contents c.args.writer.now) (drained config now.left) (round config) (drained config (now.left - 1)) now next (contents c.rounds.writer) (contents c.next_rounds.new.writer) c.in_err-next_rounds.field-0.0 (drained_grows config (now.left - 1))
-    (λ text. drained_turn config now.left (state_of now.world) text busy)
+    rw (p.1, p.2) (onward_stop (served_out config c.args.self.now.left) c.args.self.now (contents c.args.writer.now) (served_out config now.left) (round config) (served_out config (now.left - 1)) now next (contents c.rounds.writer) (contents c.next_rounds.new.writer) c.in_err-next_rounds.field-0.0 (served_out_grows config (now.left - 1))
+    (λ text. served_out_turn config now.left (state_of now.world) text busy)
     (subst (λ (k : Config). Leads (round k) now (contents c.rounds.writer) next (contents c.next_rounds.new.writer) (Err c.in_err-next_rounds.field-0.0)) kept.same.config c.in_err-next_rounds.ensures.fault) kept.onward)
 
 pub returns-clause-leads : goal.returns-clause-leads
@@ -46,5 +46,5 @@ returns-clause-leads g c =
     let contents = g.W.Write.contents in
     let config = c.args.self.now.config in
     let now = c.rounds.self in
-    onward_end (drained config c.args.self.now.left) c.args.self.now (contents c.args.writer.now) (drained config now.left) now (contents c.rounds.writer) tt
-    (λ text. drained_end config now.left (run_at now text) (sym c.is_idle.ensures ∙ c.rounds-test.false)) c.rounds.invariant.onward
+    onward_end (served_out config c.args.self.now.left) c.args.self.now (contents c.args.writer.now) (served_out config now.left) now (contents c.rounds.writer) tt
+    (λ text. served_out_end config now.left (run_at now text) (sym c.is_idle.ensures ∙ c.rounds-test.false)) c.rounds.invariant.onward

@@ -1,6 +1,6 @@
 use Rattle.std.proofs.Common.{[]}
 use Rattle.ddr_run.proofs.HostLemmas.{asked_next, asked_none}
-use Rattle.ddr_run.proofs.hosting.Host.drain.Goals as goal
+use Rattle.ddr_run.proofs.hosting.Host.await_all.Goals as goal
 
 pub loop-init : goal.loop-init
 loop-init g c = asked_none c.args.self.now

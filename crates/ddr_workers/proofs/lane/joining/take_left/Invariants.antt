@@ -2,7 +2,7 @@ use Rattle.std.proofs.Common.{◌≡◌, ◌≤◌, vec_capacity}
 use Rattle.crossbeam_queue.specs.Passes.{view, IsPassOf, ruled_capacity}
 use Rattle.ddr_workers.specs.Law.{with_all_taken}
 use Rattle.ddr_workers.proofs.JoinLemmas.{left_of}
-use Rattle.ddr_workers.proofs.lane.joining.drain.Given as goal
+use Rattle.ddr_workers.proofs.lane.joining.take_left.Given as goal
 
 abbrev pub invariant-loop-item : goal.invariant-loop-item
 invariant-loop-item g l = record {
