@@ -3,8 +3,7 @@ use Rattle.std.proofs.Common.{◌≡◌, ℕ, ◌+◌, ◌<◌, ◌≤◌, ◌�
 use Rattle.std.specs.List.{slice_get}
 use Rattle.std.specs.Option.{is_none}
 use Rattle.std.proofs.lemmas.Bool.{cases_lt, false≢true}
-use Rattle.std.proofs.lemmas.List.{get_or_append_left, get_or_push, length-take-le, length_push, take_more}
-use Rattle.std.proofs.lemmas.List.Sums.{count_by-le-length}
+use Rattle.std.proofs.lemmas.List.{get_or_append_left, get_or_push, length_push, take_more}
 use Rattle.std.proofs.lemmas.Option.{slice_get-get_or, slice_get_within}
 use Rattle.ddr_timing.specs.declared.config.Config.{Config}
 use Rattle.ddr_timing.specs.declared.geometry.Geometry.{Geometry}
@@ -13,13 +12,9 @@ use Rattle.ddr_trace.specs.declared.rule.Rule.{Rule}
 use Rattle.ddr_trace.specs.Rules.{breaks, is_in, last_cycle_below}
 use Rattle.ddr_trace.specs.Legality.{breaks_at, breaks_where, lowest_rule}
 use Rattle.ddr_trace.proofs.LowestLemmas.{none_broken}
-use Rattle.ddr_trace.specs.declared.command.Command.TheVariants.{Refresh}
-use Rattle.ddr_trace.specs.Commands.{is_refresh, is_same_rank}
-use Rattle.ddr_legality.specs.declared.checker.SoFar.{SoFar}
-use Rattle.ddr_legality.specs.declared.refreshes.Refreshes.{Refreshes}
+use Rattle.ddr_legality.specs.declared.one_pass.Checker.{Checker}
 use Rattle.ddr_legality.specs.Followed.{AreFollowed}
-use Rattle.ddr_legality.specs.Refreshes.{HasCounted}
-use Rattle.ddr_legality.specs.SoFar.{HasPassed}
+use Rattle.ddr_legality.specs.OnePass.{HasPassed}
 
 -- what the flags of so many entries say
 pub record FlagsSoFar (c : Config) (start end : ℕ) (entries : List Entry) (flags : List Bool) (i : ℕ) : Type 0 where
@@ -84,10 +79,5 @@ follows_here g entries i d within followed =
 pub follows_before : (g : Geometry) (entries : List Entry) (i : ℕ) → AreFollowed g entries (i + 1) → AreFollowed g entries i
 follows_before g entries i followed = λ before e below there. followed before e (omega arith) there
 
--- no more REFs are counted than entries were passed
-pub count_bounded : (rank : ℕ) (r : Refreshes) (entries : List Entry) (i : ℕ) → i ≤ length entries → HasCounted rank r (take i entries) → r.count ≤ i
-count_bounded rank r entries i within counted =
-    omega (arith, counted.count, count_by-le-length (λ (a : Entry). is_refresh a.command && is_same_rank a.command (Refresh rank)) (take i entries), length-take-le i entries within)
-
-pub passed_more : (s : SoFar) (entries : List Entry) (place : ℕ) (d : Entry) → place < length entries → HasPassed s (take place entries ++ get_or entries place d ∷ []) → HasPassed s (take (place + 1) entries)
+pub passed_more : (s : Checker) (entries : List Entry) (place : ℕ) (d : Entry) → place < length entries → HasPassed s (take place entries ++ get_or entries place d ∷ []) → HasPassed s (take (place + 1) entries)
 passed_more s entries place d within passed = rw (take_more entries place d within) passed

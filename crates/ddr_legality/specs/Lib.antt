@@ -3,6 +3,6 @@ pub mod Columns
 pub mod Followed
 pub mod Issued
 pub mod Kept
+pub mod OnePass
 pub mod Refreshes
-pub mod SoFar
 pub mod View

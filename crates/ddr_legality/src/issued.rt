@@ -1,5 +1,5 @@
 //! What is kept of the commands issued so far: as much as the next one is tested against, and no list of them.
-ghost use Rattle.std.specs.Prelude.{◌≡◌, ℕ, ◌+◌, ◌<◌, ◌≤◌, ◌&&◌, nat_le, List, [], ◌∷◌, ◌++◌, IsTrue, IfOk};
+ghost use Rattle.std.specs.Prelude.{◌≡◌, ℕ, ◌+◌, ◌<◌, ◌≤◌, ◌&&◌, nat_le, List, [], ◌∷◌, ◌++◌, IsTrue, IfNone, IfOk, true};
 ghost use Rattle.std.specs.Option.{is_none};
 ghost use Rattle.ddr_trace.specs.declared.command.Command.TheVariants.{Pre};
 ghost use Rattle.ddr_trace.specs.declared.command.Entry.{Entry};
@@ -67,8 +67,10 @@ impl Issued {
 
     /// The lowest rule on commands that the entry would break, in a trace that ends at `end`.
     pub fn broken_by(&self, entry: &Entry, end: u64) -> Option<Rule>
-        ensures { (history : List Entry) → HasIssued self.now history
+        ensures lowest { (history : List Entry) → HasIssued self.now history
             → result ≡ lowest_broken self.now.config self.now.start end history entry.now }
+        ensures placed { IfNone result (is_in self.now.config.geometry entry.now.command ≡ true) }
+        ensures later { IfNone result (is_later self.now.last entry.now.cycle ≡ true) }
     {
         if !self.is_in_order(entry.cycle, end) {
             return Some(Rule::Order);

@@ -1,5 +1,5 @@
 //! The REFs of a rank so far, as much as the two rules on refresh ask of them.
-ghost use Rattle.std.specs.Prelude.{◌≡◌, ℕ, ◌+◌, ◌*◌, ◌<◌, ◌^◌, nat_lt, List, [], ◌∷◌, ◌++◌};
+ghost use Rattle.std.specs.Prelude.{◌≡◌, ℕ, ◌+◌, ◌*◌, nat_lt, List, [], ◌∷◌, ◌++◌};
 ghost use Rattle.ddr_trace.specs.declared.command.Command.TheVariants.{Refresh};
 ghost use Rattle.ddr_trace.specs.declared.command.Entry.{Entry};
 ghost use Rattle.ddr_trace.specs.Commands.{is_refresh, rank_of};
@@ -11,7 +11,8 @@ use ddr_trace::command::{Command, Entry};
 use ddr_trace::refresh::{is_gap_too_long, is_overdue};
 use ddr_trace::rule::Rule;
 
-/// How many REFs of a rank there were, and the cycle of the last one.
+/// How many REFs of a rank there were, and the cycle of the last one. The number stops at the last one that a `usize` holds,
+/// behind which no REF is ever late.
 #[derive(Clone, Copy)]
 pub(crate) struct Refreshes {
     count: usize,
@@ -62,12 +63,11 @@ impl Refreshes {
 
     /// Counts an entry of the rank, where it is a REF.
     pub fn note(&mut self, entry: &Entry)
-        requires { self.old.count + 1 < 2 ^ 64 }
         ensures { (history : List Entry) → HasCounted (rank_of entry.now.command) self.old history
             → HasCounted (rank_of entry.now.command) self.new (history ++ entry.now ∷ []) }
     {
         if is_refresh(entry) {
-            self.count += 1;
+            self.count = self.count.saturating_add(1);
             self.last = Some(entry.cycle);
         }
     }

@@ -1,6 +1,6 @@
 use Rattle.std.proofs.Common.{◌≡◌, take}
 use Rattle.ddr_trace.proofs.FaultLemmas.{IsCleanBelow}
-use Rattle.ddr_legality.specs.SoFar.{HasPassed}
+use Rattle.ddr_legality.specs.OnePass.{HasPassed}
 use Rattle.ddr_legality.proofs.checker.first_fault.Given as goal
 
 abbrev pub invariant-loop-place : goal.invariant-loop-place

@@ -1,18 +1,8 @@
 -- All is known of an entry as long as those before it were passed.
-use Rattle.std.proofs.Common.{take, sym, ◌∙◌, arith}
-use Rattle.ddr_legality.proofs.KeptLemmas.{count_bounded, flags_more, follows_before, follows_here, passed_more}
+use Rattle.std.proofs.Common.{take, sym, ◌∙◌}
+use Rattle.ddr_legality.proofs.KeptLemmas.{flags_more, follows_before, follows_here, passed_more}
 use Rattle.ddr_legality.proofs.checker.kept_places.Goals as goal
 use Rattle.ddr_legality.proofs.checker.kept_places.Goals.{then-is_followed, else-is_followed, then-is_followed-2, else-is_followed-2}
-
-pub follow-is_followed-requires-clause-first_countable : goal.follow-is_followed-requires-clause-first_countable
-follow-is_followed-requires-clause-first_countable c =
-    let passed = c.loop-entry.invariant.passed c.if-is_followed-2.true in
-    omega (arith, count_bounded 0 c.loop-entry.so_far.first c.args.entries.now c.loop-entry.entry-index (omega arith) passed.first)
-
-pub follow-is_followed-requires-clause-second_countable : goal.follow-is_followed-requires-clause-second_countable
-follow-is_followed-requires-clause-second_countable c =
-    let passed = c.loop-entry.invariant.passed c.if-is_followed-2.true in
-    omega (arith, count_bounded 1 c.loop-entry.so_far.second c.args.entries.now c.loop-entry.entry-index (omega arith) passed.second)
 
 pub loop-entry-preserved : goal.loop-entry-preserved
 loop-entry-preserved c =

@@ -1,6 +1,6 @@
 use Rattle.std.proofs.Common.{◌≡◌, true, take}
 use Rattle.ddr_legality.specs.Followed.{AreFollowed}
-use Rattle.ddr_legality.specs.SoFar.{HasPassed}
+use Rattle.ddr_legality.specs.OnePass.{HasPassed}
 use Rattle.ddr_legality.proofs.KeptLemmas.{FlagsSoFar}
 use Rattle.ddr_legality.proofs.checker.kept_places.Given as goal
 

@@ -2,7 +2,7 @@
 use Rattle.std.proofs.Common.{◌≡◌, true, false, ◌==◌, refl, sym, ◌∙◌}
 use Rattle.ddr_legality.proofs.RankLemmas.{not_rank}
 use Rattle.ddr_legality.proofs.RefreshLemmas.{ends_told, is_late}
-use Rattle.ddr_legality.proofs.checker.SoFar.ends_late.Goals as goal
+use Rattle.ddr_legality.proofs.one_pass.Checker.ends_late.Goals as goal
 
 pub returns-then-ends_late : goal.returns-then-ends_late
 returns-then-ends_late c = λ history passed.

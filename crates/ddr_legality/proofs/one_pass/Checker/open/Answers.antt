@@ -1,6 +1,6 @@
 -- Nothing was issued, and no REF was counted.
 use Rattle.std.proofs.Common.{rules}
-use Rattle.ddr_legality.proofs.checker.SoFar.open.Goals as goal
+use Rattle.ddr_legality.proofs.one_pass.Checker.open.Goals as goal
 
 pub returns-clause-passed : goal.returns-clause-passed
 returns-clause-passed c = record {
