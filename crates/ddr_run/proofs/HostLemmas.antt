@@ -28,7 +28,7 @@ use Rattle.ddr_workers.proofs.ChangedLemmas.{each_changed, there_still}
 use Rattle.ddr_workers.proofs.CountedLemmas.{requests_of-append}
 use Rattle.ddr_run.specs.declared.hosting.Host.TheInside.{Inside}
 use Rattle.ddr_run.specs.Hosting.{ArePushed, AreAsked, HasAsked, HasFinished, IsHosting, IsNewPort, asked_at, asks_of, line_of, replies_text, requests_from, to_channel}
-use Rattle.ddr_sim.specs.Replies.{reply_text}
+use Rattle.ddr_text.specs.Replies.{reply_text}
 use Rattle.ddr_text.specs.Script.{view}
 use Rattle.ddr_text.specs.declared.script.Instruction as kept
 

@@ -13,7 +13,7 @@ use Rattle.ddr_workers.specs.declared.requests.Route.{Route}
 use Rattle.ddr_workers.specs.Port.{PortState, PortEnded, IsEndOfPort, IsSamePort, first_with, reply_of}
 use Rattle.ddr_workers.specs.Sides.{PutSide}
 use Rattle.ddr_workers.specs.Worker.{requests_of}
-use Rattle.ddr_sim.specs.Replies.{reply_text}
+use Rattle.ddr_text.specs.Replies.{reply_text}
 use Rattle.ddr_text.specs.Script.{Instruction, Ask, Rounds}
 use Rattle.ddr_run.specs.declared.hosting.Host.TheInside.{Inside}
 

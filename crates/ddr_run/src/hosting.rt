@@ -12,7 +12,7 @@ ghost use Rattle.ddr_text.specs.Script.{view};
 use crate::flag::{Flag, Stop};
 use ddr_ports::refusal::PortError;
 use ddr_ports::request::Request;
-use ddr_sim::reply::reply_text;
+use ddr_text::reply::reply_text;
 use ddr_text::script::Instruction;
 use ddr_workers::port::{PollAnswer, Port, PortEnd};
 use ddr_workers::refusal::{FinishError, SubmitError};

@@ -23,7 +23,8 @@ use Rattle.std.proofs.lemmas.Option.{slice_get-map}
 use Rattle.ddr_world.specs.Step.{IsRefusedFor, Made, Step, after_release, made, release_by, step, with_port}
 use Rattle.ddr_text.specs.declared.fault.Fault.{Fault}
 use Rattle.ddr_text.specs.declared.fault.Fault.TheVariants as faults
-use Rattle.ddr_sim.specs.Replies.{refused_text, reply_text}
+use Rattle.ddr_text.specs.Replies.{reply_text}
+use Rattle.ddr_sim.specs.Refusals.{refused_text}
 use Rattle.ddr_sim.specs.Rounds.{Run, Course, ◌then◌, after, channel_served, channels_served, items_of, outstanding, port_served, ports_served, replied, round, rounds, round_closed, stopped, until_refused}
 use Rattle.ddr_sim.specs.Runs.{after_submit, all_followed, channel_text, channels_ended, served_out, followed, ports_ended, submitted}
 use Rattle.ddr_text.specs.Script.{view}

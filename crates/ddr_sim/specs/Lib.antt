@@ -1,5 +1,5 @@
 pub mod Quiet
-pub mod Replies
+pub mod Refusals
 pub mod Rounds
 pub mod Runs
 pub mod Sims

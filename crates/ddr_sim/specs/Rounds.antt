@@ -8,7 +8,7 @@ use Rattle.ddr_world.specs.State.{State}
 use Rattle.ddr_world.specs.Step.{Step, step}
 use Rattle.ddr_text.specs.declared.fault.Fault.{Fault}
 use Rattle.ddr_text.specs.declared.fault.Fault.TheVariants.{ClockSpent, ScriptLimit}
-use Rattle.ddr_sim.specs.Replies.{reply_text}
+use Rattle.ddr_text.specs.Replies.{reply_text}
 
 -- what a run has come to: the core's state, what was printed, and how many rounds may still be made
 pub record Run : Type 0 where

@@ -6,7 +6,7 @@ use Rattle.ddr_world.specs.Events.{Event, Submit, Take, Deliver, Collect}
 use Rattle.ddr_world.specs.Kept.{Kept, state_of}
 use Rattle.ddr_world.specs.State.{State}
 use Rattle.ddr_reorder.specs.Replies.{Answer}
-use Rattle.ddr_sim.specs.Replies.{reply_text}
+use Rattle.ddr_text.specs.Replies.{reply_text}
 use Rattle.ddr_text.specs.declared.fault.Fault.{Fault}
 use Rattle.ddr_text.specs.declared.fault.Fault.TheVariants as faults
 use Rattle.ddr_sim.specs.declared.simulation.Simulation.TheInside.{Inside}

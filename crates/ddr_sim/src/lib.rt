@@ -7,7 +7,7 @@
 #![tactic(auto)]
 
 mod line;
-pub mod reply;
+mod refusal;
 pub mod sim;
 mod simulation;
 pub mod trace;

@@ -1,12 +1,12 @@
 //! A reply's line, put together on the stack, so that one call writes it and no memory is asked for.
 //!
-//! `ddr_reorder` stands below; `simulation` prints by this. The text is that of `reply`.
+//! `ddr_reorder` stands below; `simulation` prints by this. The text is that of `reply` of `ddr_text`.
 ghost use Rattle.std.specs.Prelude.{◌≡◌, ◌+◌, ◌≤◌, ◌++◌, IfSome, drop, length};
 ghost use Rattle.std.specs.Fmt.{decimal};
 ghost use Rattle.arrayvec.specs.ArrayVec.{array_vec_len};
 ghost use Rattle.hex.specs.Hex.{encode_lower};
 ghost use Rattle.ddr_reorder.specs.Replies.{said};
-ghost use Rattle.ddr_sim.specs.Replies.{done_text, reply_text};
+ghost use Rattle.ddr_text.specs.Replies.{done_text, reply_text};
 
 use arrayvec::ArrayVec;
 use ddr_address_map::request::Kind;
@@ -21,7 +21,7 @@ const MOST_DIGITS: usize = 20;
 pub(crate) type Text = ArrayVec<u8, 256>;
 
 /// A reply as a line, as `reply_text` says it. None where it lends more bytes than a line of memory has.
-#[tactic(auto, unfolding(crate::specs::Replies::reply_text))]
+#[tactic(auto, unfolding(ddr_text::specs::Replies::reply_text))]
 pub(crate) fn reply_line(port: u32, reply: &Reply<'_>) -> Option<Text>
     ensures { IfSome result (λ line. line.items ≡ reply_text port (said reply.now)) }
 {

@@ -8,6 +8,7 @@ pub mod Instructions
 pub mod Job
 pub mod Lines
 pub mod MapText
+pub mod Replies
 pub mod Requests
 pub mod Script
 pub mod Sink

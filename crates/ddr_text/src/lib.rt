@@ -23,6 +23,7 @@ pub mod input;
 pub mod instructions;
 pub mod job;
 pub mod map;
+pub mod reply;
 pub mod requests;
 pub mod script;
 pub mod sink;

@@ -1,7 +1,7 @@
 use Rattle.std.proofs.Common.{◌++◌, sym, ap, ◌∙◌}
 use Rattle.ddr_address_map.specs.declared.request.Kind.{Kind}
 use Rattle.ddr_reorder.specs.Replies.{said}
-use Rattle.ddr_sim.specs.Replies.{done_text}
+use Rattle.ddr_text.specs.Replies.{done_text}
 use Rattle.ddr_sim.proofs.LineLemmas.{five_pieces}
 use Rattle.ddr_sim.proofs.line.add_done.Goals as goal
 
