@@ -1,5 +1,5 @@
 -- The command line of the program, and the job that its words state.
-use Rattle.std.specs.Prelude.{◌≡◌, ℕ, Bool, true, false, ◌||◌, nat_lt, if◌then◌else◌, List, [], ◌∷◌, length, codes, pos, IfSome, Option, Some, None, is_some, option_map, Result, Ok, Err}
+use Rattle.std.specs.Prelude.{◌≡◌, ℕ, Bool, true, false, ◌||◌, nat_lt, if◌then◌else◌, List, [], ◌∷◌, length, codes, pos, IfSome, Option, Some, None, is_some, option_map, unwrap_or, Result, Ok, Err}
 use Rattle.std.specs.Option.{option_map_or}
 use Rattle.std.specs.Str.{bytes_eq}
 use Rattle.std.specs.Str.Parse.{digits_value, without_leading_plus}
@@ -13,9 +13,11 @@ use Rattle.clap.specs.declared.builder.value_parser.ValueParser.TheVariants as p
 use Rattle.clap.specs.declared.error.Error.{Error}
 use Rattle.clap.specs.declared.error.kind.ErrorKind.TheVariants.{OutOfMemory}
 use Rattle.ddr_text.specs.declared.command.Job.{Job}
-use Rattle.ddr_text.specs.declared.command.Job.TheVariants.{Sim, Run, Replay, Check, Explain, All, Map, Lint}
+use Rattle.ddr_text.specs.declared.command.Job.TheVariants.{Sim, Run, Replay, Check, Explain, All, Stream, Draw, Map, Lint}
 use Rattle.ddr_text.specs.declared.command.Format.{Format}
 use Rattle.ddr_text.specs.declared.command.Format.TheVariants.{Own, Dramsim3, Ramulator2}
+use Rattle.ddr_text.specs.declared.command.Picture.{Picture}
+use Rattle.ddr_text.specs.declared.command.Picture.TheVariants.{Waves, Lanes}
 use Rattle.ddr_text.specs.declared.command.Reading.{Reading}
 use Rattle.ddr_text.specs.declared.command.Told.{Told}
 use Rattle.ddr_text.specs.declared.command.Told.TheVariants.{Statistics, Requests, Trace}
@@ -42,6 +44,14 @@ number_rule name = record (new_rule name) {
   long = Some name;
   value_names = 1;
   parser = Some (parser.Signed (pos 0) (pos 4294967295));
+}
+
+-- an option of this name, whose value is a cycle, below 2^64
+abbrev pub cycle_rule : Text → Rule
+cycle_rule name = record (new_rule name) {
+  long = Some name;
+  value_names = 1;
+  parser = Some (parser.Unsigned 0 18446744073709551615);
 }
 
 -- the option `--trace`
@@ -72,13 +82,45 @@ wrap_rule = flag_rule (codes "wrap")
 abbrev pub requests_rule : Rule
 requests_rule = flag_rule (codes "requests")
 
+-- the flag `--progress`
+abbrev pub progress_rule : Rule
+progress_rule = flag_rule (codes "progress")
+
+-- the flag `--stream`
+abbrev pub stream_rule : Rule
+stream_rule = flag_rule (codes "stream")
+
+-- the option `--start`
+abbrev pub start_rule : Rule
+start_rule = cycle_rule (codes "start")
+
+-- the flag `--svg`
+abbrev pub svg_rule : Rule
+svg_rule = flag_rule (codes "svg")
+
+-- the option `--from`
+abbrev pub from_rule : Rule
+from_rule = cycle_rule (codes "from")
+
+-- the option `--to`
+abbrev pub to_rule : Rule
+to_rule = cycle_rule (codes "to")
+
 -- a subcommand with the flag
 abbrev pub with_sample : Text → App
 with_sample name = with_rule (new_app name) sample_rule
 
--- the subcommand `check`, with its own flags and its option behind
+-- a subcommand with the options that say which faults are told
+abbrev pub with_faults : App → App
+with_faults app = with_rule (with_rule (with_rule app explain_rule) all_rule) most_rule
+
+-- a subcommand with the options that say how captured commands are read
+abbrev pub with_capture : App → App
+with_capture app = with_rule (with_rule (with_rule (with_rule app stream_rule) dramsim3_rule) ramulator2_rule) start_rule
+
+-- the subcommand `check`, with its own options behind the flag
 abbrev pub check_app : App
-check_app = with_rule (with_rule (with_rule (with_sample (codes "check")) explain_rule) all_rule) most_rule
+check_app = with_capture (with_faults (with_sample (codes "check")))
 
 -- a subcommand with the options that say how a stream is read
 abbrev pub with_reading : App → App
@@ -86,25 +128,30 @@ with_reading app = with_rule (with_rule (with_rule (with_rule app dramsim3_rule)
 
 -- a subcommand with the options that say what is told of a replay
 abbrev pub with_telling : App → App
-with_telling app = with_rule (with_rule app requests_rule) trace_rule
+with_telling app = with_rule (with_rule (with_rule app requests_rule) trace_rule) progress_rule
 
 -- the subcommand `replay`, with its own options behind the flag
 abbrev pub replay_app : App
 replay_app = with_telling (with_reading (with_sample (codes "replay")))
+
+-- the subcommand `draw`, with its own flag and its options behind
+abbrev pub draw_app : App
+draw_app = with_rule (with_rule (with_rule (with_sample (codes "draw")) svg_rule) from_rule) to_rule
 
 -- the program's name, which a subcommand has to follow
 abbrev pub name_alone : App
 name_alone = let app = new_app (codes "ddr") in
     record app { top = record app.top { subcommand_required = true; disable_help_subcommand = true } }
 
--- the command line: one of six subcommands
+-- the command line: one of seven subcommands
 unfoldable pub ddr_app : App
 ddr_app =
     let sim = with_subcommand name_alone (with_rule (with_sample (codes "sim")) trace_rule).top in
     let run = with_subcommand sim (with_sample (codes "run")).top in
     let replay = with_subcommand run replay_app.top in
     let check = with_subcommand replay check_app.top in
-    let map = with_subcommand check (with_sample (codes "map")).top in
+    let draw = with_subcommand check draw_app.top in
+    let map = with_subcommand draw (with_sample (codes "map")).top in
     with_subcommand map (with_sample (codes "lint")).top
 
 -- whether the flag was used
@@ -126,6 +173,10 @@ channel_of = number_in (codes "trace")
 abbrev pub most_of : List Row → Option ℕ
 most_of = number_in (codes "most")
 
+-- the cycle that `--start` names
+abbrev pub start_of : List Row → Option ℕ
+start_of = number_in (codes "start")
+
 -- the format that the flags name, or the program's own; next to `--dramsim3` `--ramulator2` says nothing
 abbrev pub format_of : List Row → Format
 format_of options = if is_used (codes "dramsim3") options then Dramsim3 else if is_used (codes "ramulator2") options then Ramulator2 else Own
@@ -137,6 +188,14 @@ reading_of options = record { format = format_of options; spread = is_used (code
 -- what `replay` tells; next to `--trace` `--requests` asks for nothing
 abbrev pub told_of : List Row → Told
 told_of options = option_map_or (λ channel. Trace channel) (channel_of options) (if is_used (codes "requests") options then Requests else Statistics)
+
+-- whether `check` reads captured commands; `--start` and the name of a format ask for that by themselves
+abbrev pub is_streamed : List Row → Bool
+is_streamed options = is_used (codes "stream") options || is_used (codes "dramsim3") options || is_used (codes "ramulator2") options || is_some (start_of options)
+
+-- what `draw` draws; without `--svg` `--from` and `--to` ask for nothing
+abbrev pub picture_of : List Row → Picture
+picture_of options = if is_used (codes "svg") options then Lanes (number_in (codes "from") options) (number_in (codes "to") options) else Waves
 
 -- the text is that of a value that the rule's parser takes
 abbrev pub IsTaken : Rule → Text → Type 0
@@ -155,24 +214,35 @@ pub record AreTaken (options : List Row) : Type 0 where
   pub spread : IfSome (one_of (codes "spread") options) (IsTaken (filled spread_rule))
   pub wrap : IfSome (one_of (codes "wrap") options) (IsTaken (filled wrap_rule))
   pub requests : IfSome (one_of (codes "requests") options) (IsTaken (filled requests_rule))
+  pub progress : IfSome (one_of (codes "progress") options) (IsTaken (filled progress_rule))
+  pub stream : IfSome (one_of (codes "stream") options) (IsTaken (filled stream_rule))
+  pub start : IfSome (one_of (codes "start") options) (IsTaken (filled start_rule))
+  pub svg : IfSome (one_of (codes "svg") options) (IsTaken (filled svg_rule))
+  pub from : IfSome (one_of (codes "from") options) (IsTaken (filled from_rule))
+  pub to : IfSome (one_of (codes "to") options) (IsTaken (filled to_rule))
 
 abbrev pub is_subcommand : Text → Bool
-is_subcommand name = bytes_eq name (codes "sim") || bytes_eq name (codes "run") || bytes_eq name (codes "replay") || bytes_eq name (codes "check") || bytes_eq name (codes "map") || bytes_eq name (codes "lint")
+is_subcommand name = bytes_eq name (codes "sim") || bytes_eq name (codes "run") || bytes_eq name (codes "replay") || bytes_eq name (codes "check") || bytes_eq name (codes "draw") || bytes_eq name (codes "map") || bytes_eq name (codes "lint")
 
--- the job of the subcommand `check`; who asks for the first faults asks for all, which tell more than an explanation
-abbrev pub check_job : List Row → Bool → Job
-check_job options sample =
+-- the job of `check` on a whole trace; who asks for the first faults asks for all, which tell more than an explanation
+abbrev pub faults_job : List Row → Bool → Job
+faults_job options sample =
     if is_used (codes "all") options || is_some (most_of options) then All sample (most_of options)
     else if is_used (codes "explain") options then Explain sample
     else Check sample
+
+-- the job of the subcommand `check`; a stream is only judged, so next to what asks for one nothing asks for more
+abbrev pub check_job : List Row → Bool → Job
+check_job options sample = if is_streamed options then Stream sample (format_of options) (unwrap_or (start_of options) 0) else faults_job options sample
 
 -- the job of a subcommand with these options
 abbrev pub job_with : Text → List Row → Job
 job_with name options =
     if bytes_eq name (codes "sim") then Sim (is_sample options) (channel_of options)
     else if bytes_eq name (codes "run") then Run (is_sample options)
-    else if bytes_eq name (codes "replay") then Replay (is_sample options) (reading_of options) (told_of options)
+    else if bytes_eq name (codes "replay") then Replay (is_sample options) (reading_of options) (told_of options) (is_used (codes "progress") options)
     else if bytes_eq name (codes "check") then check_job options (is_sample options)
+    else if bytes_eq name (codes "draw") then Draw (is_sample options) (picture_of options)
     else if bytes_eq name (codes "map") then Map (is_sample options)
     else Lint (is_sample options)
 

@@ -19,6 +19,8 @@ pub enum Job {
         sample: bool,
         reading: Reading,
         told: Told,
+        /// Whether a line on standard error tells how far it is, about each second.
+        progress: bool,
     },
     /// Checks a trace.
     Check {
@@ -32,6 +34,17 @@ pub enum Job {
     All {
         sample: bool,
         most: Option<u32>,
+    },
+    /// Checks captured commands of each channel in one pass, from cycle `start` on, read in this form.
+    Stream {
+        sample: bool,
+        format: Format,
+        start: u64,
+    },
+    /// Draws a trace.
+    Draw {
+        sample: bool,
+        picture: Picture,
     },
     /// Says where addresses lie.
     Map {
@@ -53,15 +66,25 @@ pub struct Reading {
     pub wrap: bool,
 }
 
-/// The form of a request stream's lines.
+/// The form of a request stream's lines, or of those of captured commands.
 #[derive(Clone, Copy, Debug, PartialEq, Eq)]
 pub enum Format {
-    /// This project's own: `AT PORT read ADDR` or `AT PORT write ADDR`.
+    /// This project's own: `AT PORT read ADDR` or `AT PORT write ADDR`; of commands its trace of comma-separated values.
     Own,
-    /// That of DRAMSim3: `ADDR READ CYCLE` or `ADDR WRITE CYCLE`.
+    /// That of DRAMSim3: `ADDR READ CYCLE` or `ADDR WRITE CYCLE`; of commands the command trace that it writes.
     Dramsim3,
-    /// That of Ramulator 2's loads and stores: `LD ADDR` or `ST ADDR`, or `R` and `W` in their places.
+    /// That of Ramulator 2's loads and stores: `LD ADDR` or `ST ADDR`, or `R` and `W` in their places; of commands that of its
+    /// trace recorder.
     Ramulator2,
+}
+
+/// What a trace is drawn as.
+#[derive(Clone, Copy, Debug, PartialEq, Eq)]
+pub enum Picture {
+    /// A value change dump (IEEE 1364), which a wave viewer shows.
+    Waves,
+    /// A timeline as SVG, of the commands from cycle `from` on and before cycle `to`; one that is not said bounds nothing.
+    Lanes { from: Option<u64>, to: Option<u64> },
 }
 
 /// What a replay tells.

@@ -54,6 +54,13 @@ pub enum Fault {
     /// The replay of a request stream needs more cycles than are made.
     #[error("replay limit")]
     ReplayLimit,
+    /// A line of captured commands is of no form that is read, or names a channel that is not there. Lines count from 1, behind
+    /// the line `---`, skipped ones too.
+    #[error("capture line {line}")]
+    CaptureLine { line: u64 },
+    /// An END is not behind all captured commands, or a line stands behind END. Lines count as above.
+    #[error("capture line {line} Order")]
+    CaptureOrder { line: u64 },
     /// The trace's first record is not the header.
     #[error("trace Header")]
     TraceHeader,
@@ -131,6 +138,8 @@ impl Fault {
             | Fault::ReplayLine { .. }
             | Fault::ReplayRange { .. }
             | Fault::ReplayLimit
+            | Fault::CaptureLine { .. }
+            | Fault::CaptureOrder { .. }
             | Fault::TraceHeader
             | Fault::TraceRow { .. }
             | Fault::TraceOrder { .. }

@@ -58,6 +58,8 @@ Output: statistics as TOML, once all requests are served: tables of all channels
   each, of each port, and of how long requests took, from all ports and from each.
   With --requests a line of comma-separated values for each request in their place, in the
   order in which replies are released; with --trace the commands of that channel.
+  With --progress a line on standard error says about each second how far it is; the
+  output stays the same.
 Status: 0; 2 for a bad input or command line; 3 where the device, the memory or the
   clock fails.
 
@@ -77,11 +79,30 @@ Output: `legal`, or `fault PLACE RULE`, where PLACE counts the commands from 0. 
   line `# RULE COUNT` for each rule that is broken. --most N writes the first N lines
   alone, the counts stay those of all, and it asks for --all. Next to --all --explain
   adds nothing.
+  With --stream the body is captured commands of all channels, of any number. They are
+  read in one pass, and a verdict on each channel tells its first fault. Their lines are
+  those of a trace; with --dramsim3 those of the command trace that DRAMSim3 writes, and
+  with --ramulator2 those of Ramulator 2's trace recorder. The first cycle is 0, or that
+  of --start. --dramsim3, --ramulator2 and --start each ask for --stream, and next to
+  these --explain, --all and --most ask for nothing.
 Status: 0 where the trace is legal; 1 where it is not; 2 for a bad input or command
   line; 3 where the device or the memory fails.
 
 To paste:
   echo 'read 0 0 4' | ./ddr sim --sample --trace 0 | ./ddr check --sample";
+
+/// Behind the help of `draw`.
+pub const DRAW: &str = "\
+Input: a configuration, a line `---` and a trace; with --sample the trace alone.
+  A trace is the text that `ddr sim --trace` writes.
+Output: a value change dump (IEEE 1364), which a wave viewer shows: what stands on the
+  command bus and on the data bus, and which banks have a row open, cycle by cycle.
+  With --svg a timeline as SVG in its place, of the commands from the cycle of --from on
+  and before that of --to. Without --svg these two ask for nothing.
+Status: 0; 2 for a bad input or command line; 3 where the device or the memory fails.
+
+To paste:
+  echo 'read 0 0 4' | ./ddr sim --sample --trace 0 | ./ddr draw --sample";
 
 /// Behind the help of `map`.
 pub const MAP: &str = "\

@@ -4,19 +4,22 @@
 ghost use Rattle.std.specs.Prelude.{◌≡◌, ◌≤◌, IfOk, IsTrue, None, Ok, codes, false, length, map, true};
 ghost use Rattle.clap.specs.Words.{app_of, found_of, rows_of, rule_of, with_rule, with_subcommand};
 ghost use Rattle.clap.specs.declared.Command.TheViews.{out-Command as settings_of};
-ghost use Rattle.ddr_text.specs.Job.{Answers, AreTaken, channel_of, check_app, check_job, ddr_app, flag_rule, format_of, is_subcommand, is_used, job_of, job_with, most_of, name_alone, number_rule, reading_of, replay_app, told_of, trace_rule, with_reading, with_sample, with_telling};
+ghost use Rattle.ddr_text.specs.Job.{Answers, AreTaken, channel_of, check_app, check_job, cycle_rule, ddr_app, draw_app, faults_job, flag_rule, format_of, is_streamed, is_subcommand, is_used, job_of, job_with, most_of, name_alone, number_in, number_rule, picture_of, reading_of, replay_app, start_of, told_of, trace_rule, with_capture, with_faults, with_reading, with_sample, with_telling};
 
-use crate::command::{Format, Job, Reading, Told};
+use crate::command::{Format, Job, Picture, Reading, Told};
 use crate::help;
 use clap::{Arg, ArgAction, ArgMatches, Command, Error, value_parser};
 use std::alloc::{AllocError, Global};
 
 /// The job that the words of a command line state, of which the first is the program's name.
 ///
-/// The subcommands are `sim`, `run`, `replay`, `check`, `map` and `lint`. Each has the flag `--sample`, `sim` the option `--trace C` with
-/// the number of a channel, a `u32`, and `check` the flags `--explain` and `--all` and the option `--most N` with a `u32`, which
+/// The subcommands are `sim`, `run`, `replay`, `check`, `draw`, `map` and `lint`. Each has the flag `--sample`, `sim` the option `--trace C`
+/// with the number of a channel, a `u32`, and `check` the flags `--explain` and `--all` and the option `--most N` with a `u32`, which
 /// asks for all faults too. `replay` has the flags `--dramsim3` and `--ramulator2`, of which the first goes before the second,
-/// `--spread`, `--wrap` and `--requests`, and `--trace C`, which goes before `--requests`. No words, or the name alone, are read as `sim --sample`.
+/// `--spread`, `--wrap`, `--requests` and `--progress`, and `--trace C`, which goes before `--requests`. `check` has the flags `--stream`,
+/// `--dramsim3` and `--ramulator2` and the option `--start CYCLE` with a `u64` too: each of them asks for captured commands, and goes
+/// before `--explain`, `--all` and `--most`. `draw` has the flag `--svg`, without which its options `--from CYCLE` and `--to CYCLE`
+/// ask for nothing. No words, or the name alone, are read as `sim --sample`.
 ///
 /// Fails with an error of `clap`, whose `Display` is the text for the user, where the words are of another form,
 /// where they ask for help, and where memory runs out.
@@ -54,8 +57,13 @@ fn job_with(name: &str, options: &ArgMatches<'_>) -> Job
             sample,
             reading: reading_of(options),
             told: told_of(options),
+            progress: is_progress(options),
         },
         "check" => check_job(options, sample),
+        "draw" => Job::Draw {
+            sample,
+            picture: picture_of(options),
+        },
         "map" => Job::Map { sample },
         "lint" => Job::Lint { sample },
         _ => unreachable!(),
@@ -67,6 +75,22 @@ fn check_job(options: &ArgMatches<'_>, sample: bool) -> Job
     requires { AreTaken (rows_of (found_of options.now)) }
     ensures { result ≡ check_job (rows_of (found_of options.now)) sample }
 {
+    if is_streamed(options) {
+        Job::Stream {
+            sample,
+            format: format_of(options),
+            start: start_of(options).unwrap_or(0),
+        }
+    } else {
+        faults_job(options, sample)
+    }
+}
+
+/// The job of the subcommand `check` on a whole trace, with these options.
+fn faults_job(options: &ArgMatches<'_>, sample: bool) -> Job
+    requires { AreTaken (rows_of (found_of options.now)) }
+    ensures { result ≡ faults_job (rows_of (found_of options.now)) sample }
+{
     let most = most_of(options);
     if is_all(options) || most.is_some() {
         Job::All { sample, most }
@@ -75,6 +99,80 @@ fn check_job(options: &ArgMatches<'_>, sample: bool) -> Job
     } else {
         Job::Check { sample }
     }
+}
+
+/// Whether the options ask for captured commands to be checked.
+fn is_streamed(options: &ArgMatches<'_>) -> bool
+    requires { AreTaken (rows_of (found_of options.now)) }
+    ensures { result ≡ is_streamed (rows_of (found_of options.now)) }
+{
+    is_stream(options)
+        || is_of_dramsim3(options)
+        || is_of_ramulator2(options)
+        || start_of(options).is_some()
+}
+
+/// What the options ask `draw` for.
+fn picture_of(options: &ArgMatches<'_>) -> Picture
+    requires { AreTaken (rows_of (found_of options.now)) }
+    ensures { result ≡ picture_of (rows_of (found_of options.now)) }
+{
+    if is_svg(options) {
+        Picture::Lanes {
+            from: from_of(options),
+            to: to_of(options),
+        }
+    } else {
+        Picture::Waves
+    }
+}
+
+/// Whether the flag `--stream` was used.
+fn is_stream(options: &ArgMatches<'_>) -> bool
+    requires { AreTaken (rows_of (found_of options.now)) }
+    ensures { result ≡ is_used (codes "stream") (rows_of (found_of options.now)) }
+{
+    options.get_flag("stream")
+}
+
+/// The cycle of the option `--start`, if that was used.
+fn start_of(options: &ArgMatches<'_>) -> Option<u64>
+    requires { AreTaken (rows_of (found_of options.now)) }
+    ensures { result ≡ start_of (rows_of (found_of options.now)) }
+{
+    options.get_one::<u64>("start")
+}
+
+/// Whether the flag `--svg` was used.
+fn is_svg(options: &ArgMatches<'_>) -> bool
+    requires { AreTaken (rows_of (found_of options.now)) }
+    ensures { result ≡ is_used (codes "svg") (rows_of (found_of options.now)) }
+{
+    options.get_flag("svg")
+}
+
+/// The cycle of the option `--from`, if that was used.
+fn from_of(options: &ArgMatches<'_>) -> Option<u64>
+    requires { AreTaken (rows_of (found_of options.now)) }
+    ensures { result ≡ number_in (codes "from") (rows_of (found_of options.now)) }
+{
+    options.get_one::<u64>("from")
+}
+
+/// The cycle of the option `--to`, if that was used.
+fn to_of(options: &ArgMatches<'_>) -> Option<u64>
+    requires { AreTaken (rows_of (found_of options.now)) }
+    ensures { result ≡ number_in (codes "to") (rows_of (found_of options.now)) }
+{
+    options.get_one::<u64>("to")
+}
+
+/// Whether the flag `--progress` was used.
+fn is_progress(options: &ArgMatches<'_>) -> bool
+    requires { AreTaken (rows_of (found_of options.now)) }
+    ensures { result ≡ is_used (codes "progress") (rows_of (found_of options.now)) }
+{
+    options.get_flag("progress")
 }
 
 /// How the options say that a stream is read.
@@ -210,7 +308,8 @@ fn command<'a>(alloc: Global) -> Result<Command<'a>, AllocError>
     )?;
     let replay = with_replay(alloc, run)?;
     let check = with_check(alloc, replay)?;
-    let map = with_one(alloc, check, "map", "Says where addresses lie", help::MAP)?;
+    let draw = with_draw(alloc, check)?;
+    let map = with_one(alloc, draw, "map", "Says where addresses lie", help::MAP)?;
     with_one(
         alloc,
         map,
@@ -284,22 +383,65 @@ fn with_telling<'a>(alloc: Global, command: Command<'a>) -> Result<Command<'a>, 
     let about = "Tells of each request when it was accepted and served, as CSV";
     let listing = command.arg(flag(alloc, "requests", about))?;
     let about = "Writes the trace of this channel in place of the statistics";
-    listing.arg(number_option(alloc, "trace", "CHANNEL", about))
+    let tracing = listing.arg(number_option(alloc, "trace", "CHANNEL", about))?;
+    let about = "Says on standard error how far it is, about each second";
+    tracing.arg(flag(alloc, "progress", about))
 }
 
-/// The command with the subcommand that checks a trace, which has the flags `--explain` and `--all` and the option `--most` too.
+/// The command with the subcommand that checks a trace, which has options of its own.
 fn with_check<'a>(alloc: Global, command: Command<'a>) -> Result<Command<'a>, AllocError>
     requires local { (settings_of command).has_globals ≡ false }
     ensures app { IfOk result (λ all. app_of all ≡ with_subcommand (app_of command.entry) check_app.top) }
     ensures local { IfOk result (λ all. (settings_of all).has_globals ≡ false) }
 {
     let check = subcommand(alloc, "check", "Checks a trace of commands", help::CHECK)?;
+    let telling = with_faults(alloc, check)?;
+    command.subcommand(with_capture(alloc, telling)?)
+}
+
+/// The command with the options that say which faults are told.
+fn with_faults<'a>(alloc: Global, command: Command<'a>) -> Result<Command<'a>, AllocError>
+    requires local { (settings_of command).has_globals ≡ false }
+    ensures app { IfOk result (λ all. app_of all ≡ with_faults (app_of command.entry)) }
+    ensures local { IfOk result (λ all. (settings_of all).has_globals ≡ false) }
+{
     let about = "Says what the first fault rests on, in a sentence behind the verdict";
-    let explaining = check.arg(flag(alloc, "explain", about))?;
+    let explaining = command.arg(flag(alloc, "explain", about))?;
     let about = "Tells every fault as a line of CSV, and counts each rule";
     let telling = explaining.arg(flag(alloc, "all", about))?;
     let about = "Tells the first N faults alone, and counts all; means --all too";
-    command.subcommand(telling.arg(number_option(alloc, "most", "N", about))?)
+    telling.arg(number_option(alloc, "most", "N", about))
+}
+
+/// The command with the options that say how captured commands are read.
+fn with_capture<'a>(alloc: Global, command: Command<'a>) -> Result<Command<'a>, AllocError>
+    requires local { (settings_of command).has_globals ≡ false }
+    ensures app { IfOk result (λ all. app_of all ≡ with_capture (app_of command.entry)) }
+    ensures local { IfOk result (λ all. (settings_of all).has_globals ≡ false) }
+{
+    let about = "Checks captured commands of each channel, however many, in one pass";
+    let streaming = command.arg(flag(alloc, "stream", about))?;
+    let about = "Reads the command trace that DRAMSim3 writes; means --stream too";
+    let with_dramsim3 = streaming.arg(flag(alloc, "dramsim3", about))?;
+    let about = "Reads that of Ramulator 2's trace recorder; means --stream too";
+    let with_ramulator2 = with_dramsim3.arg(flag(alloc, "ramulator2", about))?;
+    let about = "Begins in this cycle, and not in cycle 0; means --stream too";
+    with_ramulator2.arg(cycle_option(alloc, "start", about))
+}
+
+/// The command with the subcommand that draws a trace, which has options of its own.
+fn with_draw<'a>(alloc: Global, command: Command<'a>) -> Result<Command<'a>, AllocError>
+    requires local { (settings_of command).has_globals ≡ false }
+    ensures app { IfOk result (λ all. app_of all ≡ with_subcommand (app_of command.entry) draw_app.top) }
+    ensures local { IfOk result (λ all. (settings_of all).has_globals ≡ false) }
+{
+    let draw = subcommand(alloc, "draw", "Draws a trace of commands", help::DRAW)?;
+    let about = "Draws a timeline as SVG, in place of a value change dump";
+    let with_svg = draw.arg(flag(alloc, "svg", about))?;
+    let about = "Draws the commands from this cycle on, with --svg";
+    let with_from = with_svg.arg(cycle_option(alloc, "from", about))?;
+    let about = "Draws the commands before this cycle, with --svg";
+    command.subcommand(with_from.arg(cycle_option(alloc, "to", about))?)
 }
 
 /// The command with one more subcommand.
@@ -337,6 +479,18 @@ fn number_option<'a>(alloc: Global, name: &'a str, value: &'a str, about: &'a st
         .long(name)
         .value_name(value)
         .value_parser(value_parser!(u32))
+        .help(about)
+}
+
+/// An option of this name, whose value is a cycle, a `u64`.
+fn cycle_option<'a>(alloc: Global, name: &'a str, about: &'a str) -> Arg<'a>
+    ensures rule { rule_of result ≡ cycle_rule name.entry.now }
+    ensures local { result.global ≡ false }
+{
+    Arg::new(alloc, name)
+        .long(name)
+        .value_name("CYCLE")
+        .value_parser(value_parser!(u64))
         .help(about)
 }
 

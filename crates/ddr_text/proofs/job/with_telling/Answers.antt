@@ -6,9 +6,11 @@ use Rattle.ddr_text.proofs.job.with_telling.Goals as goal
 pub returns-clause-app : goal.returns-clause-app
 returns-clause-app c =
     let listing_is = c.in_ok-listing.ensures.shape c.flag.ensures.local ∙ ap₂ with_rule refl c.flag.ensures.rule in
-    IfOk-weaker c.arg-2.result _ _ (λ all h. h.shape c.number_option.ensures.local ∙ ap₂ with_rule listing_is c.number_option.ensures.rule) c.arg-2.ensures
+    let tracing_is = c.in_ok-tracing.ensures.shape c.number_option.ensures.local ∙ ap₂ with_rule listing_is c.number_option.ensures.rule in
+    IfOk-weaker c.arg-3.result _ _ (λ all h. h.shape c.flag-2.ensures.local ∙ ap₂ with_rule tracing_is c.flag-2.ensures.rule) c.arg-3.ensures
 
 pub returns-clause-local : goal.returns-clause-local
 returns-clause-local c =
     let listing_local = c.in_ok-listing.ensures.globals ∙ ap₂ ◌||◌ c.requires.local c.flag.ensures.local in
-    IfOk-weaker c.arg-2.result _ _ (λ all h. h.globals ∙ ap₂ ◌||◌ listing_local c.number_option.ensures.local) c.arg-2.ensures
+    let tracing_local = c.in_ok-tracing.ensures.globals ∙ ap₂ ◌||◌ listing_local c.number_option.ensures.local in
+    IfOk-weaker c.arg-3.result _ _ (λ all h. h.globals ∙ ap₂ ◌||◌ tracing_local c.flag-2.ensures.local) c.arg-3.ensures
