@@ -4,7 +4,7 @@ use Rattle.std.specs.Io.KnownBytes.{Appends}
 use Rattle.ddr_timing.specs.declared.config.Config.{Config}
 use Rattle.ddr_text.specs.declared.command.Reading.{Reading}
 use Rattle.ddr_text.specs.declared.command.Told.{Told}
-use Rattle.ddr_text.specs.Body.{IsOpened, IsRefused, parts_of}
+use Rattle.ddr_text.specs.Body.{HasParts, IsRefused, parts_of}
 use Rattle.ddr_text.specs.Instructions.{◌>>>◌}
 use Rattle.ddr_text.specs.Sink.{write_fault}
 use Rattle.ddr_text.specs.declared.fault.Fault.{Fault}
@@ -80,7 +80,7 @@ trace_said view (Ok x) text is refused = ap (λ (t : List ℕ). Ok t) (sym is)
 trace_said view (Err fault) text is refused = rw refused tt
 
 -- what was read and opened says what the body says
-pub said_of : (remaining : Option (List ℕ)) (items text profile : List ℕ) (sample : Bool) (reading : Reading) (told : Told) (config : Config) (body : List ℕ) (said : Result (List ℕ) Fault) → IfSome remaining (λ bytes. items ≡ bytes) → text ≡ items → IsStream items → IsOpened (parts_of sample profile text) config body → report_of config reading told body ≡ said
+pub said_of : (remaining : Option (List ℕ)) (items text profile : List ℕ) (sample : Bool) (reading : Reading) (told : Told) (config : Config) (body : List ℕ) (said : Result (List ℕ) Fault) → IfSome remaining (λ bytes. items ≡ bytes) → text ≡ items → IsStream items → HasParts (parts_of sample profile text) config body → report_of config reading told body ≡ said
     → IfSome remaining (λ input. Says sample profile reading told input said)
 said_of None items text profile sample reading told config body said known same is_text opened e = tt
 said_of (Some input) items text profile sample reading told config body said known same is_text opened e =
@@ -88,7 +88,7 @@ said_of (Some input) items text profile sample reading told config body said kno
       text = is_text;
       config = config;
       body = body;
-      opened = subst (λ t. IsOpened (parts_of sample profile t) config body) same opened;
+      opened = subst (λ t. HasParts (parts_of sample profile t) config body) same opened;
       report = e;
     })
 

@@ -9,7 +9,7 @@ use Rattle.ddr_text.specs.declared.command.Reading.{Reading}
 use Rattle.ddr_text.specs.declared.command.Told.{Told}
 use Rattle.ddr_text.specs.declared.command.Told.TheVariants as told
 use Rattle.ddr_sim.specs.Runs.{channel_text}
-use Rattle.ddr_text.specs.Body.{IsOpened, IsRefused, parts_of}
+use Rattle.ddr_text.specs.Body.{HasParts, IsRefused, parts_of}
 use Rattle.ddr_text.specs.Instructions.{◌>>>◌}
 use Rattle.ddr_replay.specs.declared.replaying.TheConstants.{MOST_ROUNDS}
 use Rattle.ddr_stream.specs.declared.stream.TheConstants.{LONGEST_STREAM}
@@ -85,7 +85,7 @@ pub record Says (sample : Bool) (profile : List ℕ) (reading : Reading) (told :
   pub text : IsStream input
   pub config : Config
   pub body : List ℕ
-  pub opened : IsOpened (parts_of sample profile input) config body
+  pub opened : HasParts (parts_of sample profile input) config body
   pub report : report_of config reading told body ≡ said
 
 -- what a replay without a fault writes

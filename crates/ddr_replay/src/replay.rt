@@ -9,7 +9,7 @@ use crate::numbers::requests_of;
 use crate::replaying::Replaying;
 use crate::telling::told_of;
 use ddr_stream::stream::{LONGEST_STREAM, queues_of};
-use ddr_text::body::open;
+use ddr_text::body::take_apart;
 use ddr_text::command::{Reading, Told};
 use ddr_text::fault::Fault;
 use ddr_text::input::read_at_most;
@@ -29,7 +29,7 @@ use std::str;
 /// most the rounds made so far and they aren't refused; then comes the round of `sim`; until every request was submitted and its
 /// reply released. Then `told` says what is written: statistics as TOML, the requests as CSV, or a channel's trace.
 ///
-/// Fails as `open` does, then as `TraceNoSuch` where there is no channel of that number, then as `ReplayLine` or `ReplayRange` at
+/// Fails as `take_apart` does, then as `TraceNoSuch` where there is no channel of that number, then as `ReplayLine` or `ReplayRange` at
 /// the first line of the stream that is at fault, then as `ReplayLimit` where more than `MOST_ROUNDS` rounds are needed, or as
 /// `ClockSpent`. Nothing is written before all of it is there, so only `Write` may leave a part of it. Over bytes in memory it
 /// never fails as `Read` or as `Write`.
@@ -54,7 +54,7 @@ pub fn replay<R: Source, W: Sink>(
 {
     let input = read_at_most(alloc, LONGEST_STREAM, reader)?;
     let text = text_of(input.as_slice())?;
-    let (config, body) = open(alloc, sample, text)?;
+    let (config, body) = take_apart(alloc, sample, text)?;
     let report = report_of(alloc, &config, reading, told, body)?;
     write_bytes(writer, report.as_slice())
 }

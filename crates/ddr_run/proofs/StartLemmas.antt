@@ -6,7 +6,7 @@ use Rattle.ddr_text.specs.declared.fault.Fault.{Fault}
 use Rattle.ddr_text.specs.declared.fault.Fault.TheVariants as faults
 use Rattle.ddr_run.specs.declared.flag.Stop.{Stop}
 use Rattle.ddr_run.specs.declared.flag.Stop.TheVariants as stops
-use Rattle.ddr_text.specs.Body.{IsOpened, IsRefused, parts_of}
+use Rattle.ddr_text.specs.Body.{HasParts, IsRefused, parts_of}
 use Rattle.ddr_text.specs.Input.{IsText}
 use Rattle.ddr_text.specs.Instructions.{AreRead, form_of, instructions_of}
 use Rattle.ddr_text.specs.Requests.{IsTaken, first_fault}
@@ -20,11 +20,11 @@ pub of_input : (remaining : Option (List ℕ)) (items text : List ℕ) (P : List
 of_input None items text P known same p = tt
 of_input (Some input) items text P known same p = subst P (same ∙ known) p
 
-abbrev says : (text profile : List ℕ) (sample : Bool) (config : Config) (body : List ℕ) (said : Result (List Instruction) Fault) → IsText text → IsOpened (parts_of sample profile text) config body → instructions_of (form_of config false) body ≡ said → SaysRequests sample profile text config said
+abbrev says : (text profile : List ℕ) (sample : Bool) (config : Config) (body : List ℕ) (said : Result (List Instruction) Fault) → IsText text → HasParts (parts_of sample profile text) config body → instructions_of (form_of config false) body ≡ said → SaysRequests sample profile text config said
 says text profile sample config body said is_text opened e = record { text = is_text; body = body; opened = opened; script = e }
 
 -- a script whose lines are read
-pub checked : (text profile : List ℕ) (sample : Bool) (config : Config) (body : List ℕ) (instructions : List Instruction) (fault : Option Fault) → IsText text → IsOpened (parts_of sample profile text) config body → instructions_of (form_of config false) body ≡ Ok instructions
+pub checked : (text profile : List ℕ) (sample : Bool) (config : Config) (body : List ℕ) (instructions : List Instruction) (fault : Option Fault) → IsText text → HasParts (parts_of sample profile text) config body → instructions_of (form_of config false) body ≡ Ok instructions
     → first_fault config 0 (lines body) ≡ fault → AreChecked sample profile text config instructions fault
 checked text profile sample config body instructions fault is_text opened script requests = record {
   says = says text profile sample config body (Ok instructions) is_text opened script;
@@ -64,7 +64,7 @@ parts_fault text profile sample faults.PortBroken is_text refused = not_of_parts
 parts_fault text profile sample faults.ThreadsRefused is_text refused = not_of_parts (parts_of sample profile text) faults.ThreadsRefused refused refl
 
 -- a script that is at fault by a line alone
-pub no_requests : {X : Type 0} (view : X → List Instruction) (text profile : List ℕ) (sample : Bool) (config : Config) (body : List ℕ) (fault : Fault) → IsText text → IsOpened (parts_of sample profile text) config body → AreRead view (Err fault) (instructions_of (form_of config false) body)
+pub no_requests : {X : Type 0} (view : X → List Instruction) (text profile : List ℕ) (sample : Bool) (config : Config) (body : List ℕ) (fault : Fault) → IsText text → HasParts (parts_of sample profile text) config body → AreRead view (Err fault) (instructions_of (form_of config false) body)
     → HasRunFault sample profile text fault
 no_requests view text profile sample config body faults.OutOfMemory is_text opened is = tt
 no_requests view text profile sample config body faults.ScriptLimit is_text opened is = (config, says text profile sample config body (Err faults.ScriptLimit) is_text opened is)
@@ -72,7 +72,7 @@ no_requests view text profile sample config body (faults.ScriptLine line) is_tex
 no_requests view text profile sample config body _ is_text opened is = absurd is
 
 -- a request that no port takes
-pub not_taken : (text profile : List ℕ) (sample : Bool) (config : Config) (body : List ℕ) (instructions : List Instruction) (fault : Fault) → IsText text → IsOpened (parts_of sample profile text) config body → instructions_of (form_of config false) body ≡ Ok instructions
+pub not_taken : (text profile : List ℕ) (sample : Bool) (config : Config) (body : List ℕ) (instructions : List Instruction) (fault : Fault) → IsText text → HasParts (parts_of sample profile text) config body → instructions_of (form_of config false) body ≡ Ok instructions
     → IsTaken (Err fault) (first_fault config 0 (lines body)) → HasRunFault sample profile text fault
 not_taken text profile sample config body instructions faults.OutOfMemory is_text opened script is = tt
 not_taken text profile sample config body instructions (faults.RequestLine line cause) is_text opened script is =

@@ -13,7 +13,7 @@ use Rattle.ddr_run.specs.declared.flag.Stop.{Stop}
 use Rattle.ddr_run.specs.declared.flag.Stop.TheVariants as stops
 use Rattle.ddr_run.specs.declared.hosting.Hosted.{Hosted}
 use Rattle.ddr_run.specs.declared.run.TheConstants.{RUN}
-use Rattle.ddr_text.specs.Body.{HasInputFault, IsOpened, parts_of}
+use Rattle.ddr_text.specs.Body.{HasInputFault, HasParts, parts_of}
 use Rattle.ddr_text.specs.Input.{IsText}
 use Rattle.ddr_text.specs.Instructions.{form_of, instructions_of}
 use Rattle.ddr_run.specs.Outcome.{AreVerdicts, texts_of}
@@ -39,7 +39,7 @@ comes_from_start stop = false
 pub record SaysRequests (sample : Bool) (profile : List ℕ) (input : List ℕ) (config : Config) (said : Result (List Instruction) Fault) : Type 0 where
   pub text : IsText input
   pub body : List ℕ
-  pub opened : IsOpened (parts_of sample profile input) config body
+  pub opened : HasParts (parts_of sample profile input) config body
   pub script : instructions_of (form_of config false) body ≡ said
 
 -- the script is at fault by a line alone

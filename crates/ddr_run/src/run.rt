@@ -10,7 +10,7 @@ ghost use Rattle.ddr_run.specs.Started.{AreChecked, HasRunFault, IsRan, IsStoppe
 use crate::flag::Stop;
 use crate::outcome::{replies_of, verdicts_of};
 use crate::threads::run_all;
-use ddr_text::body::open;
+use ddr_text::body::take_apart;
 use ddr_text::fault::Fault;
 use ddr_text::input::{read_input, text_of};
 use ddr_text::instructions::{Form, instructions_of};
@@ -38,7 +38,7 @@ const RUN: u64 = 0;
 /// PLACE RULE` for the first fault of its trace. Answers whether all traces are legal, which is proved to be so: no trace has a
 /// fault.
 ///
-/// Fails as `open` does, then as `ScriptLine` at the first line of the script that is at fault, of which `cycle` is
+/// Fails as `take_apart` does, then as `ScriptLine` at the first line of the script that is at fault, of which `cycle` is
 /// one, or as `ScriptLimit` at the first request too many, and then as `RequestLine` at the first request that no port
 /// takes. Where a thread stops before its end it fails as `OutOfMemory`, `ClockSpent` or `PortBroken`, and where the system
 /// gives too few threads as `ThreadsRefused`. Nothing is written before all threads ended. Over bytes in memory it never fails
@@ -79,7 +79,7 @@ fn read_requests(
     ensures err { IfErr result (HasRunFault sample PROFILE_S.now text.now) }
     ensures sure { IfErr result (λ fault. fault ≢ Fault.Write) }
 {
-    let (config, body) = open(alloc, sample, text)?;
+    let (config, body) = take_apart(alloc, sample, text)?;
     let form = Form {
         ports: config.limits.ports,
         rounds: false,

@@ -8,7 +8,7 @@ use Rattle.ddr_world.specs.Kept.{state_of}
 use Rattle.ddr_world.specs.State.{IsDrained}
 use Rattle.ddr_text.specs.declared.fault.Fault.{Fault}
 use Rattle.ddr_text.specs.declared.fault.Fault.TheVariants as faults
-use Rattle.ddr_text.specs.Body.{IsOpened, IsRefused, parts_of}
+use Rattle.ddr_text.specs.Body.{HasParts, IsRefused, parts_of}
 use Rattle.ddr_text.specs.Fault.{is_before_output}
 use Rattle.ddr_text.specs.Input.{IsText}
 use Rattle.ddr_text.specs.Instructions.{AreRead, form_of, instructions_of}
@@ -21,19 +21,19 @@ use Rattle.ddr_sim.specs.Sims.{AsksFor, HasSimFault, IsBeginning, IsRun, NamesNo
 
 -- what was read and opened says what the body says
 pub said_by : (remaining : Option (List ℕ)) (items text profile : List ℕ) (sample : Bool) (trace : Option ℕ) (config : Config) (body : List ℕ) (said : Result (List Instruction) Fault) → IfSome remaining (λ bytes. items ≡ bytes) → text ≡ items → IsText items
-    → IsOpened (parts_of sample profile text) config body → has_channel config trace ≡ true → instructions_of (form_of config true) body ≡ said → IfSome remaining (λ input. Says sample profile trace input config said)
+    → HasParts (parts_of sample profile text) config body → has_channel config trace ≡ true → instructions_of (form_of config true) body ≡ said → IfSome remaining (λ input. Says sample profile trace input config said)
 said_by None items text profile sample trace config body said known same is_text opened there e = tt
 said_by (Some input) items text profile sample trace config body said known same is_text opened there e =
     subst (λ i. Says sample profile trace i config said) known (record {
       text = is_text;
       body = body;
-      opened = subst (λ t. IsOpened (parts_of sample profile t) config body) same opened;
+      opened = subst (λ t. HasParts (parts_of sample profile t) config body) same opened;
       there = there;
       script = e;
     })
 
 -- a channel that is not there
-pub names_no_channel : (remaining : Option (List ℕ)) (items text profile : List ℕ) (sample : Bool) (trace : Option ℕ) (config : Config) (body : List ℕ) → IfSome remaining (λ bytes. items ≡ bytes) → text ≡ items → IsText items → IsOpened (parts_of sample profile text) config body → has_channel config trace ≡ false
+pub names_no_channel : (remaining : Option (List ℕ)) (items text profile : List ℕ) (sample : Bool) (trace : Option ℕ) (config : Config) (body : List ℕ) → IfSome remaining (λ bytes. items ≡ bytes) → text ≡ items → IsText items → HasParts (parts_of sample profile text) config body → has_channel config trace ≡ false
     → IfSome remaining (λ input. NamesNoChannel sample profile trace input)
 names_no_channel None items text profile sample trace config body known same is_text opened absent = tt
 names_no_channel (Some input) items text profile sample trace config body known same is_text opened absent =
@@ -41,7 +41,7 @@ names_no_channel (Some input) items text profile sample trace config body known 
       text = is_text;
       config = config;
       body = body;
-      opened = subst (λ t. IsOpened (parts_of sample profile t) config body) same opened;
+      opened = subst (λ t. HasParts (parts_of sample profile t) config body) same opened;
       absent = absent;
     })
 

@@ -4,7 +4,7 @@ use Rattle.std.specs.Io.KnownBytes.{Appends}
 use Rattle.ddr_timing.specs.declared.config.Config.{Config}
 use Rattle.ddr_text.specs.declared.fault.Fault.{Fault}
 use Rattle.ddr_text.specs.declared.fault.Fault.TheVariants as faults
-use Rattle.ddr_text.specs.Body.{HasInputFault, IsOpened, parts_of}
+use Rattle.ddr_text.specs.Body.{HasInputFault, HasParts, parts_of}
 use Rattle.ddr_text.specs.Input.{IsText}
 use Rattle.ddr_text.specs.Instructions.{form_of, instructions_of}
 use Rattle.ddr_world.specs.State.{IsDrained}
@@ -23,7 +23,7 @@ has_channel config (Some channel) = nat_lt channel config.geometry.channels
 pub record Says (sample : Bool) (profile : List ℕ) (trace : Option ℕ) (input : List ℕ) (config : Config) (said : Result (List Instruction) Fault) : Type 0 where
   pub text : IsText input
   pub body : List ℕ
-  pub opened : IsOpened (parts_of sample profile input) config body
+  pub opened : HasParts (parts_of sample profile input) config body
   pub there : has_channel config trace ≡ true
   pub script : instructions_of (form_of config true) body ≡ said
 
@@ -43,7 +43,7 @@ pub record NamesNoChannel (sample : Bool) (profile : List ℕ) (trace : Option �
   pub text : IsText input
   pub config : Config
   pub body : List ℕ
-  pub opened : IsOpened (parts_of sample profile input) config body
+  pub opened : HasParts (parts_of sample profile input) config body
   pub absent : has_channel config trace ≡ false
 
 -- what a run without a fault writes; at its end the core is drained

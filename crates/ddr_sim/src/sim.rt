@@ -6,7 +6,7 @@ ghost use Rattle.ddr_text.specs.Fault.{is_before_output};
 ghost use Rattle.ddr_sim.specs.Sims.{HasSimFault, IsRun, has_channel};
 
 use crate::simulation::Simulation;
-use ddr_text::body::open;
+use ddr_text::body::take_apart;
 use ddr_text::fault::Fault;
 use ddr_text::input::{read_source, text_of};
 use ddr_text::instructions::{Form, instructions_of};
@@ -23,7 +23,7 @@ use std::alloc::Global;
 /// line `---` and the script, which is read whole before its first step. Where `trace` is none, each reply and each
 /// refusal is written as a line when it comes; where it names a channel, only the trace of that channel is, at the end.
 ///
-/// Fails as `open` does, then as `TraceNoSuch` where there is no such channel, then as `ScriptLine` at the first
+/// Fails as `take_apart` does, then as `TraceNoSuch` where there is no such channel, then as `ScriptLine` at the first
 /// line of the script that is at fault, or as `ScriptLimit` at the first request too many. At these nothing is written.
 /// A run that needs too many rounds fails as `ScriptLimit` too, and what was written before stands, as at every later
 /// fault; of a trace nothing is written where memory runs out. At its end the core is drained and closed; one that is not
@@ -45,7 +45,7 @@ pub fn sim<R: Source, W: Sink>(
 {
     let input = read_source(alloc, reader)?;
     let text = text_of(input.as_slice())?;
-    let (config, body) = open(alloc, sample, text)?;
+    let (config, body) = take_apart(alloc, sample, text)?;
     if !has_channel(&config, trace) {
         return Err(Fault::TraceNoSuch);
     }

@@ -12,21 +12,21 @@ use Rattle.ddr_trace.proofs.RefusalLemmas.{NotWrite}
 use Rattle.ddr_trace.specs.Traces.{Recorded}
 use Rattle.ddr_text.specs.declared.fault.Fault.{Fault}
 use Rattle.ddr_text.specs.declared.fault.Fault.TheVariants as faults
-use Rattle.ddr_text.specs.Body.{IsOpened, IsRefused, parts_of}
+use Rattle.ddr_text.specs.Body.{HasParts, IsRefused, parts_of}
 use Rattle.ddr_text.specs.Check.{HasCheckFault, IsChecked, IsVerdict, SaysTrace, verdict_text}
 use Rattle.ddr_text.specs.Fault.{trace_fault_of}
 use Rattle.ddr_text.specs.Sink.{write_fault}
 use Rattle.ddr_text.proofs.BodyLemmas.{not_of_parts}
 
 -- what was read says what the body's records say
-pub trace_said : (remaining : Option (List ℕ)) (items text profile : List ℕ) (sample : Bool) (config : Config) (body : List ℕ) (said : Result Recorded TraceError) → IfSome remaining (λ bytes. items ≡ bytes) → text ≡ items → IsText items → IsOpened (parts_of sample profile text) config body → trace_of (records_in body) ≡ said
+pub trace_said : (remaining : Option (List ℕ)) (items text profile : List ℕ) (sample : Bool) (config : Config) (body : List ℕ) (said : Result Recorded TraceError) → IfSome remaining (λ bytes. items ≡ bytes) → text ≡ items → IsText items → HasParts (parts_of sample profile text) config body → trace_of (records_in body) ≡ said
     → IfSome remaining (λ input. SaysTrace sample profile input config said)
 trace_said None items text profile sample config body said known same is_text opened read = tt
 trace_said (Some input) items text profile sample config body said known same is_text opened read =
     subst (λ i. SaysTrace sample profile i config said) known (record {
       text = is_text;
       body = body;
-      opened = subst (λ t. IsOpened (parts_of sample profile t) config body) same opened;
+      opened = subst (λ t. HasParts (parts_of sample profile t) config body) same opened;
       read = read;
     })
 

@@ -13,7 +13,7 @@ use Rattle.ddr_address_map.specs.Map.{place_of}
 use Rattle.ddr_timing.specs.declared.config.Config.{Config}
 use Rattle.ddr_text.specs.declared.fault.Fault.{Fault}
 use Rattle.ddr_text.specs.declared.fault.Fault.TheVariants as faults
-use Rattle.ddr_text.specs.Body.{IsOpened, IsRefused, parts_of}
+use Rattle.ddr_text.specs.Body.{HasParts, IsRefused, parts_of}
 use Rattle.ddr_text.specs.MapText.{HasMapFault, IsMapFault, IsMapped, SaysPlaces, address_text, line_text, map_text, text_from}
 use Rattle.ddr_text.specs.Sink.{write_fault}
 use Rattle.ddr_text.proofs.BodyLemmas.{not_of_parts}
@@ -60,7 +60,7 @@ pub text_end : (shape : Geometry) (texts : List (List ℕ)) (count : ℕ) (text 
 text_end shape texts count text all le so_far = sym so_far ∙ at_drop_all (text_from shape count text) texts count le
 
 -- what was read and opened says what the body says
-pub said_of : (remaining : Option (List ℕ)) (items text sample_text : List ℕ) (sample : Bool) (config : Config) (body : List ℕ) (shape : Geometry) (said : Result (List ℕ) ℕ) → IfSome remaining (λ bytes. items ≡ bytes) → text ≡ items → IsText items → IsOpened (parts_of sample sample_text text) config body → shape ≡ config.geometry → map_text shape body ≡ said
+pub said_of : (remaining : Option (List ℕ)) (items text sample_text : List ℕ) (sample : Bool) (config : Config) (body : List ℕ) (shape : Geometry) (said : Result (List ℕ) ℕ) → IfSome remaining (λ bytes. items ≡ bytes) → text ≡ items → IsText items → HasParts (parts_of sample sample_text text) config body → shape ≡ config.geometry → map_text shape body ≡ said
     → IfSome remaining (λ input. SaysPlaces sample sample_text input said)
 said_of None items text sample_text sample config body shape said known same is_text opened e mapped = tt
 said_of (Some input) items text sample_text sample config body shape said known same is_text opened e mapped =
@@ -68,7 +68,7 @@ said_of (Some input) items text sample_text sample config body shape said known 
       text = is_text;
       config = config;
       body = body;
-      opened = subst (λ t. IsOpened (parts_of sample sample_text t) config body) same opened;
+      opened = subst (λ t. HasParts (parts_of sample sample_text t) config body) same opened;
       mapped = ap (λ g. map_text g body) (sym e) ∙ mapped;
     })
 

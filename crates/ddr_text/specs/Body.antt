@@ -38,8 +38,8 @@ abbrev pub IsConfig : List ℕ → Config → Type 0
 IsConfig text config = IsReadAs (parse_document text) config
 
 -- the configuration is what the first part says, and the body is the second
-abbrev pub IsOpened : Option (List ℕ × List ℕ) → Config → List ℕ → Type 0
-IsOpened parts config body = IsSomeAnd parts (λ p. IsConfig p.0 config × (body ≡ p.1))
+abbrev pub HasParts : Option (List ℕ × List ℕ) → Config → List ℕ → Type 0
+HasParts parts config body = IsSomeAnd parts (λ p. IsConfig p.0 config × (body ≡ p.1))
 
 -- the first refusal of the configuration is this fault, or memory ran out
 abbrev pub HasConfigFault : List ℕ → Fault → Type 0

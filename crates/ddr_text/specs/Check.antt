@@ -12,7 +12,7 @@ use Rattle.ddr_trace.specs.Reader.{records_in, trace_of}
 use Rattle.ddr_trace.specs.Traces.{Recorded}
 use Rattle.ddr_text.specs.declared.fault.Fault.{Fault}
 use Rattle.ddr_text.specs.declared.fault.Fault.TheVariants as faults
-use Rattle.ddr_text.specs.Body.{HasInputFault, IsOpened, parts_of}
+use Rattle.ddr_text.specs.Body.{HasInputFault, HasParts, parts_of}
 use Rattle.ddr_text.specs.Input.{IsText}
 
 -- the line that is written: the trace is legal, or the place of its first fault and the rule broken there
@@ -30,7 +30,7 @@ IsVerdict config trace (Some fault) = IsFirstFault config trace.start trace.end 
 pub record SaysTrace (sample : Bool) (profile input : List ℕ) (config : Config) (said : Result Recorded TraceError) : Type 0 where
   pub text : IsText input
   pub body : List ℕ
-  pub opened : IsOpened (parts_of sample profile input) config body
+  pub opened : HasParts (parts_of sample profile input) config body
   pub read : trace_of (records_in body) ≡ said
 
 -- what a check without a fault writes and answers

@@ -13,7 +13,7 @@ use Rattle.ddr_address_map.specs.declared.place.Place.{Place}
 use Rattle.ddr_text.specs.declared.fault.Fault.{Fault}
 use Rattle.ddr_text.specs.declared.fault.Fault.TheVariants as faults
 use Rattle.ddr_trace.specs.Numbers.{number_of}
-use Rattle.ddr_text.specs.Body.{HasInputFault, IsOpened, parts_of}
+use Rattle.ddr_text.specs.Body.{HasInputFault, HasParts, parts_of}
 use Rattle.ddr_text.specs.Input.{IsText}
 use Rattle.ddr_text.specs.Script.{LARGEST}
 
@@ -56,7 +56,7 @@ pub record SaysPlaces (sample : Bool) (profile input : List ℕ) (said : Result 
   pub text : IsText input
   pub config : Config
   pub body : List ℕ
-  pub opened : IsOpened (parts_of sample profile input) config body
+  pub opened : HasParts (parts_of sample profile input) config body
   pub mapped : map_text config.geometry body ≡ said
 
 -- what a map without a fault writes

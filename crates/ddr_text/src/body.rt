@@ -3,7 +3,7 @@
 //! `fault` and `ddr_timing` stand below; every command takes its input apart by this.
 ghost use Rattle.std.specs.Prelude.{◌≡◌, ◌≤◌, ◌++◌, ◌∷◌, IfErr, IfOk, None, Some, false, length};
 ghost use Rattle.std.specs.Str.Lines.{lines};
-ghost use Rattle.ddr_text.specs.Body.{HasConfigFault, IsConfig, IsOpened, IsRefused, has_mark, is_mark, parts_of, split_of};
+ghost use Rattle.ddr_text.specs.Body.{HasConfigFault, IsConfig, HasParts, IsRefused, has_mark, is_mark, parts_of, split_of};
 
 use crate::fault::Fault;
 use ddr_timing::config::Config;
@@ -17,8 +17,8 @@ const MARK: &str = "---";
 ///
 /// With `sample` the configuration is the sample and the whole text is the body; else the text has both parts.
 /// Fails as `InputHasNoMark` where it has not, then by the first refusal of the configuration, and as `OutOfMemory`.
-pub fn open(alloc: Global, sample: bool, text: &str) -> Result<(Config, &str), Fault>
-    ensures opened { IfOk result (λ opened. IsOpened (parts_of sample PROFILE_S.now text.now) opened.0 opened.1.now) }
+pub fn take_apart(alloc: Global, sample: bool, text: &str) -> Result<(Config, &str), Fault>
+    ensures opened { IfOk result (λ opened. HasParts (parts_of sample PROFILE_S.now text.now) opened.0 opened.1.now) }
     ensures short { IfOk result (λ opened. length opened.1.now ≤ length text.now) }
     ensures refused { IfErr result (IsRefused (parts_of sample PROFILE_S.now text.now)) }
 {

@@ -8,7 +8,7 @@ ghost use Rattle.ddr_trace.specs.Reader.{IsAnswer, records_in, trace_of};
 ghost use Rattle.ddr_text.specs.Check.{HasCheckFault, IsChecked, IsVerdict, SaysTrace, in_memory, verdict_text};
 ghost use Rattle.ddr_text.specs.Fault.{is_before_output};
 
-use crate::body::open;
+use crate::body::take_apart;
 use crate::canonical::canonical_trace;
 use crate::fault::Fault;
 use crate::input::{read_source, text_of};
@@ -32,7 +32,7 @@ use std::alloc::{AllocError, Global};
 /// configuration of either version, a line `---` and the text. A place counts the commands from 0, and is their number where the
 /// trace's end is at fault.
 ///
-/// Fails as `open` does, and by the fault that comes first in the trace's text; as `Read` where the reader fails and as
+/// Fails as `take_apart` does, and by the fault that comes first in the trace's text; as `Read` where the reader fails and as
 /// `Write` where the writer does, and so never over bytes in memory. Nothing is written before the verdict is there, so only
 /// `Write` may leave a part of it.
 pub fn check<R: Source, W: Sink>(
@@ -74,7 +74,7 @@ pub fn read_checked<R: Source>(
 {
     let input = read_source(alloc, reader)?;
     let text = text_of(input.as_slice())?;
-    let (config, body) = open(alloc, sample, text)?;
+    let (config, body) = take_apart(alloc, sample, text)?;
     let trace = trace_in(alloc, &config.geometry, body)?;
     Ok((config, trace))
 }

@@ -6,7 +6,7 @@ ghost use Rattle.ddr_text.specs.MapText.{HasMapFault, IsMapFault, IsMapped, addr
 ghost use Rattle.ddr_text.specs.Fault.{is_before_output};
 ghost use Rattle.ddr_text.specs.Lines.{Gives};
 
-use crate::body::open;
+use crate::body::take_apart;
 use crate::fault::Fault;
 use crate::input::{LONGEST_INPUT, read_source, text_of};
 use crate::script::{LineError, number};
@@ -25,7 +25,7 @@ use std::alloc::{AllocError, Global};
 /// For each one line is written: `ADDR CHANNEL GROUP BANK ROW COL OFFSET`, under version 2 with `RANK` behind `CHANNEL`,
 /// where `COL` counts device columns and `OFFSET` bytes, or `ADDR out` from the capacity on. Empty lines are skipped.
 ///
-/// Fails as `open` does, as `MapLine` at the first line that is no address, and as `Write` where the writer fails, and so
+/// Fails as `take_apart` does, as `MapLine` at the first line that is no address, and as `Write` where the writer fails, and so
 /// never over bytes in memory. Nothing is written before the whole text is there, so only `Write` may leave a part of it.
 pub fn map<R: Source, W: Sink>(
     alloc: Global,
@@ -45,7 +45,7 @@ pub fn map<R: Source, W: Sink>(
 {
     let input = read_source(alloc, reader)?;
     let text = text_of(input.as_slice())?;
-    let (config, body) = open(alloc, sample, text)?;
+    let (config, body) = take_apart(alloc, sample, text)?;
     let lines = map_text(alloc, &Map::new(&config), body)?;
     write_whole(writer, lines.as_str())
 }

@@ -1,5 +1,5 @@
 //! Inputs taken apart at their mark.
-use ddr_text::body::{open, split};
+use ddr_text::body::{split, take_apart};
 use ddr_text::fault::Fault;
 use ddr_timing::key::Key;
 use ddr_timing::profile::{PROFILE_S, PROFILE_S2};
@@ -70,7 +70,7 @@ fn is_opened(
     text: &str,
     wanted: &str,
 ) -> Result<(), Fail> {
-    let (config, body) = open(alloc, sample, text)?;
+    let (config, body) = take_apart(alloc, sample, text)?;
     assert_eq!(rt; config.geometry.rows, 16);
     assert_eq!(rt; body, wanted);
     Ok(())
@@ -94,7 +94,11 @@ const REFUSED: &[(&str, Fault)] = &[
 
 /// That a text has this fault.
 fn is_refused(rt: &impl Abort, alloc: Global, text: &str, fault: Fault) {
-    assert_eq!(rt; open(alloc, false, text).err(), Some(fault), "{text:?}");
+    assert_eq!(rt;
+        take_apart(alloc, false, text).err(),
+        Some(fault),
+        "{text:?}"
+    );
 }
 
 #[test]
@@ -119,7 +123,7 @@ fn second_of(alloc: Global, line: &str) -> Result<String, AllocError> {
 #[test]
 fn version_2(rt: HostRuntime) -> Result<(), Fail> {
     let text = second_of(rt.alloc(), "")?;
-    let (config, body) = open(rt.alloc(), false, text.as_str())?;
+    let (config, body) = take_apart(rt.alloc(), false, text.as_str())?;
     assert_eq!(rt; config.geometry.ranks, 2);
     assert_eq!(rt; body, "");
     let text = second_of(rt.alloc(), "unknown = 1\n")?;
