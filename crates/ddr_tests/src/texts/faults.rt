@@ -50,6 +50,8 @@ const TOLD: &[(Fault, &str, u8)] = &[
         2,
     ),
     (Fault::ReplayLimit, "replay limit", 2),
+    (Fault::CaptureLine { line: 12 }, "capture line 12", 2),
+    (Fault::CaptureOrder { line: 12 }, "capture line 12 Order", 2),
     // Of a trace.
     (Fault::TraceHeader, "trace Header", 2),
     (Fault::TraceTruncated, "trace Truncated", 2),

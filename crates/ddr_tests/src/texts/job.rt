@@ -1,6 +1,6 @@
 //! Command lines, and the jobs that they state.
 use clap::error::ErrorKind;
-use ddr_text::command::{Format, Job, Reading, Told};
+use ddr_text::command::{Format, Job, Picture, Reading, Told};
 use ddr_text::job::job;
 use std::alloc::{AllocError, Global};
 use std::process::Abort;
@@ -106,6 +106,10 @@ const ERRORS: &[(&str, ErrorKind)] = &[
     ("ddr replay --most 1", ErrorKind::UnknownArgument),
     ("ddr sim --wrap", ErrorKind::UnknownArgument),
     ("ddr check --requests", ErrorKind::UnknownArgument),
+    ("ddr check --progress", ErrorKind::UnknownArgument),
+    ("ddr check --svg", ErrorKind::UnknownArgument),
+    ("ddr replay --stream", ErrorKind::UnknownArgument),
+    ("ddr draw --start 1", ErrorKind::UnknownArgument),
     ("ddr trace", ErrorKind::InvalidSubcommand),
     ("ddr SIM", ErrorKind::InvalidSubcommand),
     ("ddr ", ErrorKind::InvalidSubcommand),
@@ -117,6 +121,14 @@ const ERRORS: &[(&str, ErrorKind)] = &[
     ("ddr replay --trace x", ErrorKind::ValueValidation),
     ("ddr check --most x", ErrorKind::ValueValidation),
     ("ddr check --all --most", ErrorKind::InvalidValue),
+    ("ddr check --start x", ErrorKind::ValueValidation),
+    ("ddr check --start=-1", ErrorKind::ValueValidation),
+    (
+        "ddr check --start 18446744073709551616",
+        ErrorKind::ValueValidation,
+    ),
+    ("ddr draw --from 0x1", ErrorKind::ValueValidation),
+    ("ddr draw --svg --to", ErrorKind::InvalidValue),
     ("ddr sim --all", ErrorKind::UnknownArgument),
     ("ddr sim --sample=true", ErrorKind::TooManyValues),
     ("ddr map --sample --sample", ErrorKind::ArgumentConflict),
@@ -186,6 +198,7 @@ fn replays(rt: HostRuntime) -> Result<(), Fail> {
             sample: true,
             reading: *reading,
             told: *told,
+            progress: false,
         };
         let line = format!(in alloc; "ddr replay {words}")?;
         states(&rt, alloc, line.as_str(), wanted)?;
@@ -194,8 +207,106 @@ fn replays(rt: HostRuntime) -> Result<(), Fail> {
         sample: false,
         reading: OWN,
         told: Told::Statistics,
+        progress: false,
     };
     states(&rt, alloc, "ddr replay", plain)
+}
+
+#[test]
+fn progress(rt: HostRuntime) -> Result<(), Fail> {
+    let told = Job::Replay {
+        sample: false,
+        reading: OWN,
+        told: Told::Requests,
+        progress: true,
+    };
+    states(&rt, rt.alloc(), "ddr replay --progress --requests", told)
+}
+
+/// Words behind `ddr check` that ask for captured commands, their format, and their first cycle. Each of the four asks for that by itself,
+/// next to them `--explain`, `--all` and `--most` ask for nothing, and `--dramsim3` goes before `--ramulator2`.
+const STREAMS: &[(&str, Format, u64)] = &[
+    ("--stream", Format::Own, 0),
+    ("--dramsim3", Format::Dramsim3, 0),
+    ("--ramulator2", Format::Ramulator2, 0),
+    ("--ramulator2 --stream --dramsim3", Format::Dramsim3, 0),
+    ("--start 12", Format::Own, 12),
+    ("--start=0", Format::Own, 0),
+    (
+        "--ramulator2 --start=18446744073709551615",
+        Format::Ramulator2,
+        18_446_744_073_709_551_615,
+    ),
+    ("--all --stream --most 3 --explain", Format::Own, 0),
+    ("--explain --start 007", Format::Own, 7),
+];
+
+#[test]
+fn streams(rt: HostRuntime) -> Result<(), Fail> {
+    let alloc = rt.alloc();
+    for (words, format, start) in STREAMS {
+        let (format, start) = (*format, *start);
+        let line = format!(in alloc; "ddr check {words}")?;
+        let wanted = Job::Stream {
+            sample: false,
+            format,
+            start,
+        };
+        states(&rt, alloc, line.as_str(), wanted)?;
+        let line = format!(in alloc; "ddr check {words} --sample")?;
+        let wanted = Job::Stream {
+            sample: true,
+            format,
+            start,
+        };
+        states(&rt, alloc, line.as_str(), wanted)?;
+    }
+    Ok(())
+}
+
+/// Words behind `ddr draw`, and what is drawn. Without `--svg` `--from` and `--to` ask for nothing.
+const PICTURES: &[(&str, Picture)] = &[
+    ("--sample", Picture::Waves),
+    ("--from 1 --sample --to 9", Picture::Waves),
+    (
+        "--sample --svg",
+        Picture::Lanes {
+            from: None,
+            to: None,
+        },
+    ),
+    (
+        "--from 100 --svg --sample",
+        Picture::Lanes {
+            from: Some(100),
+            to: None,
+        },
+    ),
+    (
+        "--svg --to=18446744073709551615 --from=0 --sample",
+        Picture::Lanes {
+            from: Some(0),
+            to: Some(18_446_744_073_709_551_615),
+        },
+    ),
+];
+
+#[test]
+fn pictures(rt: HostRuntime) -> Result<(), Fail> {
+    let alloc = rt.alloc();
+    for (words, picture) in PICTURES {
+        let wanted = Job::Draw {
+            sample: true,
+            picture: *picture,
+        };
+        let line = format!(in alloc; "ddr draw {words}")?;
+        states(&rt, alloc, line.as_str(), wanted)?;
+    }
+    let plain = Job::Draw {
+        sample: false,
+        picture: Picture::Waves,
+    };
+    states(&rt, alloc, "ddr draw", plain)
 }
 
 /// Words behind `ddr check`, and how many faults they ask for. Beside `--all` `--explain` adds nothing, and `--most` asks for it.
