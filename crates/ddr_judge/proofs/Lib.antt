@@ -1,0 +1,4 @@
+pub mod HeardLemmas
+pub mod JudgedLemmas
+pub mod RecordLemmas
+pub mod TraceLemmas

@@ -1,0 +1,14 @@
+-- One lane more.
+use Rattle.std.proofs.Common.{◌+◌, ◌∙◌, ap}
+use Rattle.std.proofs.lemmas.List.{length_push}
+use Rattle.ddr_judge.proofs.JudgedLemmas.{heard_push}
+use Rattle.ddr_judge.proofs.judge.Judge.open.Goals as goal
+
+pub loop-channel-preserved : goal.loop-channel-preserved
+loop-channel-preserved c =
+    let lanes = c.loop-channel.lanes.items in
+    let l = c.in_ok-open.field-0 in
+    rw c.in_ok-push.ensures.items (record {
+      each = length_push lanes l ∙ ap (λ n. n + 1) c.loop-channel.invariant.each;
+      heard = heard_push lanes c.args.config.now c.args.start l c.loop-channel.invariant.heard c.in_ok-open.ensures;
+    })
