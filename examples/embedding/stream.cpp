@@ -99,6 +99,8 @@ struct Record {
     }
 };
 
+const char *const NO_WAITS = "\nwaited_for_window = 0\nwaited_for_queue = 0\n";
+
 const char *const NAMES[] = {"ACT", "RD", "WR", "RDA", "WRA", "PRE", "PREA", "REF"};
 
 void place(std::ostream &to, std::uint32_t value) {
@@ -107,21 +109,22 @@ void place(std::ostream &to, std::uint32_t value) {
 
 // The numbers of channels' commands that `./ddr replay` prints.
 struct Numbers {
-    std::uint64_t turn_rounds = 0, rank_switches = 0, row_hits = 0, row_misses = 0, row_conflicts = 0;
+    std::uint64_t turn_rounds = 0, rank_switches = 0, refresh_debt_most = 0, row_hits = 0, row_misses = 0, row_conflicts = 0;
     std::uint64_t commands[8] = {};
 
     std::uint64_t columns() const { return commands[DDR_RD] + commands[DDR_WR] + commands[DDR_RDA] + commands[DDR_WRA]; }
     void add(const Numbers &more) {
         turn_rounds += more.turn_rounds;
         rank_switches += more.rank_switches;
+        refresh_debt_most = std::max(refresh_debt_most, more.refresh_debt_most);
         row_hits += more.row_hits;
         row_misses += more.row_misses;
         row_conflicts += more.row_conflicts;
         for (int kind = 0; kind < 8; kind++) commands[kind] += more.commands[kind];
     }
     void print(std::ostream &to) const {
-        to << "turn_rounds = " << turn_rounds << "\nrank_switches = " << rank_switches << "\nactivates = " << commands[DDR_ACT]
-           << "\nprecharges = " << commands[DDR_PRE] << "\nprecharges_all = " << commands[DDR_PREA]
+        to << "turn_rounds = " << turn_rounds << "\nrank_switches = " << rank_switches << "\nrefresh_debt_most = " << refresh_debt_most
+           << "\nactivates = " << commands[DDR_ACT] << "\nprecharges = " << commands[DDR_PRE] << "\nprecharges_all = " << commands[DDR_PREA]
            << "\nrefreshes = " << commands[DDR_REF] << "\nreads = " << commands[DDR_RD] << "\nwrites = " << commands[DDR_WR]
            << "\nreads_auto = " << commands[DDR_RDA] << "\nwrites_auto = " << commands[DDR_WRA] << "\nrow_hits = " << row_hits
            << "\nrow_misses = " << row_misses << "\nrow_conflicts = " << row_conflicts << "\nbusy_clocks = " << 4 * columns() << '\n';
@@ -133,9 +136,15 @@ class Counter {
 public:
     Numbers numbers;
 
+    Counter(std::uint64_t refi, std::uint64_t ranks) : refi(refi), paid(ranks) {}
+
     void note(const ddr_command &it) {
         numbers.commands[it.kind]++;
-        if (it.kind == DDR_REF) return;
+        if (it.kind == DDR_REF) {
+            owe(it.rank, it.cycle);
+            paid[it.rank]++;
+            return;
+        }
         if (it.kind == DDR_PREA) {
             for (auto &[place, bank] : banks)
                 if (std::get<0>(place) == it.rank) bank.closed_by_pre = false;
@@ -159,7 +168,15 @@ public:
         }
     }
 
+    // The channel made no cycle from this one on.
+    void end(std::uint64_t cycle) {
+        for (std::size_t rank = 0; rank < paid.size() && cycle > 0; rank++) owe(rank, cycle - 1);
+    }
+
 private:
+    // In a cycle a rank owes the REFs that fell due up to it, one each `refi` cycles, less those that it had.
+    void owe(std::size_t rank, std::uint64_t cycle) { numbers.refresh_debt_most = std::max(numbers.refresh_debt_most, cycle / refi - paid[rank]); }
+
     // Whether a PRE closed it last, and what its next read or write counts as.
     struct Bank {
         bool closed_by_pre = false;
@@ -169,11 +186,21 @@ private:
     std::map<std::tuple<std::uint32_t, std::uint32_t, std::uint32_t>, Bank> banks;
     bool any = false, last_is_write = false;
     std::uint32_t last_rank = 0;
+    std::uint64_t refi;
+    std::vector<std::uint64_t> paid;
 };
 
+// The number behind a key of a configuration.
+std::uint64_t number_of(const std::string &config, const std::string &key, std::uint64_t otherwise) {
+    std::istringstream lines(config);
+    for (std::string line; std::getline(lines, line);)
+        if (line.rfind(key + " = ", 0) == 0) return std::stoull(line.substr(key.size() + 3));
+    return otherwise;
+}
+
 // The numbers of a channel's commands, which are written as the program writes a trace where they are wanted.
-Numbers traced(ddr::Core &core, std::uint32_t channel, std::ostream *text) {
-    Counter counter;
+Numbers traced(ddr::Core &core, const std::string &config, std::uint32_t channel, std::ostream *text) {
+    Counter counter(number_of(config, "refi", 1), number_of(config, "ranks", 1));
     if (text != nullptr) *text << "cycle,cmd,rank,group,bank,row,col\n";
     std::vector<ddr_command> some(4096);
     std::uint64_t first = 0;
@@ -191,23 +218,24 @@ Numbers traced(ddr::Core &core, std::uint32_t channel, std::ostream *text) {
         }
         first += count;
     }
+    counter.end(core.cycle(channel));
     if (text != nullptr) *text << core.cycle(channel) << ",END,,,,,\n";
     return counter.numbers;
 }
 
 // All numbers, as `./ddr replay` prints them: of all together, of each channel, and of each port, of which the first alone
-// has requests.
+// has requests. It takes each in the cycle in which it is taken, so that none waits.
 void print_statistics(std::ostream &to, ddr::Core &core, const std::vector<Numbers> &channels, const Numbers &total, const Latency &reads, const Latency &writes) {
     const std::uint32_t ports = core.ports();
     to << "channels = " << channels.size() << "\nports = " << ports << "\ncycles = " << core.cycle(0) << '\n';
-    to << "\n[total]\nread_requests = " << reads.count << "\nwrite_requests = " << writes.count << '\n';
+    to << "\n[total]\nread_requests = " << reads.count << "\nwrite_requests = " << writes.count << NO_WAITS;
     total.print(to);
     for (std::size_t channel = 0; channel < channels.size(); channel++) {
         to << "\n[channel." << channel << "]\n";
         channels[channel].print(to);
     }
     for (std::uint32_t port = 0; port < ports; port++)
-        to << "\n[port." << port << "]\nread_requests = " << (port == 0 ? reads.count : 0) << "\nwrite_requests = " << (port == 0 ? writes.count : 0) << '\n';
+        to << "\n[port." << port << "]\nread_requests = " << (port == 0 ? reads.count : 0) << "\nwrite_requests = " << (port == 0 ? writes.count : 0) << NO_WAITS;
 }
 
 void run(const std::string &config, std::uint64_t requests, const std::string &folder) {
@@ -244,7 +272,7 @@ void run(const std::string &config, std::uint64_t requests, const std::string &f
     for (std::uint32_t channel = 0; channel < memory.Under().channels(); channel++) {
         std::ofstream trace;
         if (record.wanted) trace.open(folder + "/trace-" + std::to_string(channel));
-        channels.push_back(traced(memory.Under(), channel, record.wanted ? &trace : nullptr));
+        channels.push_back(traced(memory.Under(), config, channel, record.wanted ? &trace : nullptr));
         total.add(channels.back());
     }
     if (!folder.empty()) {

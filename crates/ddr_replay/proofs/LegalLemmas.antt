@@ -1,12 +1,13 @@
 -- The commands of a legal trace lie in the geometry, and there are no more of them than cycles.
-use Rattle.std.proofs.Common.{◌≡◌, ℕ, zero, suc, ◌+◌, ◌<◌, ◌≤◌, Bool, true, false, not, ◌&&◌, List, [], ◌∷◌, length, take, get_or, Option, Some, None, All, IsTrue, refl, sym, ap, subst, ◌∙◌, arith}
+use Rattle.std.proofs.Common.{◌≡◌, ℕ, zero, suc, ◌<◌, ◌≤◌, Bool, true, false, not, ◌&&◌, List, [], ◌∷◌, length, take, get_or, Option, Some, All, IsTrue, refl, subst, arith}
 use Rattle.std.specs.List.{slice_get}
 use Rattle.std.proofs.lemmas.Bool.{leb-true, ltb-true}
 use Rattle.ddr_timing.specs.declared.config.Config.{Config}
 use Rattle.ddr_trace.specs.declared.command.Entry.{Entry}
 use Rattle.ddr_trace.specs.declared.rule.Rule.TheVariants as rule
 use Rattle.ddr_trace.specs.Legality.{IsLegal, breaks_where}
-use Rattle.ddr_trace.specs.Rules.{breaks_order, is_in, last_cycle_below}
+use Rattle.ddr_trace.specs.Rules.{is_in, last_cycle_below}
+use Rattle.ddr_statistics.specs.Debts.{IsInOrder}
 
 found : (xs : List Entry) (k : ℕ) (d : Entry) → k < length xs → slice_get xs k ≡ Some (get_or xs k d)
 found [] k d within = absurd (omega (arith, within))
@@ -60,3 +61,20 @@ few_of c start end (d ∷ more) (suc n) is legal =
 
 pub few_commands : (c : Config) (start end : ℕ) (entries : List Entry) → IsLegal c start end entries → length entries ≤ end
 few_commands c start end entries legal = few_of c start end entries (length entries) refl legal
+
+-- its cycles rise, and lie before its end
+
+next_in_order : (end : ℕ) (entries : List Entry) → ((k : ℕ) (d : Entry) → k < length entries → (get_or entries k d).cycle < end)
+    → ((k : ℕ) (d : Entry) → suc k < length entries → (get_or entries k d).cycle < (get_or entries (suc k) d).cycle) → IsInOrder end entries
+next_in_order end [] before rises = tt
+next_in_order end (e ∷ []) before rises = (before 0 e (omega arith), tt, tt)
+next_in_order end (e ∷ f ∷ later) before rises = (
+  before 0 e (omega arith),
+  rises 0 e (omega arith),
+  next_in_order end (f ∷ later) (λ k d within. before (suc k) d (omega (arith, within))) (λ k d within. rises (suc k) d (omega (arith, within))),
+)
+
+pub all_in_order : (c : Config) (start end : ℕ) (entries : List Entry) → IsLegal c start end entries → IsInOrder end entries
+all_in_order c start end entries legal =
+    next_in_order end entries (λ k d within. (in_order c start end entries legal k d within).before)
+    (λ k d within. behind_last entries k d (get_or entries (suc k) d).cycle (omega (arith, within)) (in_order c start end entries legal (suc k) d within).behind)

@@ -8,3 +8,4 @@ mod StepLemmas
 mod SubmitLemmas
 mod TurnLemmas
 mod WaitLemmas
+mod WaitedLemmas

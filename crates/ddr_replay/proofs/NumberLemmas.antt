@@ -1,5 +1,5 @@
 -- The numbers of channels and ports, one after another.
-use Rattle.std.proofs.Common.{◌≡◌, ℕ, zero, suc, ◌+◌, ◌<◌, Bool, true, false, List, [], ◌∷◌, ◌++◌, length, Option, None, Some, Err, refl, sym, ap, subst, ◌∙◌, append_assoc, append-nil, arith}
+use Rattle.std.proofs.Common.{◌≡◌, ℕ, zero, suc, ◌+◌, ◌<◌, Bool, true, false, List, Option, None, Some, Err, refl, sym, ap, subst, ◌∙◌, arith}
 use Rattle.std.specs.Prelude.{◌==◌, ◌||◌}
 use Rattle.std.specs.List.{list_any, range_with_len, slice_get}
 use Rattle.std.specs.Option.{option_map, option_map_or}
@@ -22,10 +22,10 @@ over f c k d (Some side) g same is =
     let here : k ≡ side.channel = cc in
     same side ∙ ap g (sym here)
 
-pub numbers_there : (w : Kept) (c : ℕ) (k : channel_kept.Kept) → Some k ≡ option_map (λ (side : KeptSide). side.channel) (slice_get w.channels c) → numbers_at (state_of w) c ≡ numbers_in k.trace
+pub numbers_there : (w : Kept) (c : ℕ) (k : channel_kept.Kept) → Some k ≡ option_map (λ (side : KeptSide). side.channel) (slice_get w.channels c) → numbers_at (state_of w) c ≡ numbers_in k.config k.now k.trace
 numbers_there w c k is =
-    ap (λ o. option_map_or (λ (side : ChannelSide). numbers_in side.channel.trace) o no_numbers) (slice_get-map side_of w.channels c)
-    ∙ over (λ (side : ChannelSide). numbers_in side.channel.trace) c k no_numbers (slice_get w.channels c) (λ (x : channel_kept.Kept). numbers_in x.trace) (λ side. refl) is
+    ap (λ o. option_map_or (λ (side : ChannelSide). numbers_in side.channel.config side.channel.now side.channel.trace) o no_numbers) (slice_get-map side_of w.channels c)
+    ∙ over (λ (side : ChannelSide). numbers_in side.channel.config side.channel.now side.channel.trace) c k no_numbers (slice_get w.channels c) (λ (x : channel_kept.Kept). numbers_in x.config x.now x.trace) (λ side. refl) is
 
 pub spent_there : (w : Kept) (c : ℕ) (k : channel_kept.Kept) → Some k ≡ option_map (λ (side : KeptSide). side.channel) (slice_get w.channels c) → is_spent (state_of w) c ≡ (k.now == CLOCK_STOP)
 spent_there w c k is =
@@ -40,7 +40,7 @@ beside f d (Some side) is = absurd (let impossible = is in cc)
 
 pub numbers_absent : (w : Kept) (c : ℕ) → None ≡ option_map (λ (side : KeptSide). side.channel) (slice_get w.channels c) → numbers_at (state_of w) c ≡ no_numbers
 numbers_absent w c is =
-    ap (λ o. option_map_or (λ (side : ChannelSide). numbers_in side.channel.trace) o no_numbers) (slice_get-map side_of w.channels c) ∙ beside (λ (side : ChannelSide). numbers_in side.channel.trace) no_numbers (slice_get w.channels c) is
+    ap (λ o. option_map_or (λ (side : ChannelSide). numbers_in side.channel.config side.channel.now side.channel.trace) o no_numbers) (slice_get-map side_of w.channels c) ∙ beside (λ (side : ChannelSide). numbers_in side.channel.config side.channel.now side.channel.trace) no_numbers (slice_get w.channels c) is
 
 pub spent_absent : (w : Kept) (c : ℕ) → None ≡ option_map (λ (side : KeptSide). side.channel) (slice_get w.channels c) → is_spent (state_of w) c ≡ false
 spent_absent w c is =

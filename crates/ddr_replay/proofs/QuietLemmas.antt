@@ -1,5 +1,5 @@
 -- In quiet rounds, in which all ports wait, the core's cycles pass, and nothing else comes of them.
-use Rattle.std.proofs.Common.{◌≡◌, ◌<◌, ◌≤◌, ◌-◌, ◌+◌, ℕ, zero, suc, Bool, true, false, cond, List, [], ◌∷◌, Option, Some, None, Result, Ok, Err, All, length, map, refl, sym, ap, ap₂, subst, ◌∙◌, arith}
+use Rattle.std.proofs.Common.{◌≡◌, ◌<◌, ◌≤◌, ◌+◌, ℕ, zero, suc, Bool, true, false, cond, List, [], Option, Some, None, Ok, Err, All, length, refl, sym, ap, ap₂, ◌∙◌, arith}
 use Rattle.std.specs.Prelude.{◌==◌}
 use Rattle.std.specs.List.{slice_get}
 use Rattle.std.specs.Option.{option_map, option_map_or}
@@ -15,19 +15,29 @@ use Rattle.ddr_world.specs.State.{ChannelSide, State}
 use Rattle.ddr_world.proofs.QuietLemmas.{fewer_of_side, first_all, side_quiet_on}
 use Rattle.ddr_text.specs.declared.fault.Fault.{Fault}
 use Rattle.ddr_text.specs.declared.fault.Fault.TheVariants as faults
-use Rattle.ddr_sim.specs.Rounds.{channels_served, items_of, until_refused}
+use Rattle.ddr_sim.specs.Rounds.{channels_served, items_of}
 use Rattle.ddr_sim.specs.Simulated.{IsCycleFault}
 use Rattle.ddr_sim.proofs.QuietLemmas.{channels_quiet, none_collected, nothing_popped, passed_more}
+use Rattle.ddr_replay.specs.Ledgers.{Ledger}
 use Rattle.ddr_replay.specs.Runs.{Run, port_served, ports_served, ports_submitted, released, replayed, round_closed, round_made, turn, unserved}
 use Rattle.ddr_stream.specs.Stream.{queue_at}
 use Rattle.ddr_replay.specs.View.{IsRunFault}
-use Rattle.ddr_replay.specs.Waits.{AreQuiet, AreWaiting}
+use Rattle.ddr_replay.specs.Waits.{AreQuiet, AreWaiting, all_full, come_of}
 use Rattle.ddr_replay.proofs.ReleaseLemmas.{none_given}
-use Rattle.ddr_replay.proofs.WaitLemmas.{ports_wait, waits_on}
+use Rattle.ddr_replay.proofs.WaitLemmas.{come_still, noted, ports_wait, waits_on}
+use Rattle.ddr_replay.proofs.WaitedLemmas.{all_again, all_alike, all_none}
 
--- after so many quiet rounds
-abbrev pub quietly : ℕ → Run → Run
-quietly count run = record run { state = passed count run.state; round = run.round + count }
+-- after a quiet round
+abbrev later : Run → Run
+later run = record run { state = passed 1 run.state; round = run.round + 1 }
+
+-- after so many quiet rounds and one, before each of which but the first the ports with a request that has come wait
+abbrev pub quietly : ℕ → ℕ → Run → Run
+quietly ports more run = record run {
+  state = passed (suc more) run.state;
+  ledger = all_full more (come_of run.round run.queues) ports run.ledger;
+  round = run.round + suc more;
+}
 
 port_quiet : (p : ℕ) (run : Run) → All (λ port. port.completions ≡ []) run.state.ports → front_service run.state p ≡ None → port_served p run ≡ run
 port_quiet p run none front =
@@ -41,7 +51,7 @@ ports_quiet (suc p) run none fronts =
     ap (port_served p) (ports_quiet p run none (λ q below. fronts q (omega (arith, below)))) ∙ port_quiet p run none (fronts p (omega arith))
 
 -- a quiet round
-round_quiet : (config : Config) (count : ℕ) (run : Run) → AreQuiet config (suc count) run.state → round_made config run ≡ Some (quietly 1 run)
+round_quiet : (config : Config) (count : ℕ) (run : Run) → AreQuiet config (suc count) run.state → round_made config run ≡ Some (later run)
 round_quiet config count run are =
     let s = run.state in
     let each = λ (c : ℕ) (side : ChannelSide) (there : slice_get s.channels c ≡ Some side). fewer_of_side 1 (suc count) side (omega arith) (All-at (IsQuietSide (suc count)) s.channels c side are.core.channels there) in
@@ -62,21 +72,30 @@ quiet_on config count s are = record {
 
 -- so many quiet rounds, once the ports have submitted
 quiet_turns : (config : Config) (n k until : ℕ) (run : Run) → AreQuiet config (suc k) run.state → AreWaiting config.limits.ports until run → run.round + suc k ≤ until → (unserved run == 0) ≡ false
-    → option_map_or (replayed config (n + k)) (round_made config run) (Err faults.ClockSpent) ≡ replayed config n (quietly (suc k) run)
+    → option_map_or (replayed config (n + k)) (round_made config run) (Err faults.ClockSpent) ≡ replayed config n (quietly config.limits.ports k run)
 quiet_turns config n zero until run are waits within busy =
     let none : n + 0 ≡ n = omega arith in
-    ap (λ o. option_map_or (replayed config (n + 0)) o (Err faults.ClockSpent)) (round_quiet config 0 run are) ∙ ap (λ m. replayed config m (quietly 1 run)) none
+    ap (λ o. option_map_or (replayed config (n + 0)) o (Err faults.ClockSpent)) (round_quiet config 0 run are) ∙ ap (λ m. replayed config m (later run)) none
+    ∙ ap (λ (l : Ledger). replayed config n (record (later run) { ledger = l })) (sym (all_none config.limits.ports (come_of run.round run.queues) run.ledger))
 quiet_turns config n (suc k) until run are waits within busy =
-    let next = quietly 1 run in
+    let next = later run in
+    let ports = config.limits.ports in
+    let come = come_of run.round run.queues in
+    let come_next = come_of next.round next.queues in
+    let waiting = noted next (all_full 1 come_next ports next.ledger) in
+    let alike : (p : ℕ) → p < ports → come_next p ≡ come p = λ p below. come_still p until run.round (queue_at run.queues p) run.state (waits p below (omega (arith, within))) (omega (arith, within)) in
+    let ledger_is : all_full k come_next ports (all_full 1 come_next ports run.ledger) ≡ all_full (suc k) come ports run.ledger =
+    all_again k ports come_next run.ledger ∙ all_alike (suc k) ports come_next come run.ledger alike in
     let more : n + suc k ≡ suc (n + k) = omega arith in
     let last : run.round + 1 + suc k ≡ run.round + suc (suc k) = omega arith in
-    let still : AreWaiting config.limits.ports until next = λ p below ahead. waits_on until until p run.state next.state (slice_get (queue_at run.queues p) 0) (omega arith) refl (waits p below (omega (arith, ahead))) in
+    let still : AreWaiting config.limits.ports until next = λ p below ahead. waits_on until until p run.round next.round run.state next.state (slice_get (queue_at run.queues p) 0) (omega arith) (omega arith) refl (waits p below (omega (arith, ahead))) in
     ap (λ o. option_map_or (replayed config (n + suc k)) o (Err faults.ClockSpent)) (round_quiet config (suc k) run are)
     ∙ ap (λ m. replayed config m next) more
     ∙ ap (λ (b : Bool). cond b (Ok next) (option_map_or (replayed config (n + k)) (turn config next) (Err faults.ClockSpent))) busy
     ∙ ap (λ (r : Run). option_map_or (replayed config (n + k)) (round_made config r) (Err faults.ClockSpent)) (ports_wait config.limits.ports until next still (omega (arith, within)))
-    ∙ quiet_turns config n k until next (quiet_on config (suc k) run.state are) still (omega (arith, within)) busy
-    ∙ ap₂ (λ (xs : List ChannelSide) (r : ℕ). replayed config n (record run { state = record run.state { channels = xs }; round = r })) (passed_more (suc k) run.state.channels) last
+    ∙ quiet_turns config n k until waiting (quiet_on config (suc k) run.state are) still (omega (arith, within)) busy
+    ∙ ap₂ (λ (xs : List ChannelSide) (r : ℕ). replayed config n (record run { state = record run.state { channels = xs }; ledger = all_full k come_next ports (all_full 1 come_next ports run.ledger); round = r })) (passed_more (suc k) run.state.channels) last
+    ∙ ap (λ (l : Ledger). replayed config n (record run { state = passed (suc (suc k)) run.state; ledger = l; round = run.round + suc (suc k) })) ledger_is
 
 -- the core is quiet for as many rounds or fewer, and no reply is in front
 pub are_quiet : (config : Config) (count quiet : ℕ) (k : Kept) → k.config ≡ config → length k.channels ≡ k.config.geometry.channels → IsQuiet quiet (state_of k)
@@ -108,7 +127,7 @@ turn_made config n m run next e busy made = replayed_turn config n m run e busy 
 
 -- so many quiet ones were
 pub turns_passed : (config : Config) (n m k until : ℕ) (run ready : Run) → n ≡ suc (m + k) → (unserved run == 0) ≡ false → (unserved ready == 0) ≡ false → ready ≡ ports_submitted config.limits.ports run
-    → AreQuiet config (suc k) ready.state → AreWaiting config.limits.ports until ready → ready.round + suc k ≤ until → replayed config n run ≡ replayed config m (quietly (suc k) ready)
+    → AreQuiet config (suc k) ready.state → AreWaiting config.limits.ports until ready → ready.round + suc k ≤ until → replayed config n run ≡ replayed config m (quietly config.limits.ports k ready)
 turns_passed config n m k until run ready e busy still is are waits within =
     replayed_turn config n (m + k) run e busy
     ∙ ap (λ (r : Run). option_map_or (replayed config (m + k)) (round_made config r) (Err faults.ClockSpent)) (sym is)

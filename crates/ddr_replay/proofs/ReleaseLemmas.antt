@@ -1,5 +1,5 @@
 -- The replies in front of a port are released and noted, one after another.
-use Rattle.std.proofs.Common.{◌≡◌, ◌+◌, ℕ, zero, suc, Bool, true, false, is_some, Option, Some, None, refl, sym, ap, ◌∙◌, arith}
+use Rattle.std.proofs.Common.{◌≡◌, ◌+◌, ℕ, zero, suc, false, is_some, Option, Some, None, refl, sym, ap, ◌∙◌, arith}
 use Rattle.std.specs.Option.{option_map, option_map_or}
 use Rattle.ddr_reorder.specs.declared.reply.Reply.{Reply}
 use Rattle.ddr_reorder.specs.declared.reply.Service.{Service}

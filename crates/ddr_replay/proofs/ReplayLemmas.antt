@@ -1,5 +1,5 @@
 -- What an input says of a replay.
-use Rattle.std.proofs.Common.{◌≡◌, ℕ, List, Bool, true, false, cond, Option, None, Some, Result, Ok, Err, IfErr, IfOk, IfSome, OnOk, map, refl, sym, ap, ap₂, subst, ◌∙◌}
+use Rattle.std.proofs.Common.{◌≡◌, ℕ, List, Bool, true, false, cond, Option, None, Some, Result, Ok, Err, IfErr, IfOk, IfSome, OnOk, map, refl, sym, ap, subst, ◌∙◌}
 use Rattle.std.specs.Io.KnownBytes.{Appends}
 use Rattle.ddr_timing.specs.declared.config.Config.{Config}
 use Rattle.ddr_text.specs.declared.command.Reading.{Reading}
@@ -12,7 +12,7 @@ use Rattle.ddr_text.specs.declared.fault.Fault.TheVariants as faults
 use Rattle.ddr_text.proofs.BodyLemmas.{not_of_parts}
 use Rattle.ddr_replay.specs.declared.numbers.Numbers.{Numbers}
 use Rattle.ddr_replay.specs.declared.numbers.Requests.{Requests}
-use Rattle.ddr_replay.specs.Numbers.{IsCounted, is_any_spent, numbers_of, requests_in}
+use Rattle.ddr_replay.specs.Numbers.{IsCounted, is_any_spent, requests_in}
 use Rattle.ddr_replay.specs.Replays.{HasReplayFault, IsReplayed, IsSaid, IsStream, Says, keeps_served, names_no_channel, report_of, reported, told_behind, told_of}
 use Rattle.ddr_replay.specs.Report.{report_text}
 use Rattle.ddr_replay.specs.Runs.{Run, begun, replayed}

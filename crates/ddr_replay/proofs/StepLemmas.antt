@@ -1,6 +1,6 @@
 -- Events that are made and made again, until they are refused.
-use Rattle.std.proofs.Common.{◌≡◌, ◌+◌, ℕ, zero, suc, true, false, Option, None, Some, Result, Ok, Err, IsTrue, is_ok, refl, sym, ap, subst, ◌∙◌, arith}
-use Rattle.std.specs.Option.{option_map, option_and_then, option_map_or}
+use Rattle.std.proofs.Common.{◌≡◌, ◌+◌, suc, false, Result, Ok, Err, IsTrue, is_ok, refl, sym, ap, ◌∙◌, arith}
+use Rattle.std.specs.Option.{option_map_or}
 use Rattle.ddr_world.specs.declared.event.Outcome.{Outcome}
 use Rattle.ddr_world.specs.declared.event.Refusal.{Refusal}
 use Rattle.ddr_world.specs.Answer.{IsAnswered, IsRefused}
@@ -11,7 +11,7 @@ use Rattle.ddr_world.specs.Step.{Step, made, step}
 use Rattle.ddr_sim.specs.Rounds.{items_of, made_state, repeated}
 use Rattle.ddr_sim.specs.Simulated.{added}
 use Rattle.ddr_sim.proofs.Courses.{front_fewer}
-use Rattle.ddr_sim.proofs.StepCounts.{made_pops, repeated_end}
+use Rattle.ddr_sim.proofs.StepCounts.{made_pops}
 use Rattle.ddr_replay.specs.View.{is_popping}
 
 -- an item fewer is left

@@ -1,5 +1,5 @@
 -- One request after another is submitted, until one has to wait.
-use Rattle.std.proofs.Common.{◌≡◌, ◌≢◌, ◌<◌, ◌≤◌, ◌⊎◌, ◌+◌, ℕ, zero, suc, Bool, true, false, cond, List, [], ◌∷◌, Option, None, Some, Result, Ok, Err, IfSome, length, drop, inl, inr, refl, sym, ap, subst, ◌∙◌, arith}
+use Rattle.std.proofs.Common.{◌≡◌, ◌≢◌, ◌<◌, ◌≤◌, ◌+◌, ℕ, zero, suc, Bool, true, false, cond, List, [], ◌∷◌, Option, None, Some, Ok, Err, length, drop, refl, sym, ap, subst, ◌∙◌, arith}
 use Rattle.std.specs.Prelude.{nat_lt}
 use Rattle.std.specs.Option.{option_map_or}
 use Rattle.std.specs.List.{slice_get, slice_set}
@@ -15,15 +15,15 @@ use Rattle.ddr_world.specs.declared.event.Outcome.TheVariants as outcome
 use Rattle.ddr_world.specs.declared.event.Refusal.{Refusal}
 use Rattle.ddr_world.specs.declared.event.Refusal.TheVariants as refusal
 use Rattle.ddr_world.specs.declared.item.Item.TheVariants as item
-use Rattle.ddr_world.specs.Events.{Event, Submit}
+use Rattle.ddr_world.specs.Events.{Submit}
 use Rattle.ddr_world.specs.Refusals.{refusal_from}
-use Rattle.ddr_world.specs.State.{ChannelSide, PortSide, State, is_busy}
-use Rattle.ddr_world.specs.Step.{Made, Step, after_submit, at_channel, made, push_on, push_request, queued, step, submit, submit_by, with_channel, with_port}
+use Rattle.ddr_world.specs.State.{PortSide, State, is_busy}
+use Rattle.ddr_world.specs.Step.{Step, after_submit, made, push_on, push_request, queued, step, submit, submit_by, with_channel, with_port}
 use Rattle.ddr_sim.specs.Rounds.{outstanding}
 use Rattle.ddr_sim.proofs.StepCounts.{Counted, at_channel_has, at_port_has, either_has, made_counts, maybe_has}
 use Rattle.ddr_stream.specs.declared.ask.Ask.{Ask}
 use Rattle.ddr_stream.specs.Asks.{asked_by}
-use Rattle.ddr_replay.specs.Ledgers.{Ledger, with_accepted}
+use Rattle.ddr_replay.specs.Ledgers.{Ledger, with_accepted, with_wait}
 use Rattle.ddr_replay.specs.Runs.{Submitted, accepted_in, after_answer, submitted}
 use Rattle.ddr_replay.specs.Waits.{IsFull}
 
@@ -39,39 +39,42 @@ some_left (x ∷ xs) ask is = omega (arith, length-drop 1 (x ∷ xs))
 abbrev stays : State → Ledger → List Ask → Submitted
 stays s ledger queue = record { state = s; ledger = ledger; rest = queue }
 
+abbrev waits : ℕ → State → Ledger → List Ask → Refusal → Submitted
+waits p s ledger queue cause = stays s (with_wait p cause ledger) queue
+
 -- on with the others, behind one that is accepted
 abbrev onward : ℕ → ℕ → Ask → List Ask → Ledger → State → Submitted
 onward p round ask more ledger next = submitted p round more next (with_accepted p (accepted_in round ask) ledger)
 
 submitted_by : (p round : ℕ) (queue : List Ask) (ask : Ask) (s : State) (ledger : Ledger) → Some ask ≡ slice_get queue 0
-    → submitted p round queue s ledger ≡ cond (nat_lt round ask.at) (stays s ledger queue) (after_answer (onward p round ask (drop 1 queue) ledger) (stays s ledger queue) (step s (Submit p (asked_by ask))))
+    → submitted p round queue s ledger ≡ cond (nat_lt round ask.at) (stays s ledger queue) (after_answer (onward p round ask (drop 1 queue) ledger) (waits p s ledger queue) (step s (Submit p (asked_by ask))))
 submitted_by p round [] ask s ledger is = absurd (let impossible = is in cc)
 submitted_by p round (x ∷ more) ask s ledger is =
-    ap (λ (y : Ask). cond (nat_lt round y.at) (stays s ledger (x ∷ more)) (after_answer (onward p round y more ledger) (stays s ledger (x ∷ more)) (step s (Submit p (asked_by y))))) (sym (same_first ask x is))
+    ap (λ (y : Ask). cond (nat_lt round y.at) (stays s ledger (x ∷ more)) (after_answer (onward p round y more ledger) (waits p s ledger (x ∷ more)) (step s (Submit p (asked_by y))))) (sym (same_first ask x is))
 
 submitted_now : (p round : ℕ) (queue : List Ask) (ask : Ask) (s : State) (ledger : Ledger) → Some ask ≡ slice_get queue 0 → ask.at ≤ round
-    → submitted p round queue s ledger ≡ after_answer (onward p round ask (drop 1 queue) ledger) (stays s ledger queue) (step s (Submit p (asked_by ask)))
+    → submitted p round queue s ledger ≡ after_answer (onward p round ask (drop 1 queue) ledger) (waits p s ledger queue) (step s (Submit p (asked_by ask)))
 submitted_now p round queue ask s ledger is come =
     submitted_by p round queue ask s ledger is
-    ∙ ap (λ b. cond b (stays s ledger queue) (after_answer (onward p round ask (drop 1 queue) ledger) (stays s ledger queue) (step s (Submit p (asked_by ask))))) (le-ltb round ask.at come)
+    ∙ ap (λ b. cond b (stays s ledger queue) (after_answer (onward p round ask (drop 1 queue) ledger) (waits p s ledger queue) (step s (Submit p (asked_by ask))))) (le-ltb round ask.at come)
 
 -- it is accepted
 pub submitted_more : (p round : ℕ) (queue : List Ask) (ask : Ask) (s next : State) (ledger : Ledger) (o : Outcome) → Some ask ≡ slice_get queue 0 → ask.at ≤ round → step s (Submit p (asked_by ask)) ≡ made next o
     → submitted p round (drop 1 queue) next (with_accepted p (accepted_in round ask) ledger) ≡ submitted p round queue s ledger
 submitted_more p round queue ask s next ledger o is come accepted =
-    sym (submitted_now p round queue ask s ledger is come ∙ ap (after_answer (onward p round ask (drop 1 queue) ledger) (stays s ledger queue)) accepted)
+    sym (submitted_now p round queue ask s ledger is come ∙ ap (after_answer (onward p round ask (drop 1 queue) ledger) (waits p s ledger queue)) accepted)
 
 -- it is refused
 pub submitted_refused : (p round : ℕ) (queue : List Ask) (ask : Ask) (s : State) (ledger : Ledger) (cause : Refusal) → Some ask ≡ slice_get queue 0 → ask.at ≤ round → step s (Submit p (asked_by ask)) ≡ Err cause
-    → submitted p round queue s ledger ≡ record { state = s; ledger = ledger; rest = queue }
+    → submitted p round queue s ledger ≡ record { state = s; ledger = with_wait p cause ledger; rest = queue }
 submitted_refused p round queue ask s ledger cause is come refused =
-    submitted_now p round queue ask s ledger is come ∙ ap (after_answer (onward p round ask (drop 1 queue) ledger) (stays s ledger queue)) refused
+    submitted_now p round queue ask s ledger is come ∙ ap (after_answer (onward p round ask (drop 1 queue) ledger) (waits p s ledger queue)) refused
 
 -- it is for later
 pub submitted_later : (p round : ℕ) (queue : List Ask) (ask : Ask) (s : State) (ledger : Ledger) → Some ask ≡ slice_get queue 0 → round < ask.at → submitted p round queue s ledger ≡ record { state = s; ledger = ledger; rest = queue }
 submitted_later p round queue ask s ledger is later =
     submitted_by p round queue ask s ledger is
-    ∙ ap (λ b. cond b (stays s ledger queue) (after_answer (onward p round ask (drop 1 queue) ledger) (stays s ledger queue) (step s (Submit p (asked_by ask))))) (lt-ltb round ask.at later)
+    ∙ ap (λ b. cond b (stays s ledger queue) (after_answer (onward p round ask (drop 1 queue) ledger) (waits p s ledger queue) (step s (Submit p (asked_by ask))))) (lt-ltb round ask.at later)
 
 -- there is none
 pub submitted_none : (p round : ℕ) (queue : List Ask) (s : State) (ledger : Ledger) → None ≡ slice_get queue 0 → submitted p round queue s ledger ≡ record { state = s; ledger = ledger; rest = queue }
@@ -162,16 +165,16 @@ either_keeps : (b : Bool) (x y : Submitted) (s : State) (q : ℕ) → slice_get 
 either_keeps true x y s q a b = a
 either_keeps false x y s q a b = b
 
-answer_keeps : (on : State → Submitted) (wait : Submitted) (s : State) (q : ℕ) (r : Step) → ((t : State) → slice_get (on t).state.ports q ≡ slice_get t.ports q) → slice_get wait.state.ports q ≡ slice_get s.ports q → KeepsPort q s r
+answer_keeps : (on : State → Submitted) (wait : Refusal → Submitted) (s : State) (q : ℕ) (r : Step) → ((t : State) → slice_get (on t).state.ports q ≡ slice_get t.ports q) → ((cause : Refusal) → slice_get (wait cause).state.ports q ≡ slice_get s.ports q) → KeepsPort q s r
     → slice_get (after_answer on wait r).state.ports q ≡ slice_get s.ports q
 answer_keeps on wait s q (Ok m) goes waits keeps = goes m.state ∙ keeps
-answer_keeps on wait s q (Err c) goes waits keeps = waits
+answer_keeps on wait s q (Err c) goes waits keeps = waits c
 
 submitted_keeps : (p round : ℕ) (queue : List Ask) (s : State) (ledger : Ledger) (q : ℕ) → q ≢ p → slice_get (submitted p round queue s ledger).state.ports q ≡ slice_get s.ports q
 submitted_keeps p round [] s ledger q other = refl
 submitted_keeps p round (ask ∷ more) s ledger q other =
-    either_keeps (nat_lt round ask.at) (stays s ledger (ask ∷ more)) (after_answer (onward p round ask more ledger) (stays s ledger (ask ∷ more)) (step s (Submit p (asked_by ask)))) s q refl
-    (answer_keeps (onward p round ask more ledger) (stays s ledger (ask ∷ more)) s q (step s (Submit p (asked_by ask))) (λ t. submitted_keeps p round more t (with_accepted p (accepted_in round ask) ledger) q other) refl (submit_keeps s p q (asked_by ask) other))
+    either_keeps (nat_lt round ask.at) (stays s ledger (ask ∷ more)) (after_answer (onward p round ask more ledger) (waits p s ledger (ask ∷ more)) (step s (Submit p (asked_by ask)))) s q refl
+    (answer_keeps (onward p round ask more ledger) (waits p s ledger (ask ∷ more)) s q (step s (Submit p (asked_by ask))) (λ t. submitted_keeps p round more t (with_accepted p (accepted_in round ask) ledger) q other) (λ cause. refl) (submit_keeps s p q (asked_by ask) other))
 
 pub others_kept : (p round : ℕ) (queue : List Ask) (s : State) (ledger : Ledger) (q : ℕ) → q ≢ p → slice_get (submitted p round queue s ledger).state.ports q ≡ slice_get s.ports q
 others_kept p round queue s ledger q other = submitted_keeps p round queue s ledger q other

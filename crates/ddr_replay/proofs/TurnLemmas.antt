@@ -1,5 +1,5 @@
 -- How a turn leads on along a replay.
-use Rattle.std.proofs.Common.{◌≡◌, ◌<◌, ◌≤◌, ◌-◌, ◌+◌, ℕ, zero, suc, Bool, true, false, List, Option, Some, None, Result, Ok, Err, IfErr, OnOk, refl, sym, ap, ap₂, subst, ◌∙◌, arith}
+use Rattle.std.proofs.Common.{◌≡◌, ◌<◌, ◌≤◌, ◌-◌, ◌+◌, ℕ, zero, suc, false, Some, Result, Ok, Err, IfErr, OnOk, refl, sym, ap, ap₂, subst, ◌∙◌, arith}
 use Rattle.std.specs.Prelude.{◌==◌}
 use Rattle.ddr_timing.specs.declared.config.Config.{Config}
 use Rattle.ddr_world.specs.Kept.{state_of}
@@ -12,8 +12,8 @@ use Rattle.ddr_replay.specs.Ledgers.{Ledger}
 use Rattle.ddr_replay.specs.Runs.{Run, ports_submitted, replayed, round_made, unserved}
 use Rattle.ddr_stream.specs.Stream.{Queues}
 use Rattle.ddr_replay.specs.View.{IsRunFault, Replay, run_of}
-use Rattle.ddr_replay.specs.Waits.{AreQuiet, AreWaiting}
-use Rattle.ddr_replay.proofs.QuietLemmas.{quietly, turn_failed, turn_made, turns_passed}
+use Rattle.ddr_replay.specs.Waits.{AreQuiet, AreWaiting, all_full, come_of}
+use Rattle.ddr_replay.proofs.QuietLemmas.{turn_failed, turn_made, turns_passed}
 
 abbrev MOST : ℕ
 MOST = 4294967295
@@ -46,16 +46,23 @@ made_on old ready new is busy made some next =
 
 -- so many quiet ones were
 pub passed_on : (old ready new : Replay) (count until : ℕ) → IsReady old ready → (unserved (run_of old) == 0) ≡ false → 0 < count → AreQuiet ready.config count (state_of ready.world) → AreWaiting old.config.limits.ports until (run_of ready) → ready.round + count ≤ until → count ≤ MOST - ready.round
-    → state_of new.world ≡ passed count (state_of ready.world) → new.round ≡ ready.round + count → new.queues ≡ ready.queues → new.ledger ≡ ready.ledger → replayed old.config (MOST - old.round) (run_of old) ≡ replayed old.config (MOST - new.round) (run_of new)
+    → state_of new.world ≡ passed count (state_of ready.world) → new.round ≡ ready.round + count → new.queues ≡ ready.queues → new.ledger ≡ all_full (count - 1) (come_of ready.round ready.queues) ready.config.limits.ports ready.ledger → replayed old.config (MOST - old.round) (run_of old) ≡ replayed old.config (MOST - new.round) (run_of new)
 passed_on old ready new zero until is busy some are waits within most state round queues ledger = absurd (omega (arith, some))
 passed_on old ready new (suc k) until is busy some are waits within most state round queues ledger =
     let same = ready_round old ready is in
+    let come = come_of ready.round ready.queues in
+    let after = all_full k come old.config.limits.ports ready.ledger in
+    let one_less : suc k - 1 ≡ k = omega arith in
+    let ledger_is : new.ledger ≡ after =
+    ledger
+    ∙ ap (λ n. all_full n come ready.config.limits.ports ready.ledger) one_less
+    ∙ ap (λ (c : Config). all_full k come c.limits.ports ready.ledger) is.config in
     let all : MOST - old.round ≡ suc ((MOST - new.round) + k) = omega (arith, same, most, round) in
     turns_passed old.config (MOST - old.round) (MOST - new.round) k until (run_of old) (run_of ready) all busy (still_busy old ready is busy) is.run
     (subst (λ (c : Config). AreQuiet c (suc k) (state_of ready.world)) is.config are) waits within
-    ∙ ap (λ (s : State). replayed old.config (MOST - new.round) (record { state = s; queues = ready.queues; ledger = ready.ledger; round = ready.round + suc k })) (sym state)
-    ∙ ap₂ (λ (qs : Queues) (r : ℕ). replayed old.config (MOST - new.round) (record { state = state_of new.world; queues = qs; ledger = ready.ledger; round = r })) (sym queues) (sym round)
-    ∙ ap (λ (l : Ledger). replayed old.config (MOST - new.round) (record { state = state_of new.world; queues = new.queues; ledger = l; round = new.round })) (sym ledger)
+    ∙ ap (λ (s : State). replayed old.config (MOST - new.round) (record { state = s; queues = ready.queues; ledger = after; round = ready.round + suc k })) (sym state)
+    ∙ ap₂ (λ (qs : Queues) (r : ℕ). replayed old.config (MOST - new.round) (record { state = state_of new.world; queues = qs; ledger = after; round = r })) (sym queues) (sym round)
+    ∙ ap (λ (l : Ledger). replayed old.config (MOST - new.round) (record { state = state_of new.world; queues = new.queues; ledger = l; round = new.round })) (sym ledger_is)
 
 -- the channels' part failed
 pub failed_on : (old ready : Replay) (fault : Fault) → IsReady old ready → (unserved (run_of old) == 0) ≡ false → ready.round < MOST → IsCycleFault fault (channels_served ready.config.geometry.channels (state_of ready.world)) → IsRunFault fault (replayed old.config (MOST - old.round) (run_of old))

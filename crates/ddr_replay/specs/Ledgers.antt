@@ -4,7 +4,10 @@ use Rattle.ddr_replay.specs.declared.times.Accepted.{Accepted}
 use Rattle.ddr_replay.specs.declared.times.Times.{Times}
 use Rattle.ddr_reorder.specs.declared.reply.Service.{Service}
 use Rattle.ddr_replay.specs.declared.served.Served.{Served}
+use Rattle.ddr_replay.specs.declared.waited.Waited.{Waited}
 use Rattle.ddr_replay.specs.Times.{count_of, no_times, timed}
+use Rattle.ddr_replay.specs.Waited.{no_wait, waited_for, window_waited}
+use Rattle.ddr_world.specs.declared.event.Refusal.{Refusal}
 
 pub record Ledger : Type 0 where
   -- of each port the requests that were accepted and whose replies weren't released, the oldest first
@@ -12,19 +15,32 @@ pub record Ledger : Type 0 where
   -- the times of the others: of all ports, and of each
   pub total : Times
   pub ports : List Times
+  -- for how many rounds each port waited
+  pub waited : List Waited
   -- whether the others are kept, and those that are, in the order in which their replies were released
   pub keeps : Bool
   pub served : List Served
 
 -- of so many ports, before the first request
 abbrev pub no_ledger : ℕ → Bool → Ledger
-no_ledger ports keeps = record { accepted = replicate ports []; total = no_times; ports = replicate ports no_times; keeps = keeps; served = [] }
+no_ledger ports keeps = record { accepted = replicate ports []; total = no_times; ports = replicate ports no_times; waited = replicate ports no_wait; keeps = keeps; served = [] }
 
 abbrev pub accepted_at : Ledger → ℕ → List Accepted
 accepted_at ledger port = slice_index_or ledger.accepted port []
 
 abbrev pub times_at : Ledger → ℕ → Times
 times_at ledger port = slice_index_or ledger.ports port no_times
+
+abbrev pub waited_at : Ledger → ℕ → Waited
+waited_at ledger port = slice_index_or ledger.waited port no_wait
+
+-- a port waits in a round, where its request is refused so
+abbrev pub with_wait : ℕ → Refusal → Ledger → Ledger
+with_wait port cause ledger = record ledger { waited = slice_set ledger.waited port (waited_for cause (waited_at ledger port)) }
+
+-- and in so many rounds where its window is full
+abbrev pub with_full : ℕ → ℕ → Ledger → Ledger
+with_full port rounds ledger = record ledger { waited = slice_set ledger.waited port (window_waited rounds (waited_at ledger port)) }
 
 -- a request more of a port
 abbrev pub with_accepted : ℕ → Accepted → Ledger → Ledger

@@ -9,4 +9,5 @@ pub mod ServedText
 pub mod Times
 pub mod TimesReport
 pub mod View
+pub mod Waited
 pub mod Waits

@@ -1,13 +1,15 @@
 -- What a replay comes to, in numbers.
-use Rattle.std.specs.Prelude.{◌≡◌, ℕ, ◌+◌, ◌==◌, Bool, true, false, List, [], count_by, map, fold, slice_get, Result, Ok, Err}
+use Rattle.std.specs.Prelude.{◌≡◌, ℕ, ◌==◌, max, Bool, true, false, List, count_by, map, fold, slice_get, Result, Ok, Err}
 use Rattle.std.specs.List.{list_any, range_with_len}
 use Rattle.std.specs.Option.{option_map_or}
+use Rattle.ddr_timing.specs.declared.config.Config.{Config}
 use Rattle.ddr_timing.specs.declared.units.TheConstants.{CLOCK_STOP}
 use Rattle.ddr_trace.specs.declared.command.Entry.{Entry}
 use Rattle.ddr_address_map.specs.declared.request.Kind.{Kind}
 use Rattle.ddr_address_map.specs.declared.request.Kind.TheVariants.{Read, Write}
 use Rattle.ddr_statistics.specs.declared.counts.Counts.{Counts}
 use Rattle.ddr_statistics.specs.Counts.{counts_of, is_any}
+use Rattle.ddr_statistics.specs.Debts.{debts_most}
 use Rattle.ddr_statistics.specs.Noted.{no_counts, raised}
 use Rattle.ddr_statistics.specs.Turns as turns
 use Rattle.ddr_world.specs.State.{State}
@@ -37,16 +39,21 @@ both a b = record { reads = raised b.reads a.reads; writes = raised b.writes a.w
 abbrev pub many : List Requests → Requests
 many requests = fold both (record { reads = 0; writes = 0 }) requests
 
--- the numbers of a trace
-unfoldable pub numbers_in : List Entry → Numbers
-numbers_in trace = record { turn_rounds = turns.turn_rounds trace; rank_switches = turns.rank_switches trace; counts = counts_of is_any trace }
+-- the numbers of a trace of a channel so configured, which begins in cycle 0 and ends before this one
+unfoldable pub numbers_in : Config → ℕ → List Entry → Numbers
+numbers_in config end trace = record {
+  turn_rounds = turns.turn_rounds trace;
+  rank_switches = turns.rank_switches trace;
+  refresh_debt_most = debts_most config.timing.refi 0 end config.geometry.ranks trace;
+  counts = counts_of is_any trace;
+}
 
 abbrev pub no_numbers : Numbers
-no_numbers = record { turn_rounds = 0; rank_switches = 0; counts = no_counts }
+no_numbers = record { turn_rounds = 0; rank_switches = 0; refresh_debt_most = 0; counts = no_counts }
 
 -- those of the channel of that number
 abbrev pub numbers_at : State → ℕ → Numbers
-numbers_at s c = option_map_or (λ side. numbers_in side.channel.trace) (slice_get s.channels c) no_numbers
+numbers_at s c = option_map_or (λ side. numbers_in side.channel.config side.channel.now side.channel.trace) (slice_get s.channels c) no_numbers
 
 -- those of so many channels
 abbrev pub numbers_of : State → ℕ → List Numbers
@@ -80,6 +87,7 @@ abbrev pub with_numbers : Numbers → Numbers → Numbers
 with_numbers a b = record {
   turn_rounds = raised b.turn_rounds a.turn_rounds;
   rank_switches = raised b.rank_switches a.rank_switches;
+  refresh_debt_most = max a.refresh_debt_most b.refresh_debt_most;
   counts = added a.counts b.counts;
 }
 

@@ -3,12 +3,13 @@ use Rattle.std.specs.Prelude.{ℕ, ◌*◌, ◌/◌, ◌%◌, if◌then◌else�
 use Rattle.std.specs.Fmt.{decimal}
 use Rattle.std.specs.List.{range_with_len}
 use Rattle.std.specs.Option.{option_map_or}
-use Rattle.ddr_timing.specs.declared.geometry.Geometry.{Geometry}
+use Rattle.ddr_timing.specs.declared.config.Config.{Config}
 use Rattle.ddr_timing.specs.declared.units.TheConstants.{GROUP_BANKS}
 use Rattle.ddr_trace.specs.declared.command.Entry.{Entry}
 use Rattle.ddr_statistics.specs.declared.counts.Counts.{Counts}
 use Rattle.ddr_statistics.specs.Counts.{counts_of, is_of_one, is_of_rank}
-use Rattle.ddr_statistics.specs.Text.{counts_text, is_unused}
+use Rattle.ddr_statistics.specs.Debts.{debt_most}
+use Rattle.ddr_statistics.specs.Text.{counts_text, is_unused, line}
 use Rattle.ddr_world.specs.State.{State}
 
 unfoldable pub rank_title : ℕ → ℕ → List ℕ
@@ -22,18 +23,23 @@ bank_title rank group bank = decimal rank ++ (codes "." ++ (decimal group ++ (co
 unfoldable pub bank_head : ℕ → List ℕ → List ℕ
 bank_head channel title = 10 ∷ (codes "[channel." ++ (decimal channel ++ (codes ".bank." ++ (title ++ (codes "]" ++ 10 ∷ [])))))
 
+-- the most refreshes that a rank owed
+unfoldable pub debt_line : ℕ → List ℕ
+debt_line most = line (codes "refresh_debt_most = ") most []
+
 -- the table of a rank of these numbers
-unfoldable pub rank_table : ℕ → ℕ → Counts → List ℕ
-rank_table channel rank counts = rank_title channel rank ++ counts_text counts
+unfoldable pub rank_table : ℕ → ℕ → ℕ → Counts → List ℕ
+rank_table channel rank most counts = rank_title channel rank ++ debt_line most ++ counts_text counts
 
 -- the table of a bank of these numbers, if it had a command
 unfoldable pub bank_table : ℕ → ℕ → ℕ → ℕ → Counts → List ℕ
 bank_table channel rank group bank counts =
     if is_unused counts then [] else bank_head channel (bank_title rank group bank) ++ counts_text counts
 
--- of all commands of a rank
-abbrev pub rank_table_of : ℕ → List Entry → ℕ → List ℕ
-rank_table_of channel trace rank = rank_table channel rank (counts_of (is_of_rank rank) trace)
+-- of all commands of a rank, in a trace that begins in cycle 0 and ends before this one
+abbrev pub rank_table_of : Config → ℕ → ℕ → List Entry → ℕ → List ℕ
+rank_table_of config channel end trace rank =
+    rank_table channel rank (debt_most config.timing.refi 0 end rank trace) (counts_of (is_of_rank rank) trace)
 
 -- of the commands of one bank alone
 abbrev pub bank_table_of : ℕ → List Entry → ℕ → ℕ → ℕ → List ℕ
@@ -44,20 +50,20 @@ abbrev pub bank_table_at : ℕ → ℕ → List Entry → ℕ → List ℕ
 bank_table_at rank_banks channel trace place =
     bank_table_of channel trace (place / rank_banks) (place % rank_banks / GROUP_BANKS) (place % GROUP_BANKS)
 
-unfoldable pub ranks_tables : Geometry → ℕ → List Entry → List ℕ
-ranks_tables geometry channel trace = flat_map (rank_table_of channel trace) (range_with_len 0 geometry.ranks)
+unfoldable pub ranks_tables : Config → ℕ → ℕ → List Entry → List ℕ
+ranks_tables config channel end trace = flat_map (rank_table_of config channel end trace) (range_with_len 0 config.geometry.ranks)
 
-unfoldable pub banks_tables : Geometry → ℕ → List Entry → List ℕ
-banks_tables geometry channel trace =
-    flat_map (bank_table_at (geometry.groups * GROUP_BANKS) channel trace) (range_with_len 0 (geometry.ranks * (geometry.groups * GROUP_BANKS)))
+unfoldable pub banks_tables : Config → ℕ → List Entry → List ℕ
+banks_tables config channel trace =
+    flat_map (bank_table_at (config.geometry.groups * GROUP_BANKS) channel trace) (range_with_len 0 (config.geometry.ranks * (config.geometry.groups * GROUP_BANKS)))
 
 -- the tables of a channel's ranks, and of its banks
-unfoldable pub channel_places : Geometry → ℕ → List Entry → List ℕ
-channel_places geometry channel trace = ranks_tables geometry channel trace ++ banks_tables geometry channel trace
+unfoldable pub channel_places : Config → ℕ → ℕ → List Entry → List ℕ
+channel_places config channel end trace = ranks_tables config channel end trace ++ banks_tables config channel trace
 
 -- those of the channel of that number
 abbrev pub places_at : State → ℕ → List ℕ
-places_at s channel = option_map_or (λ side. channel_places side.channel.config.geometry channel side.channel.trace) (slice_get s.channels channel) []
+places_at s channel = option_map_or (λ side. channel_places side.channel.config channel side.channel.now side.channel.trace) (slice_get s.channels channel) []
 
 -- those of so many channels
 unfoldable pub places_tables : State → ℕ → List ℕ

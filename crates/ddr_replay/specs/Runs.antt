@@ -1,10 +1,11 @@
 -- A replay: before each round each port submits what it may, then comes the round of `sim`.
-use Rattle.std.specs.Prelude.{ℕ, Bool, ◌+◌, ◌==◌, suc, zero, nat_lt, if◌then◌else◌, List, [], ◌∷◌, length, slice_set, sum_by, Option, Some, None, Result, Ok, Err}
+use Rattle.std.specs.Prelude.{ℕ, Bool, ◌+◌, ◌==◌, suc, zero, nat_lt, if◌then◌else◌, List, [], ◌∷◌, length, slice_set, sum_by, Option, Result, Ok, Err}
 use Rattle.std.specs.Option.{option_map, option_map_or}
 use Rattle.ddr_timing.specs.declared.config.Config.{Config}
 use Rattle.ddr_world.specs.Events.{Submit, Collect, Release}
 use Rattle.ddr_world.specs.State.{State, opened}
 use Rattle.ddr_world.specs.Step.{Step, step}
+use Rattle.ddr_world.specs.declared.event.Refusal.{Refusal}
 use Rattle.ddr_text.specs.declared.fault.Fault.{Fault}
 use Rattle.ddr_text.specs.declared.fault.Fault.TheVariants.{ClockSpent, ReplayLimit}
 use Rattle.ddr_world.specs.Served.{front_service}
@@ -13,7 +14,7 @@ use Rattle.ddr_sim.specs.Rounds.{after, channels_served, items_of, outstanding, 
 use Rattle.ddr_stream.specs.declared.ask.Ask.{Ask}
 use Rattle.ddr_replay.specs.declared.times.Accepted.{Accepted}
 use Rattle.ddr_stream.specs.Asks.{asked_by}
-use Rattle.ddr_replay.specs.Ledgers.{Ledger, no_ledger, noted, with_accepted}
+use Rattle.ddr_replay.specs.Ledgers.{Ledger, no_ledger, noted, with_accepted, with_wait}
 use Rattle.ddr_stream.specs.Stream.{Queues, queue_at}
 
 -- what a replay has come to: the core's state, what each port has still to submit, what is known of the times of requests, and
@@ -30,10 +31,10 @@ pub record Submitted : Type 0 where
   pub ledger : Ledger
   pub rest : List Ask
 
--- on with the others behind a request that is accepted; one that is refused waits
-abbrev pub after_answer : (State → Submitted) → Submitted → Step → Submitted
+-- on with the others behind a request that is accepted; one that is refused waits, for what it is refused for
+abbrev pub after_answer : (State → Submitted) → (Refusal → Submitted) → Step → Submitted
 after_answer on wait (Ok m) = on m.state
-after_answer on wait (Err cause) = wait
+after_answer on wait (Err cause) = wait cause
 
 -- a request that is accepted before a round
 abbrev pub accepted_in : ℕ → Ask → Accepted
@@ -44,7 +45,7 @@ abbrev pub submitted : ℕ → ℕ → List Ask → State → Ledger → Submitt
 submitted p round [] s ledger = record { state = s; ledger = ledger; rest = [] }
 submitted p round (ask ∷ more) s ledger =
     if nat_lt round ask.at then record { state = s; ledger = ledger; rest = ask ∷ more }
-    else after_answer (λ next. submitted p round more next (with_accepted p (accepted_in round ask) ledger)) (record { state = s; ledger = ledger; rest = ask ∷ more }) (step s (Submit p (asked_by ask)))
+    else after_answer (λ next. submitted p round more next (with_accepted p (accepted_in round ask) ledger)) (λ cause. record { state = s; ledger = with_wait p cause ledger; rest = ask ∷ more }) (step s (Submit p (asked_by ask)))
 
 abbrev pub with_submitted : ℕ → Run → Submitted → Run
 with_submitted p run s = record run { state = s.state; queues = slice_set run.queues p s.rest; ledger = s.ledger }

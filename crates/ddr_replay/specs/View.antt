@@ -1,5 +1,5 @@
 -- What contracts see of a replay.
-use Rattle.std.specs.Prelude.{◌≡◌, ℕ, ◌≤◌, Bool, true, false, length, Option, Some, None, Result, Err}
+use Rattle.std.specs.Prelude.{◌≡◌, ℕ, Bool, true, false, length, Some, None, Result, Err}
 use Rattle.ddr_timing.specs.declared.config.Config.{Config}
 use Rattle.ddr_world.specs.Events.{Event, Take, Deliver, Collect, Release}
 use Rattle.ddr_world.specs.Kept.{Kept, state_of}
@@ -38,6 +38,13 @@ pub record IsSame (old new : Replay) : Type 0 where
   pub config : new.config ≡ old.config
   pub queues : new.queues ≡ old.queues
   pub ledger : new.ledger ≡ old.ledger
+  pub round : new.round ≡ old.round
+
+-- all but the ledger is as it was
+pub record IsButLedger (old new : Replay) : Type 0 where
+  pub config : new.config ≡ old.config
+  pub world : new.world ≡ old.world
+  pub queues : new.queues ≡ old.queues
   pub round : new.round ≡ old.round
 
 -- the reply in front of the port was released, if there was one

@@ -1,13 +1,16 @@
-//! When requests were accepted, and how long those took whose replies were released.
+//! When requests were accepted, how long those took whose replies were released, and for how long ports waited.
 //!
-//! `times` and `served` stand below, and `submitting`, `replaying` and `telling` above.
+//! `times`, `waited` and `served` stand below, and `submitting`, `replaying` and `telling` above.
 ghost use Rattle.std.specs.Prelude.{◌≡◌, [], ◌∷◌, ◌++◌, drop, replicate, slice_get, IfOk, OnOk, Some};
-ghost use Rattle.ddr_replay.specs.Ledgers.{accepted_at, no_ledger, noted, served_of, times_at, with_accepted, with_served, with_times, without_oldest};
+ghost use Rattle.ddr_replay.specs.Ledgers.{accepted_at, no_ledger, noted, served_of, times_at, with_accepted, with_full, with_served, with_times, with_wait, without_oldest};
 ghost use Rattle.ddr_replay.specs.Times.{count_of, no_times};
+ghost use Rattle.ddr_replay.specs.Waited.{no_wait};
 
 use crate::served::Served;
 use crate::times::{Accepted, Times};
+use crate::waited::Waited;
 use ddr_reorder::reply::Service;
+use ddr_world::event::Refusal;
 use std::alloc::{AllocError, Global};
 use std::collections::VecDeque;
 use std::marker::Model;
@@ -57,6 +60,8 @@ pub struct Ledger {
     accepted: Vec<Outstanding>,
     total: Times,
     ports: Vec<Times>,
+    /// For how many rounds each port waited.
+    waited: Vec<Waited>,
     /// Whether the requests whose replies were released are kept.
     keeps: bool,
     served: Vec<Served>,
@@ -67,7 +72,7 @@ impl Model for Ledger {
 
     ghost Value = { Ledger };
 
-    ghost view = { λ a. record { accepted = a.accepted.items; total = a.total; ports = a.ports.items; keeps = a.keeps; served = a.served.items } };
+    ghost view = { λ a. record { accepted = a.accepted.items; total = a.total; ports = a.ports.items; waited = a.waited.items; keeps = a.keeps; served = a.served.items } };
 }
 
 impl Ledger {
@@ -79,6 +84,7 @@ impl Ledger {
             accepted: none_outstanding(alloc, ports)?,
             total: Times::NONE,
             ports: no_times(alloc, ports)?,
+            waited: no_waits(alloc, ports)?,
             keeps,
             served: Vec::new(alloc),
         })
@@ -92,6 +98,24 @@ impl Ledger {
             self.accepted[port as usize].push(accepted)?;
         }
         Ok(())
+    }
+
+    /// Notes that a port waits in a round, since its request is refused so.
+    pub fn wait(&mut self, port: u32, cause: Refusal)
+        ensures { self.new ≡ with_wait port cause self.old }
+    {
+        if (port as usize) < self.waited.len() {
+            self.waited[port as usize].refuse(cause);
+        }
+    }
+
+    /// Notes that a port waits for its window in so many rounds.
+    pub fn fill(&mut self, port: u32, rounds: u64)
+        ensures { self.new ≡ with_full port rounds self.old }
+    {
+        if (port as usize) < self.waited.len() {
+            self.waited[port as usize].fill(rounds);
+        }
     }
 
     /// Notes that the reply of a port's oldest request, which was served so, is released in that round.
@@ -177,6 +201,13 @@ impl Ledger {
         &self.total
     }
 
+    /// For how many rounds each port waited.
+    pub fn waited(&self) -> &[Waited]
+        ensures { result.now ≡ self.now.waited }
+    {
+        self.waited.as_slice()
+    }
+
     /// The times of each port.
     pub fn ports(&self) -> &[Times]
         ensures { result.now ≡ self.now.ports }
@@ -203,6 +234,17 @@ fn no_times(alloc: Global, ports: u32) -> Result<Vec<Times>, AllocError>
     let mut all = Vec::new(alloc);
     for _ in 0..ports {
         all.push(Times::NONE)?;
+    }
+    Ok(all)
+}
+
+/// Of so many ports, which didn't wait yet.
+fn no_waits(alloc: Global, ports: u32) -> Result<Vec<Waited>, AllocError>
+    ensures { IfOk result (λ v. v.items ≡ replicate ports no_wait) }
+{
+    let mut all = Vec::new(alloc);
+    for _ in 0..ports {
+        all.push(Waited::NONE)?;
     }
     Ok(all)
 }

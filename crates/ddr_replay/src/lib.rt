@@ -3,9 +3,9 @@
 //! Below stand the stream's requests (`ddr_stream`), the program's texts (`ddr_text`), the core (`ddr_world`) and the statistics of a
 //! trace (`ddr_statistics`), and of `ddr_sim` the definition of a round. Above stands `ddr_tool`, whose command line asks for
 //! `replay`. `submitting` lets a port submit, `replaying` makes all the rounds, `ledger` keeps when requests were accepted, how long
-//! they took (`times`) and, where that is asked for, each of them (`served`), with how it found its bank (`found`). `numbers` counts what
+//! they took (`times`), for how long ports waited (`waited`) and, where that is asked for, each of them (`served`), with how it found its bank (`found`). `numbers` counts what
 //! they come to, `report` is the text of that and `places` that of ranks and banks, `times_report` that of how long requests took,
-//! `telling` is what is told of a run, and `replay` does it all over a reader and a writer.
+//! `watch` is who is told how far a run has come, `telling` is what is told of it at its end, and `replay` does it all over a reader and a writer.
 #![tactic(auto)]
 
 mod found;
@@ -20,3 +20,5 @@ mod submitting;
 mod telling;
 mod times;
 mod times_report;
+mod waited;
+pub mod watch;

@@ -5,6 +5,7 @@ ghost use Rattle.std.specs.Prelude.{◌≡◌, ◌≢◌, All, true, false, ◌+
 ghost use Rattle.std.specs.List.{range_with_len};
 ghost use Rattle.ddr_timing.specs.declared.units.TheConstants.{CLOCK_STOP};
 ghost use Rattle.ddr_trace.specs.Rules.{is_in};
+ghost use Rattle.ddr_statistics.specs.Debts.{IsInOrder};
 ghost use Rattle.ddr_statistics.specs.Stands.{StandsFor};
 ghost use Rattle.ddr_world.specs.Kept.{state_of};
 ghost use Rattle.ddr_replay.specs.Numbers.{IsCounted, added, both, is_any_spent, is_kind, is_spent, many, numbers_at, numbers_in, of_kind, requests_in, together};
@@ -34,6 +35,8 @@ pub struct Requests {
 pub struct Numbers {
     pub turn_rounds: u64,
     pub rank_switches: u64,
+    /// The most refreshes that a rank owed in a cycle.
+    pub refresh_debt_most: u64,
     pub counts: Counts,
 }
 
@@ -48,6 +51,7 @@ impl Numbers {
     pub const NONE: Numbers = Numbers {
         turn_rounds: 0,
         rank_switches: 0,
+        refresh_debt_most: 0,
         counts: Counts::NONE,
     };
 }
@@ -131,7 +135,7 @@ fn numbers_at(world: &World, channel: u32) -> Result<Numbers, Fault>
 
 /// The numbers of a channel.
 fn numbers_in(channel: &Channel) -> Result<Numbers, Fault>
-    ensures counted { IfOk result (λ n. n ≡ numbers_in channel.now.trace) }
+    ensures counted { IfOk result (λ n. n ≡ numbers_in channel.now.config channel.now.now channel.now.trace) }
     ensures running { IfOk result (λ n. channel.now.now ≢ CLOCK_STOP) }
     ensures spent { IfErr result (λ fault. (fault ≡ Fault.ClockSpent) × (channel.now.now ≡ CLOCK_STOP)) }
 {
@@ -142,6 +146,7 @@ fn numbers_in(channel: &Channel) -> Result<Numbers, Fault>
     Ok(Numbers {
         turn_rounds: statistics.turn_rounds(),
         rank_switches: statistics.rank_switches(),
+        refresh_debt_most: statistics.refresh_debts_most(channel.now()),
         counts: statistics.total(),
     })
 }
@@ -168,11 +173,15 @@ fn is_spent(world: &World, channel: u32) -> bool
     }
 }
 
-/// The statistics of a channel whose clock has not come to its end.
+/// The statistics of a channel whose clock has not come to its end. A replay's channels begin in cycle 0.
 pub fn statistics_in(channel: &Channel) -> Statistics
     requires { channel.now.now ≢ CLOCK_STOP }
     ensures stands { StandsFor result channel.now.trace }
     ensures geometry { result.geometry ≡ channel.now.config.geometry }
+    ensures timing { result.timing ≡ channel.now.config.timing }
+    ensures start { result.start ≡ 0 }
+    ensures few { length channel.now.trace < CLOCK_STOP }
+    ensures order { IsInOrder channel.now.now channel.now.trace }
 {
     statistics_of(channel.config(), channel.trace())
 }
@@ -183,6 +192,8 @@ fn statistics_of(config: &Config, trace: &[Entry]) -> Statistics
     requires few { length trace.now < CLOCK_STOP }
     ensures stands { StandsFor result trace.now }
     ensures geometry { result.geometry ≡ config.now.geometry }
+    ensures timing { result.timing ≡ config.now.timing }
+    ensures start { result.start ≡ 0 }
 {
     let mut statistics = Statistics::open(config, 0);
     for entry in trace {
@@ -200,6 +211,7 @@ pub fn together(numbers: &[Numbers]) -> Numbers
         all = Numbers {
             turn_rounds: all.turn_rounds.saturating_add(one.turn_rounds),
             rank_switches: all.rank_switches.saturating_add(one.rank_switches),
+            refresh_debt_most: all.refresh_debt_most.max(one.refresh_debt_most),
             counts: added(&all.counts, &one.counts),
         };
     }

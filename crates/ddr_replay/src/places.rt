@@ -5,7 +5,7 @@ ghost use Rattle.std.specs.Prelude.{◌≡◌, ◌≢◌, false, IfOk, string_by
 ghost use Rattle.ddr_timing.specs.declared.units.TheConstants.{CLOCK_STOP};
 ghost use Rattle.ddr_world.specs.Kept.{state_of};
 ghost use Rattle.ddr_replay.specs.Numbers.{is_any_spent, is_spent};
-ghost use Rattle.ddr_replay.specs.Places.{bank_head, bank_table, bank_title, banks_tables, channel_places, places_at, places_tables, rank_table, rank_title, ranks_tables};
+ghost use Rattle.ddr_replay.specs.Places.{bank_head, bank_table, bank_title, banks_tables, channel_places, debt_line, places_at, places_tables, rank_table, rank_title, ranks_tables};
 
 use crate::numbers::statistics_in;
 use ddr_channel::channel::Channel;
@@ -16,7 +16,7 @@ use ddr_timing::units::GROUP_BANKS;
 use ddr_world::world::World;
 use std::alloc::{AllocError, Global};
 
-/// A table `channel.C.rank.R` of each rank of each channel, and behind those of a channel a table `channel.C.bank.R.G.B` of each
+/// A table `channel.C.rank.R` of each rank of each channel, with the key `refresh_debt_most` before those of its commands, and behind those of a channel a table `channel.C.bank.R.G.B` of each
 /// bank that had a command of its own.
 #[tactic(auto, unfolding(crate::specs::Places::places_tables))]
 pub fn places_tables(alloc: Global, world: &World, channels: u32) -> Result<String, AllocError>
@@ -46,7 +46,7 @@ fn places_at(alloc: Global, world: &World, number: u32) -> Result<String, AllocE
 #[tactic(auto, unfolding(crate::specs::Places::channel_places))]
 fn channel_places(alloc: Global, number: u32, channel: &Channel) -> Result<String, AllocError>
     requires { channel.now.now ≢ CLOCK_STOP }
-    ensures { IfOk result (λ text. string_bytes text ≡ channel_places channel.now.config.geometry number channel.now.trace) }
+    ensures { IfOk result (λ text. string_bytes text ≡ channel_places channel.now.config number channel.now.now channel.now.trace) }
 {
     let mut text = ranks_tables(alloc, number, channel)?;
     let banks = banks_tables(alloc, number, channel)?;
@@ -58,12 +58,13 @@ fn channel_places(alloc: Global, number: u32, channel: &Channel) -> Result<Strin
 #[tactic(auto, unfolding(crate::specs::Places::ranks_tables))]
 fn ranks_tables(alloc: Global, number: u32, channel: &Channel) -> Result<String, AllocError>
     requires { channel.now.now ≢ CLOCK_STOP }
-    ensures { IfOk result (λ text. string_bytes text ≡ ranks_tables channel.now.config.geometry number channel.now.trace) }
+    ensures { IfOk result (λ text. string_bytes text ≡ ranks_tables channel.now.config number channel.now.now channel.now.trace) }
 {
     let statistics = statistics_in(channel);
     let mut text = String::new(alloc);
     for rank in 0..statistics.geometry().ranks {
-        let table = rank_table(alloc, number, rank, &statistics.rank(rank))?;
+        let most = statistics.refresh_debt_most(rank, channel.now());
+        let table = rank_table(alloc, number, rank, most, &statistics.rank(rank))?;
         text.push_str(table.as_str())?;
     }
     Ok(text)
@@ -71,13 +72,29 @@ fn ranks_tables(alloc: Global, number: u32, channel: &Channel) -> Result<String,
 
 /// The table of a rank of these numbers, behind an empty line.
 #[tactic(auto, unfolding(crate::specs::Places::rank_table))]
-fn rank_table(alloc: Global, channel: u32, rank: u32, counts: &Counts) -> Result<String, AllocError>
-    ensures { IfOk result (λ text. string_bytes text ≡ rank_table channel rank counts.now) }
+fn rank_table(
+    alloc: Global,
+    channel: u32,
+    rank: u32,
+    most: u64,
+    counts: &Counts,
+) -> Result<String, AllocError>
+    ensures { IfOk result (λ text. string_bytes text ≡ rank_table channel rank most counts.now) }
 {
     let mut text = rank_title(alloc, channel, rank)?;
+    let debt = debt_line(alloc, most)?;
+    text.push_str(debt.as_str())?;
     let lines = counts_text(alloc, counts)?;
     text.push_str(lines.as_str())?;
     Ok(text)
+}
+
+/// The most refreshes that a rank owed in a cycle.
+#[tactic(auto, unfolding(crate::specs::Places::debt_line))]
+pub fn debt_line(alloc: Global, most: u64) -> Result<String, AllocError>
+    ensures { IfOk result (λ text. string_bytes text ≡ debt_line most) }
+{
+    format!(in alloc; "refresh_debt_most = {most}\n")
 }
 
 #[tactic(auto, unfolding(crate::specs::Places::rank_title))]
@@ -91,7 +108,7 @@ fn rank_title(alloc: Global, channel: u32, rank: u32) -> Result<String, AllocErr
 #[tactic(auto, unfolding(crate::specs::Places::banks_tables))]
 fn banks_tables(alloc: Global, number: u32, channel: &Channel) -> Result<String, AllocError>
     requires { channel.now.now ≢ CLOCK_STOP }
-    ensures { IfOk result (λ text. string_bytes text ≡ banks_tables channel.now.config.geometry number channel.now.trace) }
+    ensures { IfOk result (λ text. string_bytes text ≡ banks_tables channel.now.config number channel.now.trace) }
 {
     let statistics = statistics_in(channel);
     let rank_banks = statistics.geometry().groups * GROUP_BANKS;

@@ -1,6 +1,6 @@
 //! A replay of a stream of requests: bytes in, statistics, requests or a trace out.
 //!
-//! `ddr_stream`, `replaying`, `telling` and `ddr_text` stand below, and `ddr_tool` above.
+//! `ddr_stream`, `replaying`, `watch`, `telling` and `ddr_text` stand below, and `ddr_tool` above.
 ghost use Rattle.std.specs.Prelude.{◌≡◌, ◌≤◌, ◌⊎◌, IfErr, IfOk, IfSome, IsErrOf, IsTrue, OnOk, length};
 ghost use Rattle.ddr_text.specs.Fault.{is_before_output};
 ghost use Rattle.ddr_replay.specs.Replays.{HasReplayFault, IsNoStream, IsReplayed, IsSaid, IsStream, keeps_served, names_no_channel, report_of};
@@ -8,6 +8,7 @@ ghost use Rattle.ddr_replay.specs.Replays.{HasReplayFault, IsNoStream, IsReplaye
 use crate::numbers::requests_of;
 use crate::replaying::Replaying;
 use crate::telling::told_of;
+use crate::watch::Watch;
 use ddr_stream::stream::{LONGEST_STREAM, queues_of};
 use ddr_text::body::take_apart;
 use ddr_text::command::{Reading, Told};
@@ -31,15 +32,16 @@ use std::str;
 ///
 /// Fails as `take_apart` does, then as `TraceNoSuch` where there is no channel of that number, then as `ReplayLine` or `ReplayRange` at
 /// the first line of the stream that is at fault, then as `ReplayLimit` where more than `MOST_ROUNDS` rounds are needed, or as
-/// `ClockSpent`. Nothing is written before all of it is there, so only `Write` may leave a part of it. Over bytes in memory it
+/// `ClockSpent`. `watch` is told now and then how far the rounds have come. Nothing is written before all of it is there, so only `Write` may leave a part of it. Over bytes in memory it
 /// never fails as `Read` or as `Write`.
-pub fn replay<R: Source, W: Sink>(
+pub fn replay<R: Source, W: Sink, V: Watch>(
     alloc: Global,
     sample: bool,
     reading: Reading,
     told: Told,
     reader: &mut R,
     writer: &mut W,
+    watch: &mut V,
 ) -> Result<(), Fault>
     ensures untouched { IfErr result (λ fault. IsTrue (is_before_output fault) → writer.new ≡ writer.old) }
     ensures stopped { IsErrOf result Fault.ClockSpent → writer.new ≡ writer.old }
@@ -55,7 +57,7 @@ pub fn replay<R: Source, W: Sink>(
     let input = read_at_most(alloc, LONGEST_STREAM, reader)?;
     let text = text_of(input.as_slice())?;
     let (config, body) = take_apart(alloc, sample, text)?;
-    let report = report_of(alloc, &config, reading, told, body)?;
+    let report = report_of(alloc, &config, reading, told, body, watch)?;
     write_bytes(writer, report.as_slice())
 }
 
@@ -69,12 +71,13 @@ fn text_of(bytes: &[u8]) -> Result<&str, Fault>
 }
 
 /// What is told of a body. Fails where the channel isn't there, the body is at fault, or its replay comes to no end.
-fn report_of(
+fn report_of<V: Watch>(
     alloc: Global,
     config: &Config,
     reading: Reading,
     told: Told,
     body: &str,
+    watch: &mut V,
 ) -> Result<Vec<u8>, Fault>
     requires { length body.now ≤ LONGEST_STREAM }
     ensures { IsSaid (λ v. v.items) result (report_of config.now reading told body.now) }
@@ -85,7 +88,7 @@ fn report_of(
     let queues = queues_of(alloc, config, reading, body)?;
     let requests = requests_of(alloc, queues.as_slice())?;
     let mut replaying = Replaying::open(alloc, config, keeps_served(told), queues)?;
-    replaying.run()?;
+    replaying.run(watch)?;
     told_of(alloc, config, told, requests.as_slice(), &replaying)
 }
 

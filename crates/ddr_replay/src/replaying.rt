@@ -1,6 +1,6 @@
 //! The core, and the requests that are still to be submitted: a replay from its first round to its last.
 //!
-//! `submitting`, `ddr_stream`, `ledger` and `ddr_world` stand below, and `replay` above.
+//! `submitting`, `ddr_stream`, `ledger`, `watch` and `ddr_world` stand below, and `replay` above.
 ghost use Rattle.std.specs.Prelude.{◌≡◌, ◌==◌, ℕ, ◌+◌, ◌-◌, ◌<◌, ◌≤◌, false, true, IfErr, IfOk, IsTrue, OnOk, Some, None, Ok, length, sum_by};
 ghost use Rattle.ddr_sim.specs.Rounds.{channel_served, channels_served, items_of, until_refused};
 ghost use Rattle.ddr_sim.specs.Simulated.{IsCycleFault, added};
@@ -10,11 +10,12 @@ ghost use Rattle.ddr_world.specs.Served.{front_service};
 ghost use Rattle.ddr_world.specs.Kept.{state_of};
 ghost use Rattle.ddr_world.specs.Quiet.{passed};
 ghost use Rattle.ddr_replay.specs.Runs.{begun, port_served, port_submitted, ports_served, ports_submitted, replayed, round_made, unserved};
-ghost use Rattle.ddr_replay.specs.View.{IsFrontReleased, IsRunFault, IsSame, is_popping, run_of};
-ghost use Rattle.ddr_replay.specs.Waits.{AreQuiet, AreWaiting, IsWaitingIn};
+ghost use Rattle.ddr_replay.specs.View.{IsButLedger, IsFrontReleased, IsRunFault, IsSame, is_popping, run_of};
+ghost use Rattle.ddr_replay.specs.Waits.{AreQuiet, AreWaiting, IsWaitingIn, all_full, come_of, filled};
 
 use crate::ledger::Ledger;
 use crate::submitting::submit_from;
+use crate::watch::Watch;
 use ddr_reorder::reply::{Reply, Service};
 use ddr_stream::queue::Queue;
 use ddr_stream::stream::count_all;
@@ -27,6 +28,9 @@ use std::marker::Model;
 
 /// The most rounds of a replay, this project's choice.
 pub const MOST_ROUNDS: u32 = u32::MAX;
+
+/// In how many turns a watcher is told once: a turn is a round, or some quiet ones that are made at once.
+const TOLD_EVERY: u32 = 4096;
 
 /// A replay. Contracts see it as `Replay`.
 #[derive(Drop)]
@@ -79,18 +83,28 @@ impl Replaying {
         })
     }
 
-    /// Makes rounds until all requests were submitted and their replies released.
+    /// Makes rounds until all requests were submitted and their replies released, and tells the watcher how far it has come.
     ///
     /// Fails as `ReplayLimit` where one round too many is to be made, as `ClockSpent`, and as `OutOfMemory`.
-    pub fn run(&mut self) -> Result<(), Fault>
+    pub fn run<V: Watch>(&mut self, watch: &mut V) -> Result<(), Fault>
         ensures ok { OnOk result (replayed self.old.config (MOST_ROUNDS - self.old.round) (run_of self.old) ≡ Ok (run_of self.new)) }
         ensures fault { IfErr result (λ fault. IsRunFault fault (replayed self.old.config (MOST_ROUNDS - self.old.round) (run_of self.old))) }
         ensures config { self.new.config ≡ self.old.config }
     {
+        let mut turns: u32 = 0;
         'rounds: while !self.is_over() {
             self.turn()?;
+            turns = turns.wrapping_add(1);
+            self.tell(turns, watch);
         }
         Ok(())
+    }
+
+    /// Tells the watcher how far the replay has come, where so many turns call for it.
+    fn tell<V: Watch>(&self, turns: u32, watch: &mut V) {
+        if turns % TOLD_EVERY == 0 {
+            watch.told(u128::from(self.ledger.total().count()), self.round);
+        }
     }
 
     /// Whether no request is to be submitted, and none waits for its reply to be released.
@@ -181,18 +195,52 @@ impl Replaying {
         false
     }
 
-    /// Makes so many quiet rounds at once.
+    /// Makes so many quiet rounds at once: before the first of them each port has submitted, and before each other one those whose
+    /// next request's cycle has come find their windows full again.
     fn pass(&mut self, count: u32)
         requires quiet { AreQuiet self.old.config count (state_of self.old.world) }
         requires within { count ≤ MOST_ROUNDS - self.old.round }
         ensures state { state_of self.new.world ≡ passed count (state_of self.old.world) }
         ensures round { self.new.round ≡ self.old.round + count }
         ensures queues { self.new.queues ≡ self.old.queues }
-        ensures ledger { self.new.ledger ≡ self.old.ledger }
+        ensures ledger { self.new.ledger ≡ all_full (count - 1) (come_of self.old.round self.old.queues) self.old.config.limits.ports self.old.ledger }
         ensures config { self.new.config ≡ self.old.config }
     {
+        self.fill_all(u64::from(count.saturating_sub(1)));
         self.world.pass(u64::from(count));
         self.round += count;
+    }
+
+    /// Lets each port whose next request's cycle has come wait for its window, in so many rounds.
+    fn fill_all(&mut self, rounds: u64)
+        ensures ledger { self.new.ledger ≡ all_full rounds (come_of self.old.round self.old.queues) self.old.config.limits.ports self.old.ledger }
+        ensures rest { IsButLedger self.old self.new }
+    {
+        for port in 0..self.config.limits.ports {
+            self.fill(port, rounds);
+        }
+    }
+
+    /// Lets a port wait for its window in so many rounds, if its next request's cycle has come.
+    fn fill(&mut self, port: u32, rounds: u64)
+        requires { port < self.old.config.limits.ports }
+        ensures ledger { self.new.ledger ≡ filled rounds (come_of self.old.round self.old.queues) port self.old.ledger }
+        ensures rest { IsButLedger self.old self.new }
+    {
+        if self.has_come(port) {
+            self.ledger.fill(port, rounds);
+        }
+    }
+
+    /// Whether the cycle of a port's next request has come.
+    fn has_come(&self, port: u32) -> bool
+        requires { port < self.now.config.limits.ports }
+        ensures { result ≡ come_of self.now.round self.now.queues port }
+    {
+        match self.queues[port as usize].first() {
+            Some(ask) => ask.at <= u64::from(self.round),
+            None => false,
+        }
     }
 
     /// Makes a round: each channel's part in order, then each port's.

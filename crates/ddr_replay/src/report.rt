@@ -1,12 +1,15 @@
 //! The statistics of a replay as text.
 //!
-//! `numbers`, `times_report` and `ddr_statistics` stand below, and `telling` above. `specs/Report.antt` has the text, byte for byte.
-ghost use Rattle.std.specs.Prelude.{◌≡◌, IfOk, string_bytes};
-ghost use Rattle.ddr_replay.specs.Report.{channel_table, channel_tables, head_text, numbers_lines, port_table, port_tables, report_lines, requests_lines, total_table};
+//! `numbers`, `waited`, `places`, `times_report` and `ddr_statistics` stand below, and `telling` above. `specs/Report.antt` has the text, byte for byte.
+ghost use Rattle.std.specs.Prelude.{◌≡◌, IfOk, slice_index_or, string_bytes};
+ghost use Rattle.ddr_replay.specs.Report.{channel_table, channel_tables, head_text, numbers_lines, port_table, port_tables, report_lines, requests_lines, total_table, waited_lines};
+ghost use Rattle.ddr_replay.specs.Waited.{no_wait};
 
 use crate::ledger::Ledger;
 use crate::numbers::{Numbers, Requests, many, together};
+use crate::places::debt_line;
 use crate::times_report::ledger_tables;
+use crate::waited::{Waited, all_waited};
 use ddr_statistics::text::counts_text;
 use ddr_timing::config::Config;
 use std::alloc::{AllocError, Global};
@@ -26,11 +29,16 @@ pub fn report_lines(
     ensures { IfOk result (λ text. string_bytes text ≡ report_lines config.now requests.now numbers.now ledger.now cycles) }
 {
     let mut text = head_text(alloc, config, cycles)?;
-    let total = total_table(alloc, &many(requests), &together(numbers))?;
+    let total = total_table(
+        alloc,
+        &many(requests),
+        &all_waited(ledger.waited()),
+        &together(numbers),
+    )?;
     text.push_str(total.as_str())?;
     let channels = channel_tables(alloc, numbers)?;
     text.push_str(channels.as_str())?;
-    let ports = port_tables(alloc, requests)?;
+    let ports = port_tables(alloc, requests, ledger.waited())?;
     text.push_str(ports.as_str())?;
     let times = ledger_tables(alloc, ledger)?;
     text.push_str(times.as_str())?;
@@ -48,12 +56,19 @@ fn head_text(alloc: Global, config: &Config, cycles: u32) -> Result<String, Allo
 
 /// The table of all channels and ports.
 #[tactic(auto, unfolding(crate::specs::Report::total_table))]
-fn total_table(alloc: Global, requests: &Requests, numbers: &Numbers) -> Result<String, AllocError>
-    ensures { IfOk result (λ text. string_bytes text ≡ total_table requests.now numbers.now) }
+fn total_table(
+    alloc: Global,
+    requests: &Requests,
+    waited: &Waited,
+    numbers: &Numbers,
+) -> Result<String, AllocError>
+    ensures { IfOk result (λ text. string_bytes text ≡ total_table requests.now waited.now numbers.now) }
 {
     let mut text = String::from_str(alloc, "\n[total]\n")?;
     let asked = requests_lines(alloc, requests)?;
     text.push_str(asked.as_str())?;
+    let waits = waited_lines(alloc, waited)?;
+    text.push_str(waits.as_str())?;
     let counted = numbers_lines(alloc, numbers)?;
     text.push_str(counted.as_str())?;
     Ok(text)
@@ -82,27 +97,57 @@ fn channel_table(alloc: Global, channel: usize, numbers: &Numbers) -> Result<Str
     Ok(text)
 }
 
-/// The tables of the ports.
-fn port_tables(alloc: Global, requests: &[Requests]) -> Result<String, AllocError>
-    ensures { IfOk result (λ text. string_bytes text ≡ port_tables 0 requests.now) }
+/// The tables of the ports, of which a port that isn't told of waited for no clock.
+fn port_tables(
+    alloc: Global,
+    requests: &[Requests],
+    waited: &[Waited],
+) -> Result<String, AllocError>
+    ensures { IfOk result (λ text. string_bytes text ≡ port_tables 0 requests.now waited.now) }
 {
     let mut text = String::new(alloc);
     for (port, one) in requests.iter().enumerate() {
-        let table = port_table(alloc, port, one)?;
+        let table = port_table(alloc, port, one, &waited_at(waited, port))?;
         text.push_str(table.as_str())?;
     }
     Ok(text)
 }
 
+/// For how many clocks a port waited; none where it isn't told of.
+fn waited_at(waited: &[Waited], port: usize) -> Waited
+    ensures { result ≡ slice_index_or waited.now port no_wait }
+{
+    match waited.get(port) {
+        Some(one) => *one,
+        None => Waited::NONE,
+    }
+}
+
 /// The table of a port, behind an empty line.
 #[tactic(auto, unfolding(crate::specs::Report::port_table))]
-fn port_table(alloc: Global, port: usize, requests: &Requests) -> Result<String, AllocError>
-    ensures { IfOk result (λ text. string_bytes text ≡ port_table port requests.now) }
+fn port_table(
+    alloc: Global,
+    port: usize,
+    requests: &Requests,
+    waited: &Waited,
+) -> Result<String, AllocError>
+    ensures { IfOk result (λ text. string_bytes text ≡ port_table port requests.now waited.now) }
 {
     let mut text = format!(in alloc; "\n[port.{port}]\n")?;
     let lines = requests_lines(alloc, requests)?;
     text.push_str(lines.as_str())?;
+    let waits = waited_lines(alloc, waited)?;
+    text.push_str(waits.as_str())?;
     Ok(text)
+}
+
+#[tactic(auto, unfolding(crate::specs::Report::waited_lines))]
+fn waited_lines(alloc: Global, waited: &Waited) -> Result<String, AllocError>
+    ensures { IfOk result (λ text. string_bytes text ≡ waited_lines waited.now) }
+{
+    let window = waited.window;
+    let queue = waited.queue;
+    format!(in alloc; "waited_for_window = {window}\nwaited_for_queue = {queue}\n")
 }
 
 #[tactic(auto, unfolding(crate::specs::Report::requests_lines))]
@@ -123,6 +168,8 @@ fn numbers_lines(alloc: Global, numbers: &Numbers) -> Result<String, AllocError>
     let mut text = format!(in alloc;
         "turn_rounds = {turn_rounds}\nrank_switches = {rank_switches}\n"
     )?;
+    let debt = debt_line(alloc, numbers.refresh_debt_most)?;
+    text.push_str(debt.as_str())?;
     let counts = counts_text(alloc, &numbers.counts)?;
     text.push_str(counts.as_str())?;
     Ok(text)

@@ -39,8 +39,14 @@ pub fn submit_from(
                 queue.pop();
                 ledger.accept(port, Accepted { ask, round })?;
             }
-            Err(Refusal::WindowFull) => return Ok(u64::MAX),
-            Err(_) => return Ok(0),
+            Err(Refusal::WindowFull) => {
+                ledger.wait(port, Refusal::WindowFull);
+                return Ok(u64::MAX);
+            }
+            Err(cause) => {
+                ledger.wait(port, cause);
+                return Ok(0);
+            }
         }
     }
     Ok(u64::MAX)

@@ -11,7 +11,6 @@ use Rattle.ddr_trace.specs.Commands.{is_activate, is_column}
 use Rattle.ddr_trace.specs.Rules.{some_earlier}
 use Rattle.ddr_trace.proofs.Earlier.{some_earlier_here, some_earlier_skip, some_earlier_stop}
 use Rattle.ddr_statistics.specs.declared.bank.Visit.{Visit}
-use Rattle.ddr_statistics.specs.declared.counts.Finding.{Finding}
 use Rattle.ddr_statistics.specs.declared.counts.Finding.TheVariants.{Miss, Conflict}
 use Rattle.ddr_statistics.specs.Counts.{is_pre}
 use Rattle.ddr_statistics.specs.Findings.{LeavesBank, LooksBack, closes, is_closed_by_pre, is_visited}

@@ -1,4 +1,5 @@
 pub mod CountLemmas
+mod DebtLemmas
 pub mod FindingLemmas
 pub mod PlaceLemmas
 pub mod StandLemmas

@@ -22,7 +22,7 @@ groups_fit g = grind (arith, nat_tests, g.groups_are)
 group_fits : (g : Geometry) (n : ℕ) → n < g.groups → n < MOST_GROUPS
 group_fits g n h = omega (arith, groups_fit g)
 
-rank_fits : (g : Geometry) (k : ℕ) → k < g.ranks → k < MOST_RANKS
+pub rank_fits : (g : Geometry) (k : ℕ) → k < g.ranks → k < MOST_RANKS
 rank_fits g k h = omega (arith, g.ranks_range)
 
 pub rank_in : (g : Geometry) (c : Command) → is_in g c ≡ true → rank_of c < MOST_RANKS

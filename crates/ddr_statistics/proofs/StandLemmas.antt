@@ -10,17 +10,19 @@ use Rattle.ddr_trace.specs.Commands.{bank_of, group_of, is_column, rank_of}
 use Rattle.ddr_statistics.specs.declared.bank.Bank.{Bank}
 use Rattle.ddr_statistics.specs.declared.counts.Counts.{Counts}
 use Rattle.ddr_statistics.specs.declared.counts.Finding.{Finding}
+use Rattle.ddr_statistics.specs.declared.debt.Debt.{Debt}
 use Rattle.ddr_statistics.specs.declared.rank.Rank.{Rank}
 use Rattle.ddr_statistics.specs.declared.rank.TheConstants.{MOST_BANKS}
 use Rattle.ddr_statistics.specs.declared.statistics.TheConstants.{MOST_RANKS}
 use Rattle.ddr_statistics.specs.declared.turns.Turns.{Turns}
 use Rattle.ddr_statistics.specs.Counts.{count_behind, counts_of, is_any, is_of_one, is_of_one_bank, is_of_rank, kind_count}
-use Rattle.ddr_statistics.specs.Noted.{bank_closed, bank_noted, banks_noted, counts_noted, found_in, new_bank, new_rank, one_noted, no_counts, no_turns, rank_noted, turns_noted}
-use Rattle.ddr_statistics.specs.Stands.{KeepsRank, StandsFor, bank_of_history, rank_at}
+use Rattle.ddr_statistics.specs.Noted.{bank_closed, bank_noted, banks_noted, counts_noted, debt_noted, found_in, new_bank, new_rank, one_noted, no_counts, no_debt, no_turns, rank_noted, turns_noted}
+use Rattle.ddr_statistics.specs.Stands.{KeepsRank, StandsFor, bank_of_history, counted, debt_at, debt_behind, owed, rank_at}
 use Rattle.ddr_statistics.specs.Tally.{Tally}
 use Rattle.ddr_statistics.specs.Turns.{last_column}
 use Rattle.ddr_statistics.specs.Visits.{finding, is_at, visit_after, visit_behind}
 use Rattle.ddr_statistics.proofs.CountLemmas.{counts_skip, counts_step, turns_step, visit_behind-push}
+use Rattle.ddr_statistics.proofs.DebtLemmas.{debt_behind-push}
 use Rattle.ddr_statistics.proofs.PlaceLemmas.{and_false, apart, same_number}
 
 -- a bank after a command of it alone
@@ -136,12 +138,15 @@ keeps_other k history e r kept other = record {
 }
 
 -- the statistics after a command
-pub after : Tally → Command → Option Finding → Tally
-after tally c found = record tally {
-  total = counts_noted c found tally.total;
-  ranks = slice_set tally.ranks (rank_of c) (rank_noted c found (rank_at tally (rank_of c)));
-  turns = turns_noted c tally.turns;
-}
+abbrev pub after : Tally → Entry → Option Finding → Tally
+after tally e found = owed e (counted e.command found tally)
+
+-- the refreshes of a rank after a command of any rank
+debt_step : (refi start k : ℕ) (history : List Entry) (e : Entry) (w : Bool) → (rank_of e.command == k) ≡ w
+    → (if w then debt_noted refi start e (debt_behind refi start k history) else debt_behind refi start k history) ≡ debt_behind refi start k (history ++ e ∷ [])
+debt_step refi start k history e w is =
+    let old = debt_behind refi start k history in
+    sym (debt_behind-push refi start k history e ∙ ap (λ v. if v then debt_noted refi start e old else old) is)
 
 found_is : (history : List Entry) (c : Command) (r : Rank) → KeepsRank (rank_of c) history r → group_of c < MOST_GROUPS → bank_of c < GROUP_BANKS → found_in r c ≡ finding history c
 found_is history c r kept group bank =
@@ -149,12 +154,13 @@ found_is history c r kept group bank =
 
 stands_with : (tally : Tally) (history : List Entry) (e : Entry) → StandsFor tally history → length history + 1 < CLOCK_STOP
     → rank_of e.command < MOST_RANKS → group_of e.command < MOST_GROUPS → bank_of e.command < GROUP_BANKS
-    → StandsFor (after tally e.command (finding history e.command)) (history ++ e ∷ [])
-unfolding after
+    → StandsFor (after tally e (finding history e.command)) (history ++ e ∷ [])
 stands_with tally history e stands short rank group bank = record {
   total = ap (λ (old : Counts). counts_noted e.command (finding history e.command) old) stands.total ∙ counts_step is_any history e refl short;
   size = length-set tally.ranks _ _ ∙ stands.size;
   ranks = λ k below. by_test k below (rank_of e.command == k) refl;
+  debts_size = length-set tally.debts _ _ ∙ stands.debts_size;
+  debts = λ k below. debt_by_test k below (rank_of e.command == k) refl;
   turns = ap (turns_noted e.command) stands.turns ∙ turns_step history e short;
 }
   where
@@ -175,14 +181,27 @@ stands_with tally history e stands short rank group bank = record {
         subst Q (sym (get_or-set_other tally.ranks (rank_of e.command) k own new_rank apart))
         (keeps_other k history e (rank_at tally k) (stands.ranks k below) other)
 
-pub stands_after : (tally new : Tally) (history : List Entry) (e : Entry) → new ≡ after tally e.command (found_in (rank_at tally (rank_of e.command)) e.command) → StandsFor tally history → length history + 1 < CLOCK_STOP
+    own_debt : Debt
+    own_debt = debt_noted tally.timing.refi tally.start e (debt_at tally (rank_of e.command))
+
+    debt_by_test : (k : ℕ) → k < 2 → (w : Bool) → (rank_of e.command == k) ≡ w → slice_index_or (slice_set tally.debts (rank_of e.command) own_debt) k no_debt ≡ debt_behind tally.timing.refi tally.start k (history ++ e ∷ [])
+    debt_by_test k below true same =
+        let this : rank_of e.command ≡ k = grind (arith, nat_tests) in
+        let within : rank_of e.command < length tally.debts = omega (arith, stands.debts_size) in
+        let P : ℕ → Type 0 = λ j. slice_index_or (slice_set tally.debts (rank_of e.command) own_debt) j no_debt ≡ debt_behind tally.timing.refi tally.start j (history ++ e ∷ []) in
+        subst P this (get_or-set_same tally.debts (rank_of e.command) own_debt no_debt within
+        ∙ ap (λ (d : Debt). debt_noted tally.timing.refi tally.start e d) (stands.debts (rank_of e.command) rank)
+        ∙ debt_step tally.timing.refi tally.start (rank_of e.command) history e true (same_number (rank_of e.command)))
+    debt_by_test k below false other =
+        let apart : k ≢ rank_of e.command = grind (arith, nat_tests) in
+        get_or-set_other tally.debts (rank_of e.command) k own_debt no_debt apart ∙ stands.debts k below ∙ debt_step tally.timing.refi tally.start k history e false other
+
+pub stands_after : (tally new : Tally) (history : List Entry) (e : Entry) (found : Option Finding) → new ≡ after tally e found → found ≡ finding history e.command → StandsFor tally history → length history + 1 < CLOCK_STOP
     → rank_of e.command < MOST_RANKS → group_of e.command < MOST_GROUPS → bank_of e.command < GROUP_BANKS
     → StandsFor new (history ++ e ∷ [])
-stands_after tally new history e is stands short rank group bank =
-    let found = found_is history e.command (rank_at tally (rank_of e.command)) (stands.ranks (rank_of e.command) rank) group bank in
+stands_after tally new history e found is seen stands short rank group bank =
     let P : Tally → Type 0 = λ t. StandsFor t (history ++ e ∷ []) in
-    let same : new ≡ after tally e.command (finding history e.command) = is ∙ ap (λ (f : Option Finding). after tally e.command f) found in
-    subst P (sym same) (stands_with tally history e stands short rank group bank)
+    subst P (sym (is ∙ ap (λ (f : Option Finding). after tally e f) seen)) (stands_with tally history e stands short rank group bank)
 
 -- the same, as the fields are set one by one
 pub finding_told : (tally : Tally) (history : List Entry) (c : Command) (place : ℕ) (found : Option Finding) (d : Rank)
@@ -194,28 +213,24 @@ finding_told tally history c place found d is_place is_found stands rank group b
     ap (λ n. slice_index_or tally.ranks n d) is_place ∙ get_or_default tally.ranks (rank_of c) d new_rank within in
     is_found ∙ ap (λ (r : Rank). found_in r c) old ∙ found_is history c (rank_at tally (rank_of c)) (stands.ranks (rank_of c) rank) group bank
 
-pub stands_noted : (tally : Tally) (history : List Entry) (e : Entry) (place : ℕ) (found : Option Finding) (total : Counts) (own d : Rank) (turns : Turns)
-    → place ≡ rank_of e.command
-    → found ≡ found_in (slice_index_or tally.ranks place d) e.command
-    → total ≡ counts_noted e.command found tally.total
-    → own ≡ rank_noted e.command found (slice_index_or tally.ranks place d)
-    → turns ≡ turns_noted e.command tally.turns
-    → StandsFor tally history → length history + 1 < CLOCK_STOP → rank_of e.command < MOST_RANKS → group_of e.command < MOST_GROUPS → bank_of e.command < GROUP_BANKS
-    → StandsFor (record { geometry = tally.geometry; start = tally.start; total = total; ranks = slice_set tally.ranks place own; turns = turns }) (history ++ e ∷ [])
-unfolding after
-stands_noted tally history e place found total own d turns is_place is_found is_total is_own is_turns stands short rank group bank =
-    let within : rank_of e.command < length tally.ranks = omega (arith, stands.size) in
-    let old : slice_index_or tally.ranks place d ≡ rank_at tally (rank_of e.command) =
-    ap (λ n. slice_index_or tally.ranks n d) is_place ∙ get_or_default tally.ranks (rank_of e.command) d new_rank within in
-    let seen : found ≡ found_in (rank_at tally (rank_of e.command)) e.command = is_found ∙ ap (λ (r : Rank). found_in r e.command) old in
-    let total_is = is_total ∙ ap (λ (f : Option Finding). counts_noted e.command f tally.total) seen in
-    let own_is =
-    is_own
-    ∙ ap (λ (f : Option Finding). rank_noted e.command f (slice_index_or tally.ranks place d)) seen
-    ∙ ap (λ (r : Rank). rank_noted e.command (found_in (rank_at tally (rank_of e.command)) e.command) r) old in
-    stands_after tally _ history e
-    (λ i. record { geometry = tally.geometry; start = tally.start; total = total_is i; ranks = slice_set tally.ranks (is_place i) (own_is i); turns = is_turns i })
-    stands short rank group bank
+pub counted_is : (tally : Tally) (c : Command) (place : ℕ) (found : Option Finding) (total : Counts) (own d : Rank) (turns : Turns)
+    → place ≡ rank_of c → place < length tally.ranks
+    → total ≡ counts_noted c found tally.total
+    → own ≡ rank_noted c found (slice_index_or tally.ranks place d)
+    → turns ≡ turns_noted c tally.turns
+    → record tally { total = total; ranks = slice_set tally.ranks place own; turns = turns } ≡ counted c found tally
+counted_is tally c place found total own d turns is_place within is_total is_own is_turns =
+    let old : slice_index_or tally.ranks place d ≡ rank_at tally (rank_of c) =
+    get_or_default tally.ranks place d new_rank within ∙ ap (λ n. slice_index_or tally.ranks n new_rank) is_place in
+    let own_is = is_own ∙ ap (λ (r : Rank). rank_noted c found r) old in
+    λ i. record tally { total = is_total i; ranks = slice_set tally.ranks (is_place i) (own_is i); turns = is_turns i }
+
+pub owed_is : (tally : Tally) (e : Entry) (place : ℕ) (own : Debt) → place ≡ rank_of e.command
+    → own ≡ debt_noted tally.timing.refi tally.start e (slice_index_or tally.debts place no_debt)
+    → record tally { debts = slice_set tally.debts place own } ≡ owed e tally
+owed_is tally e place own is_place is_own =
+    let own_is = is_own ∙ ap (λ n. debt_noted tally.timing.refi tally.start e (slice_index_or tally.debts n no_debt)) is_place in
+    λ i. record tally { debts = slice_set tally.debts (is_place i) (own_is i) }
 
 -- before the first command
 new_bank_keeps : (k g b : ℕ) → new_bank ≡ bank_of_history k g b []
@@ -230,14 +245,16 @@ new_rank_keeps k = record {
   banks = λ g b group bank. get_or-replicate MOST_BANKS (g * GROUP_BANKS + b) new_bank new_bank (omega arith) ∙ new_bank_keeps k g b;
 }
 
-pub stands_new : (tally : Tally) → tally.total ≡ no_counts → tally.ranks ≡ replicate MOST_RANKS new_rank → tally.turns ≡ no_turns → StandsFor tally []
-unfolding counts_of kind_count count_behind last_column
-stands_new tally total ranks turns = record {
+pub stands_new : (tally : Tally) → tally.total ≡ no_counts → tally.ranks ≡ replicate MOST_RANKS new_rank → tally.debts ≡ replicate MOST_RANKS no_debt → tally.turns ≡ no_turns → StandsFor tally []
+unfolding counts_of kind_count count_behind last_column debt_behind
+stands_new tally total ranks debts turns = record {
   total = total;
   size = ap (λ (rs : List Rank). length rs) ranks ∙ length-replicate MOST_RANKS new_rank;
   ranks = λ k below.
       let there : rank_at tally k ≡ new_rank = ap (λ (rs : List Rank). slice_index_or rs k new_rank) ranks ∙ get_or-replicate MOST_RANKS k new_rank new_rank below in
       let P : Rank → Type 0 = λ r. KeepsRank k [] r in
       subst P (sym there) (new_rank_keeps k);
+  debts_size = ap (λ (ds : List Debt). length ds) debts ∙ length-replicate MOST_RANKS no_debt;
+  debts = λ k below. ap (λ (ds : List Debt). slice_index_or ds k no_debt) debts ∙ get_or-replicate MOST_RANKS k no_debt no_debt below;
   turns = turns;
 }

@@ -1,4 +1,5 @@
 pub mod Counts
+pub mod Debts
 pub mod Findings
 pub mod Noted
 pub mod Stands

@@ -1,16 +1,19 @@
 -- What is kept after a command.
-use Rattle.std.specs.Prelude.{ℕ, ◌+◌, ◌-◌, ◌*◌, ◌^◌, Bool, ◌&&◌, min, if◌then◌else◌, List, map, replicate, Option, Some, None, slice_index_or, slice_set}
+use Rattle.std.specs.Prelude.{ℕ, ◌+◌, ◌-◌, ◌*◌, ◌^◌, Bool, ◌&&◌, max, min, if◌then◌else◌, List, map, replicate, Option, Some, None, slice_index_or, slice_set}
 use Rattle.ddr_timing.specs.declared.units.TheConstants.{BURST_CLOCKS, GROUP_BANKS}
 use Rattle.ddr_trace.specs.declared.command.Command.{Command}
 use Rattle.ddr_trace.specs.declared.command.Command.TheVariants.{PreAll, Refresh}
+use Rattle.ddr_trace.specs.declared.command.Entry.{Entry}
 use Rattle.ddr_trace.specs.Commands.{bank_of, group_of, is_activate, is_column, is_of_all_banks, is_refresh, is_same_kind, is_same_rank}
 use Rattle.ddr_statistics.specs.declared.bank.Bank.{Bank}
 use Rattle.ddr_statistics.specs.declared.counts.Counts.{Counts}
 use Rattle.ddr_statistics.specs.declared.counts.Finding.{Finding}
+use Rattle.ddr_statistics.specs.declared.debt.Debt.{Debt}
 use Rattle.ddr_statistics.specs.declared.rank.Rank.{Rank}
 use Rattle.ddr_statistics.specs.declared.rank.TheConstants.{MOST_BANKS}
 use Rattle.ddr_statistics.specs.declared.turns.Turns.{Turns}
 use Rattle.ddr_statistics.specs.Counts.{is_pre, is_rd, is_rda, is_wr, is_wra}
+use Rattle.ddr_statistics.specs.Debts.{due_in}
 use Rattle.ddr_statistics.specs.Turns.{is_unlike}
 use Rattle.ddr_statistics.specs.Visits.{first_visit, is_conflict, is_hit, is_miss, visit_after}
 
@@ -105,6 +108,16 @@ turns_noted command turns = record {
   turn_rounds = raised_if (is_column command && is_unlike is_same_kind turns.last command) turns.turn_rounds;
   rank_switches = raised_if (is_column command && is_unlike is_same_rank turns.last command) turns.rank_switches;
 }
+
+abbrev pub no_debt : Debt
+no_debt = record { paid = 0; most = 0 }
+
+-- a rank's refreshes after a REF, where so many fell due, and after any command of it
+abbrev pub debt_paid : ℕ → Debt → Debt
+debt_paid due debt = record { paid = raised 1 debt.paid; most = max debt.most (due - debt.paid) }
+
+abbrev pub debt_noted : ℕ → ℕ → Entry → Debt → Debt
+debt_noted refi start e debt = if is_refresh e.command then debt_paid (due_in refi start e.cycle) debt else debt
 
 abbrev pub new_rank : Rank
 new_rank = record { counts = no_counts; banks = replicate MOST_BANKS new_bank }

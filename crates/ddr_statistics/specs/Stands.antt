@@ -1,14 +1,18 @@
 -- What statistics stand for: a history, whose numbers they are.
-use Rattle.std.specs.Prelude.{◌≡◌, ℕ, ◌<◌, List, length, slice_index_or}
+use Rattle.std.specs.Prelude.{◌≡◌, ℕ, ◌<◌, if◌then◌else◌, List, Option, fold, length, slice_index_or, slice_set}
 use Rattle.ddr_timing.specs.declared.units.TheConstants.{GROUP_BANKS, MOST_GROUPS}
+use Rattle.ddr_trace.specs.declared.command.Command.{Command}
 use Rattle.ddr_trace.specs.declared.command.Entry.{Entry}
+use Rattle.ddr_trace.specs.Commands.{rank_of}
 use Rattle.ddr_statistics.specs.declared.bank.Bank.{Bank}
+use Rattle.ddr_statistics.specs.declared.counts.Finding.{Finding}
+use Rattle.ddr_statistics.specs.declared.debt.Debt.{Debt}
 use Rattle.ddr_statistics.specs.declared.rank.Rank.{Rank}
 use Rattle.ddr_statistics.specs.declared.rank.TheConstants.{MOST_BANKS}
 use Rattle.ddr_statistics.specs.declared.statistics.TheConstants.{MOST_RANKS}
 use Rattle.ddr_statistics.specs.declared.turns.Turns.{Turns}
 use Rattle.ddr_statistics.specs.Counts.{counts_of, is_any, is_of_one, is_of_rank}
-use Rattle.ddr_statistics.specs.Noted.{bank_at, new_rank}
+use Rattle.ddr_statistics.specs.Noted.{bank_at, counts_noted, debt_noted, new_rank, no_debt, rank_noted, turns_noted}
 use Rattle.ddr_statistics.specs.Tally.{Tally}
 use Rattle.ddr_statistics.specs.Turns.{last_column, rank_switches, turn_rounds}
 use Rattle.ddr_statistics.specs.Visits.{visit_behind}
@@ -31,8 +35,32 @@ pub record KeepsRank (rank : ℕ) (history : List Entry) (kept : Rank) : Type 0 
 abbrev pub turns_of : List Entry → Turns
 turns_of history = record { last = last_column history; turn_rounds = turn_rounds history; rank_switches = rank_switches history }
 
+abbrev pub debt_at : Tally → ℕ → Debt
+debt_at tally rank = slice_index_or tally.debts rank no_debt
+
+-- the refreshes of a rank after a history
+unfoldable pub debt_behind : ℕ → ℕ → ℕ → List Entry → Debt
+debt_behind refi start rank history =
+    fold (λ debt e. if is_of_rank rank e.command then debt_noted refi start e debt else debt) no_debt history
+
+-- the statistics after a command that found its bank so, but for the refreshes that are owed
+abbrev pub counted : Command → Option Finding → Tally → Tally
+counted command found tally = record tally {
+  total = counts_noted command found tally.total;
+  ranks = slice_set tally.ranks (rank_of command) (rank_noted command found (rank_at tally (rank_of command)));
+  turns = turns_noted command tally.turns;
+}
+
+-- and with those
+abbrev pub owed : Entry → Tally → Tally
+owed e tally = record tally {
+  debts = slice_set tally.debts (rank_of e.command) (debt_noted tally.timing.refi tally.start e (debt_at tally (rank_of e.command)));
+}
+
 pub record StandsFor (tally : Tally) (history : List Entry) : Type 0 where
   pub total : tally.total ≡ counts_of is_any history
   pub size : length tally.ranks ≡ MOST_RANKS
   pub ranks : (rank : ℕ) → rank < MOST_RANKS → KeepsRank rank history (rank_at tally rank)
+  pub debts_size : length tally.debts ≡ MOST_RANKS
+  pub debts : (rank : ℕ) → rank < MOST_RANKS → debt_at tally rank ≡ debt_behind tally.timing.refi tally.start rank history
   pub turns : tally.turns ≡ turns_of history

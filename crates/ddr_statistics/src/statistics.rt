@@ -1,22 +1,25 @@
 //! The statistics of a trace, whose commands come one by one.
 //!
-//! `rank` and `turns` stand below, and `text` above.
+//! `rank`, `debt` and `turns` stand below, and `text` above.
 ghost use Rattle.std.specs.Prelude.{◌≡◌, ◌+◌, ◌-◌, ◌<◌, ◌∷◌, ◌++◌, [], length, List, IsTrue};
 ghost use Rattle.ddr_timing.specs.declared.units.TheConstants.{CLOCK_STOP, GROUP_BANKS};
 ghost use Rattle.ddr_trace.specs.declared.command.Entry.{Entry};
 ghost use Rattle.ddr_trace.specs.Rules.{is_in};
 ghost use Rattle.ddr_statistics.specs.Counts.{counts_of, is_any, is_of_one, is_of_rank};
+ghost use Rattle.ddr_statistics.specs.Debts.{IsInOrder, debt_most, debts_most};
 ghost use Rattle.ddr_statistics.specs.Noted.{bank_at};
-ghost use Rattle.ddr_statistics.specs.Stands.{StandsFor, rank_at};
+ghost use Rattle.ddr_statistics.specs.Stands.{StandsFor, counted, owed, rank_at};
 ghost use Rattle.ddr_statistics.specs.Turns.{rank_switches, turn_rounds};
 ghost use Rattle.ddr_statistics.specs.Visits.{finding};
 
 use crate::counts::{Counts, Finding};
+use crate::debt::{Debt, due_in};
 use crate::rank::Rank;
 use crate::turns::Turns;
 use ddr_timing::bank::BankId;
 use ddr_timing::config::Config;
 use ddr_timing::geometry::Geometry;
+use ddr_timing::timing::Timing;
 use ddr_trace::command::{Command, Entry};
 use std::marker::Model;
 
@@ -30,9 +33,11 @@ pub const MOST_RANKS: usize = 2;
 #[derive(Drop)]
 pub struct Statistics {
     geometry: Geometry,
+    timing: Timing,
     start: u64,
     total: Counts,
     ranks: [Rank; MOST_RANKS],
+    debts: [Debt; MOST_RANKS],
     turns: Turns,
 }
 
@@ -50,14 +55,17 @@ impl Statistics {
     /// Before the first command of a trace that begins in this cycle.
     pub fn open(config: &Config, start: u64) -> Statistics
         ensures geometry { result.geometry ≡ config.now.geometry }
+        ensures timing { result.timing ≡ config.now.timing }
         ensures start { result.start ≡ start }
         ensures stands { StandsFor result [] }
     {
         Statistics {
             geometry: config.geometry,
+            timing: config.timing,
             start,
             total: Counts::NONE,
             ranks: [Rank::NEW; MOST_RANKS],
+            debts: [Debt::NONE; MOST_RANKS],
             turns: Turns::NONE,
         }
     }
@@ -66,16 +74,32 @@ impl Statistics {
     pub fn note(&mut self, entry: &Entry)
         requires { IsTrue (is_in self.old.geometry entry.now.command) }
         ensures geometry { self.new.geometry ≡ self.old.geometry }
+        ensures timing { self.new.timing ≡ self.old.timing }
         ensures start { self.new.start ≡ self.old.start }
         ensures stands { (history : List Entry) → StandsFor self.old history → length history + 1 < CLOCK_STOP
             → StandsFor self.new (history ++ entry.now ∷ []) }
     {
-        let command = &entry.command;
-        let rank = command.rank() as usize;
-        let found = self.ranks[rank].finding(command);
+        let found = self.finding(&entry.command);
+        self.count(&entry.command, found);
+        self.owe(entry);
+    }
+
+    /// Counts a command, which found its bank so if it is a read or a write.
+    fn count(&mut self, command: &Command, found: Option<Finding>)
+        requires { IsTrue (is_in self.old.geometry command.now) }
+        ensures { self.new ≡ counted command.now found self.old }
+    {
         self.total.note(command, found);
-        self.ranks[rank].note(command, found);
+        self.ranks[command.rank() as usize].note(command, found);
         self.turns.note(command);
+    }
+
+    /// Follows the refreshes that the command's rank owes.
+    fn owe(&mut self, entry: &Entry)
+        requires { IsTrue (is_in self.old.geometry entry.now.command) }
+        ensures { self.new ≡ owed entry.now self.old }
+    {
+        self.debts[entry.command.rank() as usize].note(&self.timing, self.start, entry);
     }
 
     /// How the next command of the trace finds its bank; `None` where it is no read or write.
@@ -129,6 +153,29 @@ impl Statistics {
         ensures counted { (history : List Entry) → StandsFor self.entry.now history → result ≡ rank_switches history }
     {
         self.turns.rank_switches
+    }
+
+    /// The most refreshes that a rank owed in a cycle of the trace, which ends before `end`. One falls due each REFI from the
+    /// trace's start on, and each REF of the rank pays for one, from the cycle behind its own on.
+    pub fn refresh_debt_most(&self, rank: u32, end: u64) -> u64
+        requires { rank < self.now.geometry.ranks }
+        ensures counted { (history : List Entry) → StandsFor self.entry.now history → length history < CLOCK_STOP → IsInOrder end history
+            → result ≡ debt_most self.entry.now.timing.refi self.entry.now.start end rank history }
+    {
+        let due = due_in(&self.timing, self.start, end.saturating_sub(1));
+        self.debts[rank as usize].most(due)
+    }
+
+    /// The most refreshes that one of the ranks owed in a cycle of the trace, which ends before `end`.
+    pub fn refresh_debts_most(&self, end: u64) -> u64
+        ensures counted { (history : List Entry) → StandsFor self.entry.now history → length history < CLOCK_STOP → IsInOrder end history
+            → result ≡ debts_most self.entry.now.timing.refi self.entry.now.start end self.entry.now.geometry.ranks history }
+    {
+        let mut most = 0;
+        for rank in 0..self.geometry.ranks {
+            most = most.max(self.refresh_debt_most(rank, end));
+        }
+        most
     }
 
     /// The cycles of the trace, where it ends before this one; 0 where that is before its start.

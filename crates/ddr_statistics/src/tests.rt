@@ -180,3 +180,35 @@ fn the_text_lists_ranks_and_used_banks(rt: HostRuntime) -> Result<(), Fail> {
     assert_eq!(rt; text.as_str(), wanted);
     Ok(())
 }
+
+/// The most refreshes that a rank owed, in a trace that ends before this cycle.
+fn debt_of_rank(statistics: &Statistics, rank: u32, end: u64) -> Option<u64> {
+    if rank >= statistics.geometry().ranks {
+        return None;
+    }
+    Some(statistics.refresh_debt_most(rank, end))
+}
+
+// REFI is 200, and the trace begins in cycle 100: one falls due in cycle 300, 500, 700 and so on. Rank 0 owes three in cycle 750,
+// where it pays for one, two in cycle 760, where it pays for another, and one until cycle 900, where it owes two. Rank 1 pays for
+// none.
+#[test]
+fn debts_grow_until_they_are_paid(rt: HostRuntime) -> Result<(), Fail> {
+    let config = Config::read(rt.alloc(), PROFILE_S2)?;
+    let mut statistics = Statistics::open(&config, 100);
+    for cycle in [750u64, 760] {
+        let entry = Entry {
+            cycle,
+            command: Command::Refresh { rank: 0 },
+        };
+        assert!(rt; entry.command.is_in(statistics.geometry()));
+        statistics.note(&entry);
+    }
+    assert_eq!(rt; debt_of_rank(&statistics, 0, 900), Some(3));
+    assert_eq!(rt; debt_of_rank(&statistics, 1, 900), Some(3));
+    assert_eq!(rt; debt_of_rank(&statistics, 1, 901), Some(4));
+    assert_eq!(rt; debt_of_rank(&statistics, 0, 901), Some(3));
+    assert_eq!(rt; debt_of_rank(&statistics, 0, 1301), Some(4));
+    assert_eq!(rt; statistics.refresh_debts_most(901), 4);
+    Ok(())
+}

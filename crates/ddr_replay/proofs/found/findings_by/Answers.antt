@@ -1,5 +1,5 @@
 -- One command more is noted, and told of its cycle.
-use Rattle.std.proofs.Common.{◌≡◌, ◌+◌, ◌<◌, List, Option, None, length, take, drop, refl, sym, ap, subst, arith, ◌∙◌}
+use Rattle.std.proofs.Common.{◌+◌, List, Option, None, length, take, drop, sym, ap, subst, arith, ◌∙◌}
 use Rattle.std.specs.List.{slice_index_or}
 use Rattle.std.proofs.lemmas.List.{length-take-le, take_more}
 use Rattle.ddr_trace.specs.declared.command.Entry.{Entry}

@@ -1,4 +1,4 @@
-use Rattle.std.proofs.Common.{◌≡◌, [], replicate}
+use Rattle.std.proofs.Common.{◌≡◌, replicate}
 use Rattle.ddr_replay.specs.Times.{no_times}
 use Rattle.ddr_replay.proofs.ledger.no_times.Given as goal
 

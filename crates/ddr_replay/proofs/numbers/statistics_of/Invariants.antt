@@ -5,5 +5,7 @@ use Rattle.ddr_replay.proofs.numbers.statistics_of.Given as goal
 abbrev pub invariant-loop-entry : goal.invariant-loop-entry
 invariant-loop-entry l = record {
   geometry : l.statistics.geometry ≡ l.config.geometry;
+  timing : l.statistics.timing ≡ l.config.timing;
+  start : l.statistics.start ≡ 0;
   stands : StandsFor l.statistics (take l.entry-index l.trace);
 }

@@ -1,27 +1,27 @@
 -- What is told of the run which the requests of the body come to.
-use Rattle.std.proofs.Common.{◌≡◌, ℕ, List, Vec, Global, Result, Ok, Err, map, ap, sym, subst, ◌∙◌, rules}
+use Rattle.std.proofs.Common.{◌≡◌, ℕ, List, Vec, Global, Result, Ok, map, ap, sym, subst, ◌∙◌, rules}
 use Rattle.std.proofs.lemmas.Result.{err_from_is_err_and}
 use Rattle.ddr_text.specs.declared.fault.Fault.{Fault}
 use Rattle.ddr_stream.specs.declared.ask.Ask.{Ask}
 use Rattle.ddr_replay.specs.declared.numbers.Requests.{Requests}
 use Rattle.ddr_replay.specs.Numbers.{requests_in}
 use Rattle.ddr_replay.specs.Replays.{IsSaid, keeps_served, told_of}
-use Rattle.ddr_replay.specs.Runs.{Run, begun, replayed}
+use Rattle.ddr_replay.specs.Runs.{Run, begun}
 use Rattle.ddr_stream.specs.Stream.{Queues}
 use Rattle.ddr_replay.specs.View.{IsRunFault, run_of}
 use Rattle.ddr_replay.proofs.ReplayLemmas.{at_begun, no_channel, run_said, stream_said, told_said}
 use Rattle.ddr_replay.proofs.replay.report_of.Goals as goal
 
 pub returns-in_err-queues : goal.returns-in_err-queues
-returns-in_err-queues c =
+returns-in_err-queues g c =
     let p = err_from_is_err_and c.from_residual.result c.from_residual.ensures.1 in
     rw (p.1, p.2) (stream_said {X = Vec (List Ask) Global} {Y = Vec ℕ Global} (λ v. v.items) (λ v. v.items) c.args.config.now c.args.reading c.args.told c.args.body.now c.in_err-queues.field-0.0 (search rules) c.in_err-queues.ensures.said)
 
 pub returns-then-names_no_channel : goal.returns-then-names_no_channel
-returns-then-names_no_channel c = no_channel c.args.config.now c.args.reading c.args.told c.args.body.now (sym c.names_no_channel.ensures ∙ c.if-names_no_channel.true)
+returns-then-names_no_channel g c = no_channel c.args.config.now c.args.reading c.args.told c.args.body.now (sym c.names_no_channel.ensures ∙ c.if-names_no_channel.true)
 
 pub returns-in_err-run : goal.returns-in_err-run
-returns-in_err-run c =
+returns-in_err-run g c =
     let config = c.args.config.now in
     let told = c.args.told in
     let queues = c.in_ok-queues.queues.items in
@@ -33,7 +33,7 @@ returns-in_err-run c =
     (at_begun (λ (r : Result Run Fault). IsRunFault fault r) config (keeps_served told) queues c.in_ok-replaying.replaying begun_is c.in_ok-replaying.ensures.config c.in_err-run.ensures.fault))
 
 pub returns : goal.returns
-returns c =
+returns g c =
     let config = c.args.config.now in
     let told = c.args.told in
     let queues = c.in_ok-queues.queues.items in

@@ -1,16 +1,16 @@
 -- One request after another is accepted, until one has to wait.
-use Rattle.std.proofs.Common.{◌≡◌, ◌≤◌, ◌⊎◌, ◌+◌, List, Err, IfSome, inr, length, drop, arith, ap, ap₂, sym, subst, ◌∙◌}
+use Rattle.std.proofs.Common.{◌≤◌, ◌⊎◌, ◌+◌, List, Err, IfSome, inr, length, arith, ap, ap₂, sym, subst, ◌∙◌}
 use Rattle.ddr_ports.specs.Asked.{Asked}
 use Rattle.ddr_world.specs.declared.event.Refusal.{Refusal}
 use Rattle.ddr_world.specs.Events.{Submit}
 use Rattle.ddr_world.specs.Kept.{state_of}
 use Rattle.ddr_world.specs.State.{State}
-use Rattle.ddr_world.specs.Step.{Step, step}
+use Rattle.ddr_world.specs.Step.{step}
 use Rattle.ddr_sim.specs.Rounds.{outstanding}
 use Rattle.ddr_stream.specs.declared.ask.Ask.{Ask}
 use Rattle.ddr_stream.specs.Asks.{asked_by}
-use Rattle.ddr_replay.specs.Ledgers.{Ledger}
-use Rattle.ddr_replay.specs.Runs.{Submitted, submitted}
+use Rattle.ddr_replay.specs.Ledgers.{Ledger, with_wait}
+use Rattle.ddr_replay.specs.Runs.{submitted}
 use Rattle.ddr_replay.specs.Waits.{IsFull}
 use Rattle.ddr_replay.proofs.SubmitLemmas.{full_of, one_more, some_left, submitted_later, submitted_more, submitted_none, submitted_refused}
 use Rattle.ddr_replay.proofs.submitting.submit_from.Goals as goal
@@ -51,7 +51,8 @@ returns-in-Err-WindowFull-clause-submitted c =
     let refused = ap (λ (a : Asked). step s (Submit c.args.port a)) (sym c.request.ensures) ∙ answer.refused in
     sym c.asks.invariant.submitted
     ∙ submitted_refused c.args.port c.args.round c.asks.queue ask s c.asks.ledger c.in-Err-WindowFull.field-0 c.in-Some.ensures (omega (arith, c.if-ask-from.false, c.from.ensures)) refused
-    ∙ ap (λ (t : State). record { state = t; ledger = c.asks.ledger; rest = c.asks.queue }) (sym answer.err)
+    ∙ ap₂ (λ (t : State) (l : Ledger). record { state = t; ledger = l; rest = c.asks.queue }) (sym answer.err)
+    (ap (λ (r : Refusal). with_wait c.args.port r c.asks.ledger) c.in-Err-WindowFull.field-0-is ∙ sym c.wait.ensures)
 
 pub returns-in-Err-WindowFull-clause-waits : goal.returns-in-Err-WindowFull-clause-waits
 returns-in-Err-WindowFull-clause-waits c = λ ahead.
@@ -60,8 +61,9 @@ returns-in-Err-WindowFull-clause-waits c = λ ahead.
     let ask = c.in-Some.ask in
     let answer = c.in-Err-WindowFull.ensures.answer in
     let refused = ap (λ (a : Asked). step s (Submit c.args.port a)) (sym c.request.ensures) ∙ answer.refused ∙ ap (λ (r : Refusal). Err r) c.in-Err-WindowFull.field-0-is in
+    let come : ask.at ≤ c.args.round = omega (arith, c.if-ask-from.false, c.from.ensures) in
     let full = subst (λ (t : State). IsFull c.args.port ask t) (sym answer.err) (full_of s c.args.port ask refused) in
-    subst (λ o. IfSome o (λ (x : Ask). (18446744073709551615 ≤ x.at) ⊎ IsFull c.args.port x next)) c.in-Some.ensures (inr full)
+    subst (λ o. IfSome o (λ (x : Ask). (18446744073709551615 ≤ x.at) ⊎ ((x.at ≤ c.args.round) × IsFull c.args.port x next))) c.in-Some.ensures (inr (come, full))
 
 pub returns-in-Err : goal.returns-in-Err
 returns-in-Err c =
@@ -72,8 +74,8 @@ returns-in-Err c =
     let kept = c.asks.invariant in
     record {
       submitted = sym kept.submitted
-          ∙ submitted_refused c.args.port c.args.round c.asks.queue ask s c.asks.ledger c.in-Err.field-0 c.in-Some.ensures (omega (arith, c.if-ask-from.false, c.from.ensures)) refused
-          ∙ ap (λ (t : State). record { state = t; ledger = c.asks.ledger; rest = c.asks.queue }) (sym answer.err);
+          ∙ submitted_refused c.args.port c.args.round c.asks.queue ask s c.asks.ledger c.in-Err.cause c.in-Some.ensures (omega (arith, c.if-ask-from.false, c.from.ensures)) refused
+          ∙ ap₂ (λ (t : State) (l : Ledger). record { state = t; ledger = l; rest = c.asks.queue }) (sym answer.err) (sym c.wait-in-Err.ensures);
       waits = λ ahead. absurd (omega (arith, ahead));
       config = answer.config ∙ kept.config;
       count = ap (λ (t : State). length c.asks.queue + outstanding t) answer.err ∙ kept.count;

@@ -1,4 +1,4 @@
-use Rattle.std.proofs.Common.{◌≡◌, ◌≤◌, ◌*◌, ◌^◌, drop}
+use Rattle.std.proofs.Common.{◌≡◌, ◌≤◌, ◌*◌, drop}
 use Rattle.ddr_replay.specs.Times.{bound_from}
 use Rattle.ddr_replay.proofs.times.bound_of.Given as goal
 

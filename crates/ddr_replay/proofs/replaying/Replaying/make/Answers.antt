@@ -1,5 +1,5 @@
 -- What is left falls by one with each reply that is released.
-use Rattle.std.proofs.Common.{◌≡◌, ℕ, arith, subst, sym, ap, ◌∙◌}
+use Rattle.std.proofs.Common.{◌≡◌, ℕ, arith, subst, ◌∙◌}
 use Rattle.ddr_world.specs.declared.event.Outcome.{Outcome}
 use Rattle.ddr_world.specs.declared.event.Outcome.TheVariants as outcome
 use Rattle.ddr_world.specs.Events.{event_of}

@@ -1,7 +1,6 @@
 -- As many requests are left as the queues have, and none is outstanding.
-use Rattle.std.proofs.Common.{◌≡◌, List, length, ap, arith, ◌∙◌}
+use Rattle.std.proofs.Common.{length, ap, arith, ◌∙◌}
 use Rattle.std.specs.List.{sum_by}
-use Rattle.ddr_world.specs.Kept.{state_of}
 use Rattle.ddr_world.specs.State.{State}
 use Rattle.ddr_sim.specs.Rounds.{outstanding}
 use Rattle.ddr_sim.proofs.StepCounts.{none_opened}

@@ -1,5 +1,5 @@
 -- A reply in front of a port is released, since it is there.
-use Rattle.std.proofs.Common.{◌≡◌, ◌+◌, Some, arith, sym, subst}
+use Rattle.std.proofs.Common.{◌≡◌, Some, arith, sym, subst}
 use Rattle.ddr_reorder.specs.Replies.{lent_service, said}
 use Rattle.ddr_world.specs.Kept.{state_of}
 use Rattle.ddr_world.specs.History.{front_of}

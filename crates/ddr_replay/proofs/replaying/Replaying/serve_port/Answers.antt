@@ -1,5 +1,5 @@
 -- The replies in front of a port, one after another.
-use Rattle.std.proofs.Common.{ap, arith, refl, subst, ◌∙◌}
+use Rattle.std.proofs.Common.{ap, arith, subst, ◌∙◌}
 use Rattle.ddr_world.specs.State.{State}
 use Rattle.ddr_replay.specs.View.{IsFrontReleased, run_of}
 use Rattle.ddr_replay.proofs.ReleaseLemmas.{port_led, released_more, same_run}

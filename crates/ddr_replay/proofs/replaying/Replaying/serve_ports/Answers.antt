@@ -1,5 +1,5 @@
 -- One port more was served.
-use Rattle.std.proofs.Common.{◌+◌, suc, ap, sym, add-one, ◌∙◌}
+use Rattle.std.proofs.Common.{ap, sym, add-one, ◌∙◌}
 use Rattle.ddr_replay.specs.Runs.{port_served, ports_served}
 use Rattle.ddr_replay.specs.View.{run_of}
 use Rattle.ddr_replay.proofs.replaying.Replaying.serve_ports.Goals as goal

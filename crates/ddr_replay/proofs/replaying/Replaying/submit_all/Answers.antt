@@ -1,6 +1,5 @@
 -- One port more has submitted, and those before it wait on.
-use Rattle.std.proofs.Common.{◌≡◌, ◌≢◌, ◌<◌, ◌≤◌, ◌+◌, ℕ, suc, ap, add-one, below_more, arith, sym, subst, ◌∙◌}
-use Rattle.ddr_world.specs.Kept.{state_of}
+use Rattle.std.proofs.Common.{◌≢◌, ap, add-one, below_more, arith, sym, subst, ◌∙◌}
 use Rattle.ddr_replay.specs.Runs.{Run, port_submitted, ports_submitted}
 use Rattle.ddr_stream.specs.Stream.{queue_at}
 use Rattle.ddr_replay.specs.View.{run_of}

@@ -1,11 +1,6 @@
 -- The ports submit, and a round follows, or some quiet ones.
-use Rattle.std.proofs.Common.{◌≡◌, ◌<◌, ◌≤◌, Result, Ok, Err, OnOk, IfOk, IfErr, Some, arith, subst, sym, ◌∙◌}
-use Rattle.std.specs.Prelude.{◌-◌, ◌+◌}
-use Rattle.ddr_text.specs.declared.fault.Fault.{Fault}
-use Rattle.ddr_sim.specs.Simulated.{IsCycleFault}
-use Rattle.ddr_world.specs.Kept.{state_of}
-use Rattle.ddr_replay.specs.Runs.{replayed, round_made}
-use Rattle.ddr_replay.specs.View.{IsRunFault, Replay, run_of}
+use Rattle.std.proofs.Common.{◌≡◌, ◌≤◌, arith, subst}
+use Rattle.ddr_replay.specs.View.{Replay}
 use Rattle.ddr_replay.proofs.TurnLemmas.{IsReady, failed_turn, made_turn, more_made, passed_on, ready_round}
 use Rattle.ddr_replay.proofs.replaying.Replaying.turn.Goals as goal
 
