@@ -1,0 +1,4 @@
+pub mod OrderLemmas
+pub mod BankLemmas
+pub mod BoxLemmas
+pub mod DrawnLemmas

@@ -1,0 +1,9 @@
+use Rattle.std.proofs.Common.{◌≡◌, string_bytes}
+use Rattle.std.specs.Prelude.{flat_map}
+use Rattle.std.specs.List.{range_with_len}
+use Rattle.ddr_draw.specs.Names.{bank_numbered}
+use Rattle.ddr_draw.specs.Waves.{declared_bank}
+use Rattle.ddr_draw.proofs.waves.declared_banks.Given as goal
+
+abbrev pub invariant-loop-number : goal.invariant-loop-number
+invariant-loop-number l = string_bytes l.text ≡ flat_map (λ n. declared_bank (bank_numbered l.geometry n)) (range_with_len 0 l.number)

@@ -1,0 +1,9 @@
+pub mod Names
+pub mod Changes
+pub mod Order
+pub mod Waves
+pub mod Scale
+pub mod Shapes
+pub mod Drawn
+pub mod Held
+pub mod Lanes

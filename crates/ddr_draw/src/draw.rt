@@ -1,0 +1,122 @@
+//! The command `draw`: a configuration and a trace's text in, a picture of the trace out.
+//!
+//! `waves`, `lanes` and `check` of `ddr_text` stand below, and the program above.
+ghost use Rattle.std.specs.Prelude.{◌≡◌, IfErr, IfOk, IfSome, IsErrOf, IsTrue, string_bytes};
+ghost use Rattle.ddr_text.specs.Check.{HasCheckFault};
+ghost use Rattle.ddr_text.specs.Fault.{is_before_output};
+ghost use Rattle.ddr_draw.specs.Drawn.{IsPictured, IsView, IsDumped};
+ghost use Rattle.ddr_draw.specs.Lanes.{picture_text};
+ghost use Rattle.ddr_draw.specs.Waves.{waves_text};
+
+use crate::lanes::picture_text;
+use crate::view::View;
+use crate::waves::waves_text;
+use ddr_text::check::read_checked;
+use ddr_text::fault::Fault;
+use ddr_text::sink::Sink;
+use ddr_text::source::Source;
+use ddr_text::writing::write_whole;
+use ddr_timing::config::Config;
+use ddr_timing::profile::PROFILE_S;
+use ddr_trace::trace::Trace;
+use std::alloc::{AllocError, Global};
+
+/// Reads a trace, and writes it as a value change dump (IEEE 1364, "Value change dump (VCD) files"), in which one unit of time
+/// is one clock. Its variables are the command bus, the data bus and each bank of a channel; a command of a bank that the memory
+/// lacks stands on the command bus alone.
+///
+/// A bank is open from its ACT on, and idle from its precharge on or from the start of its auto-precharge. The data bus has the
+/// burst of a read or a write for its four clocks. A trace that breaks rules is shown too: a burst then ends where the next read's
+/// or write's begins, and what stands before the trace's start is shown in its first cycle.
+///
+/// The input is that of `check`, and it fails as `check` does. Nothing is written before the whole text is there, so only
+/// `Write` may leave a part of it.
+pub fn waves<R: Source, W: Sink>(
+    alloc: Global,
+    sample: bool,
+    reader: &mut R,
+    writer: &mut W,
+) -> Result<(), Fault>
+    ensures untouched { IfErr result (λ fault. IsTrue (is_before_output fault) → writer.new ≡ writer.old) }
+    ensures sure { IsErrOf result Fault.Read → IsTrue R.may_fail }
+    ensures taken { IsErrOf result Fault.Write → IsTrue W.may_fail }
+    ensures spared { IsErrOf result Fault.OutOfMemory → W.contents writer.new ≡ W.contents writer.old }
+    ensures unmoved { IsErrOf result Fault.OutOfMemory → IsTrue W.may_fail → writer.new ≡ writer.old }
+    ensures fault { IfErr result (λ fault. IfSome (R.remaining reader.old) (λ input.
+        HasCheckFault sample PROFILE_S.now input fault)) }
+    ensures written { IfOk result (λ _. IfSome (R.remaining reader.old) (λ input.
+        IsDumped sample PROFILE_S.now input (W.contents writer.old) (W.contents writer.new))) }
+{
+    let (config, trace) = read_checked(alloc, sample, reader)?;
+    let text = dump_of(alloc, &config, &trace)?;
+    write_whole(writer, text.as_str())?;
+    Ok(())
+}
+
+/// The value change dump of a trace.
+fn dump_of(alloc: Global, config: &Config, trace: &Trace) -> Result<String, AllocError>
+    ensures { IfOk result (λ text. let t = trace.now in
+        string_bytes text ≡ waves_text config.now t.start t.end t.entries) }
+{
+    waves_text(
+        alloc,
+        config,
+        trace.start,
+        trace.end,
+        trace.entries.as_slice(),
+    )
+}
+
+/// Reads a trace, and writes a picture of it as scalable vector graphics (SVG 1.1): its cycles from `from` on, up to `to` and
+/// without it, at most `MOST_CLOCKS` of them; those of the whole trace where none are named.
+///
+/// There is a lane for the data bus with the bursts of reads and writes, and one for each bank with its commands and with its
+/// open rows; PREA and REF go over all lanes of their rank. Where the pointer rests on a command, its cycle, its line in the
+/// trace's text and its place are told, and what it waited for: of the rules on two commands the one that allowed it last, by
+/// one of the `MOST_BACK` commands before it. A command of a place that the memory lacks isn't drawn.
+///
+/// The input is that of `check`, and it fails as `check` does. Nothing is written before the whole text is there, so only
+/// `Write` may leave a part of it.
+pub fn lanes<R: Source, W: Sink>(
+    alloc: Global,
+    sample: bool,
+    from: Option<u64>,
+    to: Option<u64>,
+    reader: &mut R,
+    writer: &mut W,
+) -> Result<(), Fault>
+    ensures untouched { IfErr result (λ fault. IsTrue (is_before_output fault) → writer.new ≡ writer.old) }
+    ensures sure { IsErrOf result Fault.Read → IsTrue R.may_fail }
+    ensures taken { IsErrOf result Fault.Write → IsTrue W.may_fail }
+    ensures spared { IsErrOf result Fault.OutOfMemory → W.contents writer.new ≡ W.contents writer.old }
+    ensures unmoved { IsErrOf result Fault.OutOfMemory → IsTrue W.may_fail → writer.new ≡ writer.old }
+    ensures fault { IfErr result (λ fault. IfSome (R.remaining reader.old) (λ input.
+        HasCheckFault sample PROFILE_S.now input fault)) }
+    ensures written { IfOk result (λ _. IfSome (R.remaining reader.old) (λ input.
+        IsPictured sample PROFILE_S.now input from to (W.contents writer.old) (W.contents writer.new))) }
+{
+    let (config, trace) = read_checked(alloc, sample, reader)?;
+    let view = view_of(&trace, from, to);
+    let text = picture_of(alloc, &config, &view, &trace)?;
+    write_whole(writer, text.as_str())?;
+    Ok(())
+}
+
+/// The cycles of the trace that are asked for.
+fn view_of(trace: &Trace, from: Option<u64>, to: Option<u64>) -> View
+    ensures { let t = trace.now in IsView from to t.start t.end result }
+{
+    View::new(trace.start, trace.end, from, to)
+}
+
+/// The picture of these cycles of a trace.
+fn picture_of(
+    alloc: Global,
+    config: &Config,
+    view: &View,
+    trace: &Trace,
+) -> Result<String, AllocError>
+    ensures { IfOk result (λ text. string_bytes text ≡ picture_text config.now view.now trace.now.entries) }
+{
+    picture_text(alloc, config, view, trace.entries.as_slice())
+}

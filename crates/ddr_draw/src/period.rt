@@ -1,0 +1,91 @@
+//! When the row of an ACT is closed, and when the data of a read or a write are on the bus.
+//!
+//! `names` stands below, and `changes` above.
+ghost use Rattle.std.specs.Prelude.{◌≡◌};
+ghost use Rattle.ddr_trace.specs.Banks.{recovery};
+ghost use Rattle.ddr_draw.specs.Changes.{burst_end, burst_start, closed_at, closed_by, is_closing, next_closing, next_column};
+
+use crate::names::{after, is_activate, is_auto, is_column, is_precharge, is_read, is_same_bank};
+use ddr_timing::timing::Timing;
+use ddr_timing::units::BURST_CLOCKS;
+use ddr_trace::command::{Command, Entry};
+
+/// The cycle at which the row of the ACT is closed, by the entries behind it: `None` where it stays open.
+#[tactic(auto, unfolding(crate::specs::Changes::closed_at))]
+pub(crate) fn closed_at(timing: &Timing, act: &Entry, later: &[Entry]) -> Option<u64>
+    ensures { result ≡ closed_at timing.now act.now later.now }
+{
+    match next_closing(&act.command, later) {
+        Some(entry) => Some(closed_by(timing, act, &entry)),
+        None => None,
+    }
+}
+
+/// The first entry that ends what the ACT opened.
+fn next_closing(act: &Command, later: &[Entry]) -> Option<Entry>
+    ensures { result ≡ next_closing act.now later.now }
+{
+    later
+        .iter()
+        .copied()
+        .find(|entry| is_closing(act, &entry.command))
+}
+
+/// Whether the command ends what the ACT opened.
+fn is_closing(act: &Command, command: &Command) -> bool
+    ensures { result ≡ is_closing act.now command.now }
+{
+    is_same_bank(command, act)
+        && (is_activate(command) || is_precharge(command) || is_auto(command))
+}
+
+/// The cycle at which the entry closes the row of the ACT.
+fn closed_by(timing: &Timing, act: &Entry, entry: &Entry) -> u64
+    ensures { result ≡ closed_by timing.now act.now entry.now }
+{
+    if is_auto(&entry.command) {
+        after(entry.cycle, recovery(timing, &entry.command)).max(after(act.cycle, timing.ras))
+    } else {
+        entry.cycle
+    }
+}
+
+/// The clocks from a read or a write to a precharge of its bank.
+fn recovery(timing: &Timing, command: &Command) -> u32
+    ensures { result ≡ recovery timing.now command.now }
+{
+    if is_read(command) {
+        timing.rtp
+    } else {
+        timing.cwl + BURST_CLOCKS + timing.wr
+    }
+}
+
+/// The first cycle of the data of a read or a write.
+pub(crate) fn burst_start(timing: &Timing, entry: &Entry) -> u64
+    ensures { result ≡ burst_start timing.now entry.now }
+{
+    let latency = if is_read(&entry.command) {
+        timing.cl
+    } else {
+        timing.cwl
+    };
+    after(entry.cycle, latency)
+}
+
+/// The first cycle behind the data of a read or a write.
+pub(crate) fn burst_end(timing: &Timing, entry: &Entry) -> u64
+    ensures { result ≡ burst_end timing.now entry.now }
+{
+    after(burst_start(timing, entry), BURST_CLOCKS)
+}
+
+/// The next read or write.
+pub(crate) fn next_column(later: &[Entry]) -> Option<Entry>
+    ensures { result ≡ next_column later.now }
+{
+    later
+        .iter()
+        .copied()
+        .find(|entry| is_column(&entry.command))
+}
