@@ -1,0 +1,7 @@
+mod DigitLemmas
+mod CutLemmas
+mod FeedLemmas
+mod FrontLemmas
+mod LineLemmas
+mod ReadLemmas
+mod CaptureLemmas

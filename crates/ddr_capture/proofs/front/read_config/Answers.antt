@@ -1,0 +1,35 @@
+use Rattle.std.proofs.Common.{sym, ◌∙◌}
+use Rattle.std.proofs.lemmas.Result.{err_from_is_err_and}
+use Rattle.ddr_timing.specs.declared.profile.TheConstants.{PROFILE_S}
+use Rattle.ddr_capture.specs.Feed.{left}
+use Rattle.ddr_capture.proofs.FrontLemmas.{behind_opened, behind_refused, front_config, no_text, sample_opened, sample_refused}
+use Rattle.ddr_capture.proofs.front.read_config.Goals as goal
+
+pub returns-then-sample-clause-opened : goal.returns-then-sample-clause-opened
+returns-then-sample-clause-opened g c =
+    rw c.if-sample.true (sample_opened (left c.args.feed.now (g.R.Read.remaining c.args.reader.now)) PROFILE_S.now c.configuration.result c.configuration.ensures.read)
+
+pub returns-then-sample-clause-refused : goal.returns-then-sample-clause-refused
+returns-then-sample-clause-refused g c =
+    rw c.if-sample.true (sample_refused (left c.args.feed.now (g.R.Read.remaining c.args.reader.now)) PROFILE_S.now c.configuration.result c.configuration.ensures.refused)
+
+pub returns-clause-opened : goal.returns-clause-opened
+returns-clause-opened g c =
+    rw c.if-sample.false (behind_opened (left c.args.feed.now (g.R.Read.remaining c.args.reader.now)) (left c.read_front.new.feed (g.R.Read.remaining c.read_front.new.reader)) PROFILE_S.now c.in_ok-front.front.items c.in_ok-text.text.now c.configuration-2.result
+    c.in_ok-front.ensures.front (c.in_ok-text.ensures.text.0 ∙ c.as_slice.ensures.value) c.configuration-2.ensures.read)
+
+pub returns-clause-refused : goal.returns-clause-refused
+returns-clause-refused g c =
+    rw c.if-sample.false (behind_refused (left c.args.feed.now (g.R.Read.remaining c.args.reader.now)) (left c.read_front.new.feed (g.R.Read.remaining c.read_front.new.reader)) PROFILE_S.now c.in_ok-front.front.items c.in_ok-text.text.now c.configuration-2.result
+    c.in_ok-front.ensures.front (c.in_ok-text.ensures.text.0 ∙ c.as_slice.ensures.value) c.configuration-2.ensures.refused)
+
+pub returns-in_err-text-clause-refused : goal.returns-in_err-text-clause-refused
+returns-in_err-text-clause-refused g c =
+    let p = err_from_is_err_and c.from_residual-in_err-text.result c.from_residual-in_err-text.ensures.1 in
+    rw (c.if-sample.false, p.1, p.2) (no_text (left c.args.feed.now (g.R.Read.remaining c.args.reader.now)) (left c.read_front.new.feed (g.R.Read.remaining c.read_front.new.reader)) PROFILE_S.now c.in_ok-front.front.items c.as_slice.result.now c.in_err-text.field-0.0
+    c.in_ok-front.ensures.front c.as_slice.ensures.value c.in_err-text.ensures.refused)
+
+pub returns-in_err-front-clause-refused : goal.returns-in_err-front-clause-refused
+returns-in_err-front-clause-refused g c =
+    let p = err_from_is_err_and c.from_residual.result c.from_residual.ensures.1 in
+    rw (c.if-sample.false, p.1, p.2) (front_config (left c.args.feed.now (g.R.Read.remaining c.args.reader.now)) PROFILE_S.now c.in_err-front.field-0.0 c.in_err-front.ensures.refused)

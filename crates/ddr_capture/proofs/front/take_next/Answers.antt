@@ -1,0 +1,12 @@
+use Rattle.std.proofs.Common.{Err, ap, sym}
+use Rattle.ddr_capture.specs.Feed.{left}
+use Rattle.ddr_capture.proofs.FrontLemmas.{refusal_step}
+use Rattle.ddr_capture.proofs.front.take_next.Goals as goal
+
+pub returns-in-Ok-clause-said : goal.returns-in-Ok-clause-said
+returns-in-Ok-clause-said g c =
+    λ a so_far. c.take_found.ensures.said a (left c.args.feed.now (g.R.Read.remaining c.args.reader.now)) (left c.next.new.self (g.R.Read.remaining c.next.new.reader)) so_far (rw (sym c.line.ensures) at c.in-Ok.ensures.found)
+
+pub returns-in-Err-clause-said : goal.returns-in-Err-clause-said
+returns-in-Err-clause-said g c =
+    λ a so_far. rw c.front_fault.ensures (refusal_step a (left c.args.feed.now (g.R.Read.remaining c.args.reader.now)) c.args.front.now.items c.in-Err.refusal so_far (λ e. c.in-Err.ensures.long (ap Err e)))

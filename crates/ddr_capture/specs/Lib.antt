@@ -1,0 +1,9 @@
+pub mod Capture
+pub mod Captured
+pub mod Feed
+pub mod Fields
+pub mod Front
+pub mod Line
+pub mod Lines
+pub mod Place
+pub mod Report

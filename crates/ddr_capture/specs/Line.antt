@@ -1,0 +1,118 @@
+-- A line of a captured trace, in this project's own form or in another simulator's.
+use Rattle.std.specs.Prelude.{ℕ, ◌≤◌, ◌^◌, Bool, ◌&&◌, if◌then◌else◌, List, [], ◌∷◌, codes, Option, Some, None}
+use Rattle.std.specs.Option.{unwrap_or}
+use Rattle.std.specs.Str.{bytes_eq}
+use Rattle.ddr_trace.specs.declared.command.Entry.{Entry}
+use Rattle.ddr_trace.specs.Parse as trace
+use Rattle.ddr_trace.specs.Parse.{◌>>=◌, are_empty, cycle_of, is_empty, is_header}
+use Rattle.ddr_text.specs.declared.command.Format.{Format}
+use Rattle.ddr_text.specs.declared.command.Format.TheVariants.{Own, Dramsim3, Ramulator2}
+use Rattle.ddr_text.specs.Script.{fields_of, is_skipped}
+use Rattle.ddr_capture.specs.Fields.{cut, decimal_of, hexadecimal_of, trimmed_cut}
+use Rattle.ddr_capture.specs.Place.{command_of}
+use Rattle.ddr_capture.specs.declared.line.Said.{Said}
+use Rattle.ddr_capture.specs.declared.line.Said.TheVariants as says
+use Rattle.ddr_capture.specs.declared.place.Kind.{Kind}
+use Rattle.ddr_capture.specs.declared.place.Kind.TheVariants as kinds
+use Rattle.ddr_capture.specs.declared.place.Place.{Place}
+use Rattle.ddr_capture.specs.declared.tool.Tool as tools
+use Rattle.ddr_capture.specs.declared.tool.Tool.TheVariants as tool
+
+-- END has its cycle alone
+unfoldable pub end_at : ℕ → List ℕ → List ℕ → List ℕ → List ℕ → List ℕ → Option Said
+end_at cycle rank group bank row column =
+    if is_empty rank && are_empty group bank row column then Some (says.End cycle) else None
+
+-- a command of the one channel
+unfoldable pub entry_at : ℕ → List ℕ → List ℕ → List ℕ → List ℕ → List ℕ → List ℕ → Option Said
+entry_at cycle name rank group bank row column = do
+  command ← trace.command_of name rank group bank row column
+  Some (says.Command 0 (record { cycle = cycle; command = command }))
+
+unfoldable pub said_at : ℕ → List ℕ → List ℕ → List ℕ → List ℕ → List ℕ → List ℕ → Option Said
+said_at cycle name rank group bank row column =
+    if bytes_eq name (codes "END") then end_at cycle rank group bank row column
+    else entry_at cycle name rank group bank row column
+
+-- what the fields of a record of a trace's text say
+unfoldable pub of_seven : List (List ℕ) → Option Said
+of_seven (cycle ∷ name ∷ rank ∷ group ∷ bank ∷ row ∷ column ∷ []) = do
+  at ← cycle_of cycle
+  said_at at name rank group bank row column
+of_seven _ = None
+
+abbrev pub kind_of_dramsim3 : List ℕ → Option Kind
+kind_of_dramsim3 name =
+    if bytes_eq name (codes "activate") then Some kinds.Activate
+    else if bytes_eq name (codes "read") then Some kinds.Read
+    else if bytes_eq name (codes "write") then Some kinds.Write
+    else if bytes_eq name (codes "read_p") then Some kinds.ReadAuto
+    else if bytes_eq name (codes "write_p") then Some kinds.WriteAuto
+    else if bytes_eq name (codes "precharge") then Some kinds.Precharge
+    else if bytes_eq name (codes "refresh") then Some kinds.Refresh
+    else None
+
+abbrev pub kind_of_ramulator2 : List ℕ → Option Kind
+kind_of_ramulator2 name =
+    if bytes_eq name (codes "ACT") then Some kinds.Activate
+    else if bytes_eq name (codes "RD") then Some kinds.Read
+    else if bytes_eq name (codes "WR") then Some kinds.Write
+    else if bytes_eq name (codes "RDA") then Some kinds.ReadAuto
+    else if bytes_eq name (codes "WRA") then Some kinds.WriteAuto
+    else if bytes_eq name (codes "PRE") then Some kinds.Precharge
+    else if bytes_eq name (codes "PREA") then Some kinds.PrechargeAll
+    else if bytes_eq name (codes "REFab") then Some kinds.Refresh
+    else None
+
+abbrev pub kind_of : tools.Tool → List ℕ → Option Kind
+kind_of tool.Dramsim3 name = kind_of_dramsim3 name
+kind_of tool.Ramulator2 name = kind_of_ramulator2 name
+
+-- a row or a column
+abbrev pub wide_of : tools.Tool → List ℕ → Option (Option ℕ)
+wide_of tool.Dramsim3 field = hexadecimal_of field
+wide_of tool.Ramulator2 field = decimal_of field
+
+-- where a command goes; a column is the line of the row, as it stands
+unfoldable pub place_of : tools.Tool → List ℕ → List ℕ → List ℕ → List ℕ → List ℕ → Option Place
+place_of t rank group bank row column = do
+  k ← decimal_of rank
+  g ← decimal_of group
+  b ← decimal_of bank
+  w ← wide_of t row
+  l ← wide_of t column
+  Some (record { rank = k; group = g; bank = b; row = w; line = l })
+
+-- `CYCLE NAME CHANNEL RANK GROUP BANK ROW COLUMN`; where no channel is given, it is channel 0
+unfoldable pub command_at : tools.Tool → List ℕ → List ℕ → List ℕ → List ℕ → List ℕ → List ℕ → List ℕ → List ℕ → Option Said
+command_at t cycle name channel rank group bank row column = do
+  at ← cycle_of cycle
+  kind ← kind_of t name
+  c ← decimal_of channel
+  place ← place_of t rank group bank row column
+  command ← command_of kind place
+  Some (says.Command (unwrap_or c 0) (record { cycle = at; command = command }))
+
+abbrev pub of_eight : tools.Tool → List (List ℕ) → Option Said
+of_eight t (cycle ∷ name ∷ channel ∷ rank ∷ group ∷ bank ∷ row ∷ column ∷ []) = command_at t cycle name channel rank group bank row column
+of_eight t _ = None
+
+-- a line of this project's form is a record of a trace's text, or where it is the first one its header
+abbrev pub of_own : Bool → List (List ℕ) → Option Said
+of_own first fields = if first && is_header fields then Some says.Nothing else of_seven fields
+
+-- what a line says that is not skipped
+abbrev pub of_form : Format → Bool → List ℕ → Option Said
+of_form Own first line = of_own first (cut line)
+of_form Dramsim3 first line = of_eight tool.Dramsim3 (fields_of line)
+of_form Ramulator2 first line = of_eight tool.Ramulator2 (trimmed_cut line)
+
+-- what a line says, if it is of this form; `first` tells the first line of the trace
+unfoldable pub said_of : Format → Bool → List ℕ → Option Said
+said_of format first line = if is_skipped line then Some says.Nothing else of_form format first line
+
+-- a cycle at which a clock has not stopped
+abbrev pub IsEarly : Said → Type 0
+IsEarly says.Nothing = Unit {0}
+IsEarly (says.Command channel entry) = entry.cycle ≤ 2 ^ 62
+IsEarly (says.End cycle) = cycle ≤ 2 ^ 62

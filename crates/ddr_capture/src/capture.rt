@@ -1,0 +1,204 @@
+//! Whether captured commands are legal: a configuration and the commands of all channels in, a verdict on each channel out.
+//!
+//! `front`, `feed`, `reading` and `report` stand below, and the program above. The input is read in one pass, and the memory that
+//! it takes is that of the configuration and of the channels, however many commands there are.
+ghost use Rattle.std.specs.Prelude.{◌≡◌, ◌≢◌, ℕ, ◌+◌, ◌<◌, ◌≤◌, ◌^◌, IfErr, IfOk, IfSome, IsErrOf, IsTrue, List, Option, length};
+ghost use Rattle.std.specs.Str.Lines.{strip_carriage_return};
+ghost use Rattle.ddr_timing.specs.declared.config.Config.{Config};
+ghost use Rattle.ddr_judge.specs.Judged.{channels_of, commands_of};
+ghost use Rattle.ddr_text.specs.Fault.{is_before_output};
+ghost use Rattle.ddr_capture.specs.Capture.{AreJudged, HasCaptureFault, IsCaptured};
+ghost use Rattle.ddr_capture.specs.Captured.{HasRead, Read};
+ghost use Rattle.ddr_capture.specs.Feed.{Along, HasFound, IsWell, left};
+ghost use Rattle.ddr_capture.specs.Lines.{AreRead, IsNext, IsReadFault, StandsAt, line_fault, text_of};
+
+use crate::feed::{Feed, Found, Refusal};
+use crate::front::read_config;
+use crate::reading::Reading;
+use crate::report::{are_legal, report, told_channels, verdicts};
+use ddr_text::command::Format;
+use ddr_text::fault::Fault;
+use ddr_text::sink::Sink;
+use ddr_text::source::Source;
+use ddr_text::writing::write_whole;
+use ddr_timing::config::Config;
+use ddr_timing::profile::PROFILE_S;
+use std::alloc::Global;
+
+/// The most lines of a capture.
+const MOST_LINES: u64 = 0xffff_ffff_ffff_fffe;
+
+/// Reads captured commands, which begin in cycle `start`, and writes a line for each channel: `channel C legal`, or
+/// `channel C fault PLACE RULE line N` for its first fault; in this project's own form, which has one channel, `legal` or
+/// `fault PLACE RULE`. Answers whether all channels are legal. A place counts the commands of its channel from 0, and is their
+/// number where the trace's end is at fault; then no line is told. The trace ends at END's cycle, and without END one cycle
+/// behind the last command.
+///
+/// With `sample` the whole input is captured commands, on the sample configuration; else the input is a configuration of either
+/// version, a line `---` and the commands.
+///
+/// Fails as `InputHasNoMark`, as `InputTooLong` where the configuration is longer than 16,777,216 bytes or has a line of more
+/// than 4,096, as `InputNotUtf8`, by the first refusal of the configuration, as `CaptureLine` at a line that is of no form, too
+/// long or of a channel that is not there, and as `CaptureOrder` at an END that is not behind all commands and at what stands
+/// behind END; as `Read` where the reader fails and as `Write` where the writer does, and so never over bytes in memory. Nothing
+/// is written before the verdicts are there.
+pub fn capture<R: Source, W: Sink>(
+    alloc: Global,
+    sample: bool,
+    format: Format,
+    start: u64,
+    reader: &mut R,
+    writer: &mut W,
+) -> Result<bool, Fault>
+    ensures untouched { IfErr result (λ fault. IsTrue (is_before_output fault) → writer.new ≡ writer.old) }
+    ensures sure { IsErrOf result Fault.Read → IsTrue R.may_fail }
+    ensures taken { IsErrOf result Fault.Write → IsTrue W.may_fail }
+    ensures spared { IsErrOf result Fault.OutOfMemory → W.contents writer.new ≡ W.contents writer.old }
+    ensures unmoved { IsErrOf result Fault.OutOfMemory → IsTrue W.may_fail → writer.new ≡ writer.old }
+    ensures fault { IfErr result (λ fault. IfSome (R.remaining reader.old) (λ input.
+        HasCaptureFault sample PROFILE_S.now format start input fault)) }
+    ensures written { IfOk result (λ legal. IfSome (R.remaining reader.old) (λ input.
+        IsCaptured sample PROFILE_S.now format start input legal (W.contents writer.old) (W.contents writer.new))) }
+{
+    let verdicts = judge_all(alloc, sample, format, start, reader)?;
+    let text = report(alloc, format, verdicts.as_slice())?;
+    write_whole(writer, text.as_str())?;
+    Ok(are_legal(verdicts.as_slice()))
+}
+
+/// The verdicts on the channels that are told. Fails as `capture` does where the input can't be read, and never as `Write`.
+fn judge_all<R: Source>(
+    alloc: Global,
+    sample: bool,
+    format: Format,
+    start: u64,
+    reader: &mut R,
+) -> Result<Vec<Option<ddr_judge::fault::Fault>>, Fault>
+    ensures sure { IsErrOf result Fault.Read → IsTrue R.may_fail }
+    ensures unwritten { ¬ IsErrOf result Fault.Write }
+    ensures fault { IfErr result (λ fault. IfSome (R.remaining reader.old) (λ input.
+        HasCaptureFault sample PROFILE_S.now format start input fault)) }
+    ensures judged { IfOk result (λ v. IfSome (R.remaining reader.old) (λ input.
+        AreJudged sample PROFILE_S.now format start input v.items)) }
+{
+    let mut feed = Feed::new(alloc);
+    let config = read_config(alloc, sample, &mut feed, reader)?;
+    let reading = read_lines(alloc, &config, format, start, &mut feed, reader)?;
+    let channels = told_channels(format, config.geometry.channels);
+    let verdicts = verdicts(alloc, &reading.judge, channels, reading.last())?;
+    Ok(verdicts)
+}
+
+/// Reads all lines that are left.
+fn read_lines<R: Source>(
+    alloc: Global,
+    config: &Config,
+    format: Format,
+    start: u64,
+    feed: &mut Feed,
+    reader: &mut R,
+) -> Result<Reading, Fault>
+    requires { IsWell feed.old }
+    ensures read { IfOk result (λ r. AreRead r config.now format start (left feed.old (R.remaining reader.old))) }
+    ensures refused { IfErr result (λ fault. IfSome (left feed.old (R.remaining reader.old)) (λ body. IsReadFault format config.now start body fault)) }
+    ensures sure { IsErrOf result Fault.Read → IsTrue R.may_fail }
+    ensures unwritten { ¬ IsErrOf result Fault.Write }
+{
+    let mut reading = Reading::new(alloc, config, format, start)?;
+    for count in 0..MOST_LINES {
+        let ended = take_next(&mut reading, count, feed, reader)?;
+        if ended {
+            return Ok(reading);
+        }
+    }
+    Err(Fault::InputTooLong)
+}
+
+/// Takes the line behind so many; answers whether the input ended before it.
+fn take_next<R: Source>(
+    reading: &mut Reading,
+    count: u64,
+    feed: &mut Feed,
+    reader: &mut R,
+) -> Result<bool, Fault>
+    requires well { IsWell feed.old }
+    requires there { channels_of reading.old.judge ≡ reading.old.channels }
+    requires countable { (channel : ℕ) → channel < channels_of reading.old.judge → commands_of reading.old.judge channel + 1 < 2 ^ 64 }
+    requires few { count < MOST_LINES }
+    ensures well { IsWell feed.new }
+    ensures form { reading.new.format ≡ reading.old.format }
+    ensures channels { reading.new.channels ≡ reading.old.channels }
+    ensures there { channels_of reading.new.judge ≡ reading.new.channels }
+    ensures said { (config : Config) (start : ℕ) (read : Read) (a : Option (List ℕ)) → reading.old.channels ≡ config.geometry.channels → HasRead reading.old config start read
+        → Along (StandsAt reading.old.format config start count read) a (left feed.old (R.remaining reader.old))
+        → IsNext reading.new reading.old.format config start count read a (left feed.new (R.remaining reader.new)) result }
+    ensures sure { IsErrOf result Fault.Read → IsTrue R.may_fail }
+    ensures unwritten { ¬ IsErrOf result Fault.Write }
+{
+    match feed.next(reader) {
+        Ok(found) => take_found(reading, count, found, feed.line()),
+        Err(refusal) => Err(line_fault(count + 1, refusal)),
+    }
+}
+
+/// Takes what was found behind so many lines; answers whether that is the end.
+fn take_found(reading: &mut Reading, count: u64, found: Found, line: &[u8]) -> Result<bool, Fault>
+    requires there { channels_of reading.old.judge ≡ reading.old.channels }
+    requires countable { (channel : ℕ) → channel < channels_of reading.old.judge → commands_of reading.old.judge channel + 1 < 2 ^ 64 }
+    requires few { count < MOST_LINES }
+    ensures form { reading.new.format ≡ reading.old.format }
+    ensures channels { reading.new.channels ≡ reading.old.channels }
+    ensures there { channels_of reading.new.judge ≡ reading.new.channels }
+    ensures said { (config : Config) (start : ℕ) (read : Read) (a b c : Option (List ℕ)) → reading.old.channels ≡ config.geometry.channels → HasRead reading.old config start read
+        → Along (StandsAt reading.old.format config start count read) a b → HasFound found line.now b c
+        → IsNext reading.new reading.old.format config start count read a c result }
+    ensures sure { ¬ IsErrOf result Fault.Read }
+    ensures unwritten { ¬ IsErrOf result Fault.Write }
+{
+    match found {
+        Found::Line => take_text(reading, count, without_return(line)),
+        Found::Last => take_text(reading, count, line),
+        Found::End => Ok(true),
+    }
+}
+
+/// Takes the text of the line behind so many; answers false, since that is not the end.
+fn take_text(reading: &mut Reading, count: u64, text: &[u8]) -> Result<bool, Fault>
+    requires there { channels_of reading.old.judge ≡ reading.old.channels }
+    requires countable { (channel : ℕ) → channel < channels_of reading.old.judge → commands_of reading.old.judge channel + 1 < 2 ^ 64 }
+    requires few { count < MOST_LINES }
+    ensures form { reading.new.format ≡ reading.old.format }
+    ensures channels { reading.new.channels ≡ reading.old.channels }
+    ensures there { channels_of reading.new.judge ≡ reading.new.channels }
+    ensures said { (config : Config) (start : ℕ) (read : Read) (a b c : Option (List ℕ)) (f : Found) (line : List ℕ) → reading.old.channels ≡ config.geometry.channels → HasRead reading.old config start read
+        → Along (StandsAt reading.old.format config start count read) a b → HasFound f line b c → f ≢ Found.End → text.now ≡ text_of f line
+        → IsNext reading.new reading.old.format config start count read a c result }
+    ensures sure { ¬ IsErrOf result Fault.Read }
+    ensures unwritten { ¬ IsErrOf result Fault.Write }
+{
+    match reading.take_line(count + 1, text) {
+        Ok(()) => Ok(false),
+        Err(fault) => Err(fault),
+    }
+}
+
+/// A line without the carriage return at its end, if it has one.
+fn without_return(line: &[u8]) -> &[u8]
+    ensures { result.now ≡ strip_carriage_return line.now }
+{
+    if !line.is_empty() && line[line.len() - 1] == b'\r' {
+        return &line[..line.len() - 1];
+    }
+    line
+}
+
+/// Why the line of this number was not found.
+fn line_fault(line: u64, refusal: Refusal) -> Fault
+    ensures { result ≡ line_fault line refusal }
+{
+    match refusal {
+        Refusal::Line => Fault::CaptureLine { line },
+        Refusal::Read => Fault::Read,
+        Refusal::OutOfMemory => Fault::OutOfMemory,
+    }
+}

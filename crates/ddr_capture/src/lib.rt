@@ -1,0 +1,19 @@
+//! Captured command traces: how their lines are read, in this project's own form and in those of other simulators.
+//!
+//! Below stand the program's texts (`ddr_text`) and the commands of a trace (`ddr_trace`). `number` and `hexadecimal` read
+//! numbers, `cuts` takes a line's fields apart, `tool` reads the fields of another simulator's line and `own` those of this
+//! project's, and `line` reads a line of either.
+#![tactic(auto)]
+
+pub mod capture;
+mod cuts;
+mod feed;
+mod front;
+mod hexadecimal;
+pub mod line;
+mod number;
+mod own;
+mod place;
+mod reading;
+mod report;
+mod tool;

@@ -1,0 +1,54 @@
+//! A line of a captured trace.
+//!
+//! `own` and `tool` stand below, which read the lines that are not skipped.
+ghost use Rattle.std.specs.Prelude.{◌≡◌, IfSome};
+ghost use Rattle.ddr_text.specs.Script.{is_skipped};
+ghost use Rattle.ddr_capture.specs.Line.{IsEarly, of_form, said_of};
+
+use crate::own::read_own;
+use crate::tool::{read_cut, read_spaced};
+use ddr_text::command::Format;
+use ddr_trace::command::Entry;
+
+/// What a line says.
+#[derive(Clone, Copy, Debug, PartialEq, Eq)]
+pub enum Said {
+    /// Nothing: the line is empty, a comment, which begins with `#`, or the header.
+    Nothing,
+    /// A command of a channel.
+    Command { channel: u32, entry: Entry },
+    /// The trace's end.
+    End(u64),
+}
+
+/// What a line says, which has no end of its own; none where it is not of the form. The header of this project's form may stand
+/// in the first line alone.
+#[tactic(auto, unfolding(crate::specs::Line::said_of))]
+pub fn read_line(format: Format, first: bool, line: &[u8]) -> Option<Said>
+    ensures exact { result ≡ said_of format first line.now }
+    ensures early { IfSome result IsEarly }
+{
+    if is_skipped(line) {
+        return Some(Said::Nothing);
+    }
+    read_form(format, first, line)
+}
+
+/// What a line says that is not skipped.
+fn read_form(format: Format, first: bool, line: &[u8]) -> Option<Said>
+    ensures exact { result ≡ of_form format first line.now }
+    ensures early { IfSome result IsEarly }
+{
+    match format {
+        Format::Own => read_own(first, line),
+        Format::Dramsim3 => read_spaced(line),
+        Format::Ramulator2 => read_cut(line),
+    }
+}
+
+/// Whether a line does nothing: it is empty, or a comment.
+pub(crate) fn is_skipped(line: &[u8]) -> bool
+    ensures { result ≡ is_skipped line.now }
+{
+    line.is_empty() || line[0] == b'#'
+}
