@@ -1,4 +1,5 @@
 pub mod OrderLemmas
+pub mod RowLemmas
 pub mod BankLemmas
 pub mod BoxLemmas
 pub mod DrawnLemmas

@@ -1,6 +1,7 @@
 pub mod Names
 pub mod Changes
 pub mod Order
+pub mod Rows
 pub mod Waves
 pub mod Scale
 pub mod Shapes

@@ -1,9 +1,11 @@
 //! The command `draw`: a trace as a value change dump for a viewer of waveforms, or as a picture of lanes.
 //!
 //! Below stand `ddr_trace`, and `ddr_text` with the program's inputs, outputs and faults; above stands `ddr_tool`, which performs
-//! the command. `draw` is the whole of it. `waves` makes the dump's text of the changes of a trace, which `changes` finds and
-//! `order` puts in order. `change` says what a change is, `period` when a row is closed and data are on the bus, and `names` how
-//! banks and commands are called.
+//! the command. `draw` is the whole of it. `waves` makes the dump of the changes of a trace, which `changes` finds and `order` puts
+//! in order; `change` says what one is. `lanes` makes the picture, over `ground`, `bars` for open rows and bursts, and `boxes` for
+//! commands; `scale` says where cycles and banks lie in it, `view` which cycles it shows, `shapes` how shapes are written, and `held`
+//! what a command waited for. Both stand on `period`, which says when a row is closed and when data are on the bus, and on `names`
+//! for banks and kinds of commands. `rows` has the law that the open rows are those that the rules of traces speak of.
 #![tactic(auto)]
 
 mod bars;
@@ -17,6 +19,7 @@ mod lanes;
 mod names;
 mod order;
 mod period;
+pub mod rows;
 pub mod scale;
 mod shapes;
 pub mod view;

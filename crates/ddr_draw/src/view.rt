@@ -4,8 +4,8 @@
 ghost use Rattle.std.specs.Prelude.{◌≤◌, ◌+◌};
 ghost use Rattle.ddr_draw.specs.declared.view.TheConstants.{MOST_CLOCKS};
 
-/// The most clocks that one picture shows.
-pub const MOST_CLOCKS: u32 = 10_000;
+/// The most clocks that one picture shows: it is then below 32,767 pixels wide, which is the most that some viewers draw.
+pub const MOST_CLOCKS: u32 = 2_500;
 
 /// The cycles that a picture shows, from the one up to the other.
 #[derive(Clone, Copy, Debug)]
