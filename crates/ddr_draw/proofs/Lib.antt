@@ -1,5 +1,6 @@
 pub mod OrderLemmas
 pub mod RowLemmas
+pub mod WaitLemmas
 pub mod BankLemmas
 pub mod BoxLemmas
 pub mod DrawnLemmas

@@ -7,4 +7,5 @@ pub mod Scale
 pub mod Shapes
 pub mod Drawn
 pub mod Held
+pub mod Waits
 pub mod Lanes

@@ -5,7 +5,8 @@
 //! in order; `change` says what one is. `lanes` makes the picture, over `ground`, `bars` for open rows and bursts, and `boxes` for
 //! commands; `scale` says where cycles and banks lie in it, `view` which cycles it shows, `shapes` how shapes are written, and `held`
 //! what a command waited for. Both stand on `period`, which says when a row is closed and when data are on the bus, and on `names`
-//! for banks and kinds of commands. `rows` has the law that the open rows are those that the rules of traces speak of.
+//! for banks and kinds of commands. `rows` has the law that the open rows are those that the rules of traces speak of, and `waits`
+//! the one that what a command is told to have waited for is what allowed it last.
 #![tactic(auto)]
 
 mod bars;
@@ -23,4 +24,5 @@ pub mod rows;
 pub mod scale;
 mod shapes;
 pub mod view;
+pub mod waits;
 mod waves;
