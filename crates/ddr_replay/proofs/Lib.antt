@@ -1,3 +1,4 @@
+mod DrainLemmas
 mod FoundLemmas
 mod LegalLemmas
 mod NumberLemmas

@@ -1,4 +1,5 @@
--- In quiet rounds, in which all ports wait, the core's cycles pass, and nothing else comes of them.
+-- In quiet rounds, in which all ports wait, the core's cycles pass, the ports' waits and the cycles of channels that drain writes
+-- are counted, and nothing else comes of them.
 use Rattle.std.proofs.Common.{◌≡◌, ◌<◌, ◌≤◌, ◌+◌, ℕ, zero, suc, Bool, true, false, cond, List, [], Option, Some, None, Ok, Err, All, length, refl, sym, ap, ap₂, ◌∙◌, arith}
 use Rattle.std.specs.Prelude.{◌==◌}
 use Rattle.std.specs.List.{slice_get}
@@ -18,24 +19,27 @@ use Rattle.ddr_text.specs.declared.fault.Fault.TheVariants as faults
 use Rattle.ddr_sim.specs.Rounds.{channels_served, items_of}
 use Rattle.ddr_sim.specs.Simulated.{IsCycleFault}
 use Rattle.ddr_sim.proofs.QuietLemmas.{channels_quiet, none_collected, nothing_popped, passed_more}
+use Rattle.ddr_replay.specs.Drains.{all_drained, is_draining}
 use Rattle.ddr_replay.specs.Ledgers.{Ledger}
-use Rattle.ddr_replay.specs.Runs.{Run, port_served, ports_served, ports_submitted, released, replayed, round_closed, round_made, turn, unserved}
-use Rattle.ddr_stream.specs.Stream.{queue_at}
-use Rattle.ddr_replay.specs.View.{IsRunFault}
+use Rattle.ddr_replay.specs.Runs.{Run, channels_counted, port_served, ports_served, ports_submitted, released, replayed, round_closed, round_made, turn, unserved}
+use Rattle.ddr_stream.specs.Stream.{Queues, queue_at}
+use Rattle.ddr_replay.specs.View.{IsButLedger, IsRunFault, IsSame, Replay, run_of}
 use Rattle.ddr_replay.specs.Waits.{AreQuiet, AreWaiting, all_full, come_of}
-use Rattle.ddr_replay.proofs.ReleaseLemmas.{none_given}
+use Rattle.ddr_replay.proofs.DrainLemmas.{channels_again, channels_alike, mode_settled, ports_past}
+use Rattle.ddr_replay.proofs.ReleaseLemmas.{none_given, same_run}
 use Rattle.ddr_replay.proofs.WaitLemmas.{come_still, noted, ports_wait, waits_on}
 use Rattle.ddr_replay.proofs.WaitedLemmas.{all_again, all_alike, all_none}
 
 -- after a quiet round
-abbrev later : Run → Run
-later run = record run { state = passed 1 run.state; round = run.round + 1 }
+abbrev later : Config → Run → Run
+later config run = record run { state = passed 1 run.state; ledger = all_drained 1 (is_draining (passed 1 run.state)) config.geometry.channels run.ledger; round = run.round + 1 }
 
--- after so many quiet rounds and one, before each of which but the first the ports with a request that has come wait
-abbrev pub quietly : ℕ → ℕ → Run → Run
-quietly ports more run = record run {
+-- after so many quiet rounds and one, before each of which but the first the ports with a request that has come wait, and in each
+-- of which the same channels drain writes
+abbrev pub quietly : Config → ℕ → Run → Run
+quietly config more run = record run {
   state = passed (suc more) run.state;
-  ledger = all_full more (come_of run.round run.queues) ports run.ledger;
+  ledger = all_drained (suc more) (is_draining (passed (suc more) run.state)) config.geometry.channels (all_full more (come_of run.round run.queues) config.limits.ports run.ledger);
   round = run.round + suc more;
 }
 
@@ -51,14 +55,14 @@ ports_quiet (suc p) run none fronts =
     ap (port_served p) (ports_quiet p run none (λ q below. fronts q (omega (arith, below)))) ∙ port_quiet p run none (fronts p (omega arith))
 
 -- a quiet round
-round_quiet : (config : Config) (count : ℕ) (run : Run) → AreQuiet config (suc count) run.state → round_made config run ≡ Some (later run)
+round_quiet : (config : Config) (count : ℕ) (run : Run) → AreQuiet config (suc count) run.state → round_made config run ≡ Some (later config run)
 round_quiet config count run are =
     let s = run.state in
     let each = λ (c : ℕ) (side : ChannelSide) (there : slice_get s.channels c ≡ Some side). fewer_of_side 1 (suc count) side (omega arith) (All-at (IsQuietSide (suc count)) s.channels c side are.core.channels there) in
     let close : Option State → Option Run = option_map (round_closed config run) in
     ap (λ n. close (channels_served n s)) (sym are.channels)
     ∙ ap close (channels_quiet (length s.channels) s (omega arith) each ∙ ap (λ (xs : List ChannelSide). Some (record s { channels = xs })) (first_all 1 s.channels))
-    ∙ ap (λ (r : Run). Some (record r { round = r.round + 1 })) (ports_quiet config.limits.ports (record run { state = passed 1 s }) are.core.ports are.fronts)
+    ∙ ap (λ (r : Run). Some (record r { round = r.round + 1 })) (ports_quiet config.limits.ports (channels_counted config run (passed 1 s)) are.core.ports are.fronts)
 
 quiet_on : (config : Config) (count : ℕ) (s : State) → AreQuiet config (suc count) s → AreQuiet config count (passed 1 s)
 quiet_on config count s are = record {
@@ -72,20 +76,27 @@ quiet_on config count s are = record {
 
 -- so many quiet rounds, once the ports have submitted
 quiet_turns : (config : Config) (n k until : ℕ) (run : Run) → AreQuiet config (suc k) run.state → AreWaiting config.limits.ports until run → run.round + suc k ≤ until → (unserved run == 0) ≡ false
-    → option_map_or (replayed config (n + k)) (round_made config run) (Err faults.ClockSpent) ≡ replayed config n (quietly config.limits.ports k run)
+    → option_map_or (replayed config (n + k)) (round_made config run) (Err faults.ClockSpent) ≡ replayed config n (quietly config k run)
 quiet_turns config n zero until run are waits within busy =
     let none : n + 0 ≡ n = omega arith in
-    ap (λ o. option_map_or (replayed config (n + 0)) o (Err faults.ClockSpent)) (round_quiet config 0 run are) ∙ ap (λ m. replayed config m (later run)) none
-    ∙ ap (λ (l : Ledger). replayed config n (record (later run) { ledger = l })) (sym (all_none config.limits.ports (come_of run.round run.queues) run.ledger))
+    ap (λ o. option_map_or (replayed config (n + 0)) o (Err faults.ClockSpent)) (round_quiet config 0 run are) ∙ ap (λ m. replayed config m (later config run)) none
+    ∙ ap (λ (l : Ledger). replayed config n (record (later config run) { ledger = all_drained 1 (is_draining (passed 1 run.state)) config.geometry.channels l })) (sym (all_none config.limits.ports (come_of run.round run.queues) run.ledger))
 quiet_turns config n (suc k) until run are waits within busy =
-    let next = later run in
+    let next = later config run in
     let ports = config.limits.ports in
+    let channels = config.geometry.channels in
+    let first = is_draining (passed 1 run.state) in
+    let all = is_draining (passed (suc (suc k)) run.state) in
+    let same : (c : ℕ) → first c ≡ all c = λ c. sym (mode_settled (suc k) c run.state (λ i side there. All-at (IsQuietSide (suc (suc k))) run.state.channels i side are.core.channels there)) in
     let come = come_of run.round run.queues in
     let come_next = come_of next.round next.queues in
     let waiting = noted next (all_full 1 come_next ports next.ledger) in
     let alike : (p : ℕ) → p < ports → come_next p ≡ come p = λ p below. come_still p until run.round (queue_at run.queues p) run.state (waits p below (omega (arith, within))) (omega (arith, within)) in
-    let ledger_is : all_full k come_next ports (all_full 1 come_next ports run.ledger) ≡ all_full (suc k) come ports run.ledger =
-    all_again k ports come_next run.ledger ∙ all_alike (suc k) ports come_next come run.ledger alike in
+    let counted : Ledger → Ledger = all_drained (suc k) all channels in
+    let waited = all_full (suc k) come ports run.ledger in
+    let ledger_is : counted (all_full k come_next ports (all_full 1 come_next ports next.ledger)) ≡ all_drained (suc (suc k)) all channels waited =
+    ap counted (all_again k ports come_next next.ledger ∙ all_alike (suc k) ports come_next come next.ledger alike ∙ ports_past (suc k) ports 1 channels come first run.ledger ∙ channels_alike 1 channels first all waited same)
+    ∙ channels_again k channels all waited in
     let more : n + suc k ≡ suc (n + k) = omega arith in
     let last : run.round + 1 + suc k ≡ run.round + suc (suc k) = omega arith in
     let still : AreWaiting config.limits.ports until next = λ p below ahead. waits_on until until p run.round next.round run.state next.state (slice_get (queue_at run.queues p) 0) (omega arith) (omega arith) refl (waits p below (omega (arith, ahead))) in
@@ -94,7 +105,7 @@ quiet_turns config n (suc k) until run are waits within busy =
     ∙ ap (λ (b : Bool). cond b (Ok next) (option_map_or (replayed config (n + k)) (turn config next) (Err faults.ClockSpent))) busy
     ∙ ap (λ (r : Run). option_map_or (replayed config (n + k)) (round_made config r) (Err faults.ClockSpent)) (ports_wait config.limits.ports until next still (omega (arith, within)))
     ∙ quiet_turns config n k until waiting (quiet_on config (suc k) run.state are) still (omega (arith, within)) busy
-    ∙ ap₂ (λ (xs : List ChannelSide) (r : ℕ). replayed config n (record run { state = record run.state { channels = xs }; ledger = all_full k come_next ports (all_full 1 come_next ports run.ledger); round = r })) (passed_more (suc k) run.state.channels) last
+    ∙ ap₂ (λ (xs : List ChannelSide) (r : ℕ). replayed config n (record run { state = record run.state { channels = xs }; ledger = all_drained (suc k) (is_draining (record run.state { channels = xs })) channels (all_full k come_next ports (all_full 1 come_next ports next.ledger)); round = r })) (passed_more (suc k) run.state.channels) last
     ∙ ap (λ (l : Ledger). replayed config n (record run { state = passed (suc (suc k)) run.state; ledger = l; round = run.round + suc (suc k) })) ledger_is
 
 -- the core is quiet for as many rounds or fewer, and no reply is in front
@@ -127,7 +138,7 @@ turn_made config n m run next e busy made = replayed_turn config n m run e busy 
 
 -- so many quiet ones were
 pub turns_passed : (config : Config) (n m k until : ℕ) (run ready : Run) → n ≡ suc (m + k) → (unserved run == 0) ≡ false → (unserved ready == 0) ≡ false → ready ≡ ports_submitted config.limits.ports run
-    → AreQuiet config (suc k) ready.state → AreWaiting config.limits.ports until ready → ready.round + suc k ≤ until → replayed config n run ≡ replayed config m (quietly config.limits.ports k ready)
+    → AreQuiet config (suc k) ready.state → AreWaiting config.limits.ports until ready → ready.round + suc k ≤ until → replayed config n run ≡ replayed config m (quietly config k ready)
 turns_passed config n m k until run ready e busy still is are waits within =
     replayed_turn config n (m + k) run e busy
     ∙ ap (λ (r : Run). option_map_or (replayed config (m + k)) (round_made config r) (Err faults.ClockSpent)) (sym is)
@@ -142,10 +153,24 @@ turn_failed config n m run ready faults.ClockSpent e busy is fault =
 turn_failed config n m run ready faults.OutOfMemory e busy is fault = tt
 turn_failed config n m run ready _ e busy is fault = absurd fault
 
--- a round that was made
-pub round_ok : (config : Config) (run mid last new : Run) → channels_served config.geometry.channels run.state ≡ Some mid.state → mid ≡ record run { state = mid.state } → last ≡ ports_served config.limits.ports mid → new ≡ record last { round = last.round + 1 }
-    → round_made config run ≡ Some new
-round_ok config run mid last new channels same ports next =
-    ap (option_map (round_closed config run)) channels
-    ∙ ap (λ (r : Run). Some (record r { round = r.round + 1 })) (ap (ports_served config.limits.ports) (sym same) ∙ sym ports)
+-- all but the ledger is as it was
+but_ledger : (old new : Replay) (ledger : Ledger) → IsButLedger old new → new.ledger ≡ ledger → run_of new ≡ record (run_of old) { ledger = ledger }
+but_ledger old new ledger rest is =
+    ap (λ (l : Ledger). record (run_of new) { ledger = l }) is
+    ∙ ap (λ (w : Kept). record { state = state_of w; queues = new.queues; ledger = ledger; round = new.round }) rest.world
+    ∙ ap₂ (λ (qs : Queues) (r : ℕ). record { state = state_of old.world; queues = qs; ledger = ledger; round = r }) rest.queues rest.round
+
+-- a round that was made: the channels' part, the count of those that drain writes, and the ports' part
+pub round_ok : (old served counted last : Replay) (new : Run) → channels_served old.config.geometry.channels (state_of old.world) ≡ Some (state_of served.world) → IsSame old served
+    → counted.ledger ≡ all_drained 1 (is_draining (state_of served.world)) served.config.geometry.channels served.ledger → IsButLedger served counted
+    → run_of last ≡ ports_served counted.config.limits.ports (run_of counted) → new ≡ record (run_of last) { round = last.round + 1 } → round_made old.config (run_of old) ≡ Some new
+round_ok old served counted last new channels same drains rest ports next =
+    let s = state_of served.world in
+    let config_is : counted.config ≡ old.config = rest.config ∙ same.config in
+    let run_is : run_of counted ≡ channels_counted old.config (run_of old) s =
+    but_ledger served counted (all_drained 1 (is_draining s) served.config.geometry.channels served.ledger) rest drains
+    ∙ ap (λ (k : Config). record (run_of served) { ledger = all_drained 1 (is_draining s) k.geometry.channels served.ledger }) same.config
+    ∙ ap (λ (r : Run). record r { ledger = all_drained 1 (is_draining s) old.config.geometry.channels r.ledger }) (same_run old served same) in
+    ap (option_map (round_closed old.config (run_of old))) channels
+    ∙ ap (λ (r : Run). Some (record r { round = r.round + 1 })) (ap (ports_served old.config.limits.ports) (sym run_is) ∙ ap (λ (k : Config). ports_served k.limits.ports (run_of counted)) (sym config_is) ∙ sym ports)
     ∙ ap (λ (r : Run). Some r) (sym next)

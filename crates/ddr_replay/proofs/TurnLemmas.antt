@@ -8,6 +8,7 @@ use Rattle.ddr_world.specs.State.{State}
 use Rattle.ddr_text.specs.declared.fault.Fault.{Fault}
 use Rattle.ddr_sim.specs.Simulated.{IsCycleFault}
 use Rattle.ddr_sim.specs.Rounds.{channels_served}
+use Rattle.ddr_replay.specs.Drains.{all_drained, is_draining}
 use Rattle.ddr_replay.specs.Ledgers.{Ledger}
 use Rattle.ddr_replay.specs.Runs.{Run, ports_submitted, replayed, round_made, unserved}
 use Rattle.ddr_stream.specs.Stream.{Queues}
@@ -46,17 +47,19 @@ made_on old ready new is busy made some next =
 
 -- so many quiet ones were
 pub passed_on : (old ready new : Replay) (count until : ℕ) → IsReady old ready → (unserved (run_of old) == 0) ≡ false → 0 < count → AreQuiet ready.config count (state_of ready.world) → AreWaiting old.config.limits.ports until (run_of ready) → ready.round + count ≤ until → count ≤ MOST - ready.round
-    → state_of new.world ≡ passed count (state_of ready.world) → new.round ≡ ready.round + count → new.queues ≡ ready.queues → new.ledger ≡ all_full (count - 1) (come_of ready.round ready.queues) ready.config.limits.ports ready.ledger → replayed old.config (MOST - old.round) (run_of old) ≡ replayed old.config (MOST - new.round) (run_of new)
+    → state_of new.world ≡ passed count (state_of ready.world) → new.round ≡ ready.round + count → new.queues ≡ ready.queues → new.ledger ≡ all_drained count (is_draining (state_of new.world)) ready.config.geometry.channels (all_full (count - 1) (come_of ready.round ready.queues) ready.config.limits.ports ready.ledger) → replayed old.config (MOST - old.round) (run_of old) ≡ replayed old.config (MOST - new.round) (run_of new)
 passed_on old ready new zero until is busy some are waits within most state round queues ledger = absurd (omega (arith, some))
 passed_on old ready new (suc k) until is busy some are waits within most state round queues ledger =
     let same = ready_round old ready is in
     let come = come_of ready.round ready.queues in
-    let after = all_full k come old.config.limits.ports ready.ledger in
+    let counted : State → Ledger = λ s. all_drained (suc k) (is_draining s) old.config.geometry.channels (all_full k come old.config.limits.ports ready.ledger) in
+    let after = counted (passed (suc k) (state_of ready.world)) in
     let one_less : suc k - 1 ≡ k = omega arith in
     let ledger_is : new.ledger ≡ after =
     ledger
-    ∙ ap (λ n. all_full n come ready.config.limits.ports ready.ledger) one_less
-    ∙ ap (λ (c : Config). all_full k come c.limits.ports ready.ledger) is.config in
+    ∙ ap (λ n. all_drained (suc k) (is_draining (state_of new.world)) ready.config.geometry.channels (all_full n come ready.config.limits.ports ready.ledger)) one_less
+    ∙ ap (λ (c : Config). all_drained (suc k) (is_draining (state_of new.world)) c.geometry.channels (all_full k come c.limits.ports ready.ledger)) is.config
+    ∙ ap counted state in
     let all : MOST - old.round ≡ suc ((MOST - new.round) + k) = omega (arith, same, most, round) in
     turns_passed old.config (MOST - old.round) (MOST - new.round) k until (run_of old) (run_of ready) all busy (still_busy old ready is busy) is.run
     (subst (λ (c : Config). AreQuiet c (suc k) (state_of ready.world)) is.config are) waits within

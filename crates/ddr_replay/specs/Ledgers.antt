@@ -3,6 +3,7 @@ use Rattle.std.specs.Prelude.{ℕ, Bool, if◌then◌else◌, List, [], ◌∷�
 use Rattle.ddr_replay.specs.declared.times.Accepted.{Accepted}
 use Rattle.ddr_replay.specs.declared.times.Times.{Times}
 use Rattle.ddr_reorder.specs.declared.reply.Service.{Service}
+use Rattle.ddr_statistics.specs.Noted.{raised}
 use Rattle.ddr_replay.specs.declared.served.Served.{Served}
 use Rattle.ddr_replay.specs.declared.waited.Waited.{Waited}
 use Rattle.ddr_replay.specs.Times.{count_of, no_times, timed}
@@ -17,13 +18,23 @@ pub record Ledger : Type 0 where
   pub ports : List Times
   -- for how many rounds each port waited
   pub waited : List Waited
+  -- in how many cycles of each channel writes were drained
+  pub drains : List ℕ
   -- whether the others are kept, and those that are, in the order in which their replies were released
   pub keeps : Bool
   pub served : List Served
 
--- of so many ports, before the first request
-abbrev pub no_ledger : ℕ → Bool → Ledger
-no_ledger ports keeps = record { accepted = replicate ports []; total = no_times; ports = replicate ports no_times; waited = replicate ports no_wait; keeps = keeps; served = [] }
+-- of so many channels and ports, before the first request
+abbrev pub no_ledger : ℕ → ℕ → Bool → Ledger
+no_ledger channels ports keeps = record {
+  accepted = replicate ports [];
+  total = no_times;
+  ports = replicate ports no_times;
+  waited = replicate ports no_wait;
+  drains = replicate channels 0;
+  keeps = keeps;
+  served = [];
+}
 
 abbrev pub accepted_at : Ledger → ℕ → List Accepted
 accepted_at ledger port = slice_index_or ledger.accepted port []
@@ -34,6 +45,9 @@ times_at ledger port = slice_index_or ledger.ports port no_times
 abbrev pub waited_at : Ledger → ℕ → Waited
 waited_at ledger port = slice_index_or ledger.waited port no_wait
 
+abbrev pub drains_at : Ledger → ℕ → ℕ
+drains_at ledger channel = slice_index_or ledger.drains channel 0
+
 -- a port waits in a round, where its request is refused so
 abbrev pub with_wait : ℕ → Refusal → Ledger → Ledger
 with_wait port cause ledger = record ledger { waited = slice_set ledger.waited port (waited_for cause (waited_at ledger port)) }
@@ -41,6 +55,10 @@ with_wait port cause ledger = record ledger { waited = slice_set ledger.waited p
 -- and in so many rounds where its window is full
 abbrev pub with_full : ℕ → ℕ → Ledger → Ledger
 with_full port rounds ledger = record ledger { waited = slice_set ledger.waited port (window_waited rounds (waited_at ledger port)) }
+
+-- in so many cycles more writes were drained in a channel
+abbrev pub with_drained : ℕ → ℕ → Ledger → Ledger
+with_drained channel cycles ledger = record ledger { drains = slice_set ledger.drains channel (raised cycles (drains_at ledger channel)) }
 
 -- a request more of a port
 abbrev pub with_accepted : ℕ → Accepted → Ledger → Ledger

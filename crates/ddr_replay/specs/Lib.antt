@@ -1,3 +1,4 @@
+pub mod Drains
 pub mod Found
 pub mod Ledgers
 pub mod Numbers

@@ -6,6 +6,7 @@ use Rattle.ddr_statistics.specs.Text.{counts_text, line}
 use Rattle.ddr_replay.specs.declared.numbers.Numbers.{Numbers}
 use Rattle.ddr_replay.specs.declared.numbers.Requests.{Requests}
 use Rattle.ddr_replay.specs.declared.waited.Waited.{Waited}
+use Rattle.ddr_replay.specs.Drains.{drains_together}
 use Rattle.ddr_replay.specs.Ledgers.{Ledger}
 use Rattle.ddr_replay.specs.Places.{debt_line, places_tables}
 use Rattle.ddr_replay.specs.Numbers.{many, numbers_of, together}
@@ -23,24 +24,25 @@ requests_lines requests = line (codes "read_requests = ") requests.reads (line (
 unfoldable pub waited_lines : Waited → List ℕ
 waited_lines waited = line (codes "waited_for_window = ") waited.window (line (codes "waited_for_queue = ") waited.queue [])
 
-unfoldable pub numbers_lines : Numbers → List ℕ
-numbers_lines numbers =
-    line (codes "turn_rounds = ") numbers.turn_rounds (line (codes "rank_switches = ") numbers.rank_switches [])
+-- of a channel that drained writes in so many cycles
+unfoldable pub numbers_lines : ℕ → Numbers → List ℕ
+numbers_lines drains numbers =
+    line (codes "turn_rounds = ") numbers.turn_rounds (line (codes "rank_switches = ") numbers.rank_switches (line (codes "drain_cycles = ") drains []))
     ++ debt_line numbers.refresh_debt_most ++ counts_text numbers.counts
 
-unfoldable pub total_table : Requests → Waited → Numbers → List ℕ
-total_table requests waited numbers = 10 ∷ (codes "[total]" ++ 10 ∷ []) ++ requests_lines requests ++ waited_lines waited ++ numbers_lines numbers
+unfoldable pub total_table : Requests → Waited → ℕ → Numbers → List ℕ
+total_table requests waited drains numbers = 10 ∷ (codes "[total]" ++ 10 ∷ []) ++ requests_lines requests ++ waited_lines waited ++ numbers_lines drains numbers
 
-unfoldable pub channel_table : ℕ → Numbers → List ℕ
-channel_table channel numbers = 10 ∷ (codes "[channel." ++ (decimal channel ++ (codes "]" ++ 10 ∷ []))) ++ numbers_lines numbers
+unfoldable pub channel_table : ℕ → ℕ → Numbers → List ℕ
+channel_table channel drains numbers = 10 ∷ (codes "[channel." ++ (decimal channel ++ (codes "]" ++ 10 ∷ []))) ++ numbers_lines drains numbers
 
 unfoldable pub port_table : ℕ → Requests → Waited → List ℕ
 port_table port requests waited = 10 ∷ (codes "[port." ++ (decimal port ++ (codes "]" ++ 10 ∷ []))) ++ requests_lines requests ++ waited_lines waited
 
 -- the tables of the channels, of the ports, from this number on
-abbrev pub channel_tables : ℕ → List Numbers → List ℕ
-channel_tables channel [] = []
-channel_tables channel (one ∷ more) = channel_table channel one ++ channel_tables (channel + 1) more
+abbrev pub channel_tables : ℕ → List Numbers → List ℕ → List ℕ
+channel_tables channel [] drains = []
+channel_tables channel (one ∷ more) drains = channel_table channel (slice_index_or drains channel 0) one ++ channel_tables (channel + 1) more drains
 
 abbrev pub port_tables : ℕ → List Requests → List Waited → List ℕ
 port_tables port [] waited = []
@@ -48,7 +50,7 @@ port_tables port (one ∷ more) waited = port_table port one (slice_index_or wai
 
 unfoldable pub report_lines : Config → List Requests → List Numbers → Ledger → ℕ → List ℕ
 report_lines config requests numbers ledger cycles =
-    head_text config cycles ++ total_table (many requests) (all_waited ledger.waited) (together numbers) ++ channel_tables 0 numbers ++ port_tables 0 requests ledger.waited ++ ledger_tables ledger
+    head_text config cycles ++ total_table (many requests) (all_waited ledger.waited) (drains_together ledger.drains) (together numbers) ++ channel_tables 0 numbers ledger.drains ++ port_tables 0 requests ledger.waited ++ ledger_tables ledger
 
 -- the statistics of a replay of so many requests that came to this run
 abbrev pub report_text : Config → List Requests → Run → List ℕ

@@ -14,6 +14,7 @@ use Rattle.ddr_sim.specs.Rounds.{after, channels_served, items_of, outstanding, 
 use Rattle.ddr_stream.specs.declared.ask.Ask.{Ask}
 use Rattle.ddr_replay.specs.declared.times.Accepted.{Accepted}
 use Rattle.ddr_stream.specs.Asks.{asked_by}
+use Rattle.ddr_replay.specs.Drains.{all_drained, is_draining}
 use Rattle.ddr_replay.specs.Ledgers.{Ledger, no_ledger, noted, with_accepted, with_wait}
 use Rattle.ddr_stream.specs.Stream.{Queues, queue_at}
 
@@ -77,9 +78,13 @@ abbrev pub ports_served : ℕ → Run → Run
 ports_served zero run = run
 ports_served (suc p) run = port_served p (ports_served p run)
 
--- the ports' part of a round, which is one more then
+-- the channels' part of a round has come to this state: each in which writes were drained counts a cycle more
+abbrev pub channels_counted : Config → Run → State → Run
+channels_counted config run s = record run { state = s; ledger = all_drained 1 (is_draining s) config.geometry.channels run.ledger }
+
+-- then comes the ports' part, and the round is one more
 abbrev pub round_closed : Config → Run → State → Run
-round_closed config run s = let last = ports_served config.limits.ports (record run { state = s }) in record last { round = last.round + 1 }
+round_closed config run s = let last = ports_served config.limits.ports (channels_counted config run s) in record last { round = last.round + 1 }
 
 -- the round of `sim`: each channel's part, then each port's; none where a clock is spent
 abbrev pub round_made : Config → Run → Option Run
@@ -100,4 +105,4 @@ replayed config (suc n) run = if unserved run == 0 then Ok run else option_map_o
 
 -- before the first round; served requests are kept where that is asked for
 abbrev pub begun : Config → Bool → Queues → Run
-begun config keeps queues = record { state = opened config 0 0; queues = queues; ledger = no_ledger config.limits.ports keeps; round = 0 }
+begun config keeps queues = record { state = opened config 0 0; queues = queues; ledger = no_ledger config.geometry.channels config.limits.ports keeps; round = 0 }

@@ -1,8 +1,9 @@
-//! When requests were accepted, how long those took whose replies were released, and for how long ports waited.
+//! When requests were accepted, how long those took whose replies were released, for how long ports waited, and in how many cycles
+//! channels drained writes.
 //!
 //! `times`, `waited` and `served` stand below, and `submitting`, `replaying` and `telling` above.
 ghost use Rattle.std.specs.Prelude.{◌≡◌, [], ◌∷◌, ◌++◌, drop, replicate, slice_get, IfOk, OnOk, Some};
-ghost use Rattle.ddr_replay.specs.Ledgers.{accepted_at, no_ledger, noted, served_of, times_at, with_accepted, with_full, with_served, with_times, with_wait, without_oldest};
+ghost use Rattle.ddr_replay.specs.Ledgers.{accepted_at, no_ledger, noted, served_of, times_at, with_accepted, with_drained, with_full, with_served, with_times, with_wait, without_oldest};
 ghost use Rattle.ddr_replay.specs.Times.{count_of, no_times};
 ghost use Rattle.ddr_replay.specs.Waited.{no_wait};
 
@@ -62,6 +63,8 @@ pub struct Ledger {
     ports: Vec<Times>,
     /// For how many rounds each port waited.
     waited: Vec<Waited>,
+    /// In how many cycles of each channel writes were drained.
+    drains: Vec<u64>,
     /// Whether the requests whose replies were released are kept.
     keeps: bool,
     served: Vec<Served>,
@@ -72,19 +75,21 @@ impl Model for Ledger {
 
     ghost Value = { Ledger };
 
-    ghost view = { λ a. record { accepted = a.accepted.items; total = a.total; ports = a.ports.items; waited = a.waited.items; keeps = a.keeps; served = a.served.items } };
+    ghost view = { λ a. record { accepted = a.accepted.items; total = a.total; ports = a.ports.items; waited = a.waited.items; drains = a.drains.items; keeps = a.keeps; served = a.served.items } };
 }
 
 impl Ledger {
-    /// That of so many ports, before the first request. `keeps` says whether the requests whose replies are released are kept.
-    pub fn open(alloc: Global, ports: u32, keeps: bool) -> Result<Ledger, AllocError>
-        ensures { IfOk result (λ ledger. ledger ≡ no_ledger ports keeps) }
+    /// That of so many channels and ports, before the first request. `keeps` says whether the requests whose replies are released
+    /// are kept.
+    pub fn open(alloc: Global, channels: u32, ports: u32, keeps: bool) -> Result<Ledger, AllocError>
+        ensures { IfOk result (λ ledger. ledger ≡ no_ledger channels ports keeps) }
     {
         Ok(Ledger {
             accepted: none_outstanding(alloc, ports)?,
             total: Times::NONE,
             ports: no_times(alloc, ports)?,
             waited: no_waits(alloc, ports)?,
+            drains: no_drains(alloc, channels)?,
             keeps,
             served: Vec::new(alloc),
         })
@@ -115,6 +120,16 @@ impl Ledger {
     {
         if (port as usize) < self.waited.len() {
             self.waited[port as usize].fill(rounds);
+        }
+    }
+
+    /// Notes that in so many cycles more writes were drained in a channel.
+    pub fn drain(&mut self, channel: u32, cycles: u64)
+        ensures { self.new ≡ with_drained channel cycles self.old }
+    {
+        if (channel as usize) < self.drains.len() {
+            let before = self.drains[channel as usize];
+            self.drains[channel as usize] = before.saturating_add(cycles);
         }
     }
 
@@ -208,6 +223,13 @@ impl Ledger {
         self.waited.as_slice()
     }
 
+    /// In how many cycles of each channel writes were drained.
+    pub fn drains(&self) -> &[u64]
+        ensures { result.now ≡ self.now.drains }
+    {
+        self.drains.as_slice()
+    }
+
     /// The times of each port.
     pub fn ports(&self) -> &[Times]
         ensures { result.now ≡ self.now.ports }
@@ -234,6 +256,17 @@ fn no_times(alloc: Global, ports: u32) -> Result<Vec<Times>, AllocError>
     let mut all = Vec::new(alloc);
     for _ in 0..ports {
         all.push(Times::NONE)?;
+    }
+    Ok(all)
+}
+
+/// Of so many channels, in which no write was drained yet.
+fn no_drains(alloc: Global, channels: u32) -> Result<Vec<u64>, AllocError>
+    ensures { IfOk result (λ v. v.items ≡ replicate channels 0) }
+{
+    let mut all = Vec::new(alloc);
+    for _ in 0..channels {
+        all.push(0)?;
     }
     Ok(all)
 }

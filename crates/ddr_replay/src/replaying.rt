@@ -9,6 +9,7 @@ ghost use Rattle.ddr_world.specs.Events.{event_of, Release};
 ghost use Rattle.ddr_world.specs.Served.{front_service};
 ghost use Rattle.ddr_world.specs.Kept.{state_of};
 ghost use Rattle.ddr_world.specs.Quiet.{passed};
+ghost use Rattle.ddr_replay.specs.Drains.{all_drained, drained, is_draining};
 ghost use Rattle.ddr_replay.specs.Runs.{begun, port_served, port_submitted, ports_served, ports_submitted, replayed, round_made, unserved};
 ghost use Rattle.ddr_replay.specs.View.{IsButLedger, IsFrontReleased, IsRunFault, IsSame, is_popping, run_of};
 ghost use Rattle.ddr_replay.specs.Waits.{AreQuiet, AreWaiting, IsWaitingIn, all_full, come_of, filled};
@@ -72,7 +73,7 @@ impl Replaying {
         ensures config { IfOk result (λ replay. replay.config ≡ config.now) }
     {
         let unserved = count_all(queues.as_slice());
-        let ledger = Ledger::open(alloc, config.limits.ports, keeps)?;
+        let ledger = Ledger::open(alloc, config.geometry.channels, config.limits.ports, keeps)?;
         Ok(Replaying {
             config: *config,
             world: World::open(alloc, config)?,
@@ -196,18 +197,19 @@ impl Replaying {
     }
 
     /// Makes so many quiet rounds at once: before the first of them each port has submitted, and before each other one those whose
-    /// next request's cycle has come find their windows full again.
+    /// next request's cycle has come find their windows full again. In all of them the same channels drain writes.
     fn pass(&mut self, count: u32)
         requires quiet { AreQuiet self.old.config count (state_of self.old.world) }
         requires within { count ≤ MOST_ROUNDS - self.old.round }
         ensures state { state_of self.new.world ≡ passed count (state_of self.old.world) }
         ensures round { self.new.round ≡ self.old.round + count }
         ensures queues { self.new.queues ≡ self.old.queues }
-        ensures ledger { self.new.ledger ≡ all_full (count - 1) (come_of self.old.round self.old.queues) self.old.config.limits.ports self.old.ledger }
+        ensures ledger { self.new.ledger ≡ all_drained count (is_draining (state_of self.new.world)) self.old.config.geometry.channels (all_full (count - 1) (come_of self.old.round self.old.queues) self.old.config.limits.ports self.old.ledger) }
         ensures config { self.new.config ≡ self.old.config }
     {
         self.fill_all(u64::from(count.saturating_sub(1)));
         self.world.pass(u64::from(count));
+        self.drain_all(u64::from(count));
         self.round += count;
     }
 
@@ -243,6 +245,36 @@ impl Replaying {
         }
     }
 
+    /// Counts so many cycles more in each channel where writes were drained in the cycle before.
+    fn drain_all(&mut self, cycles: u64)
+        ensures ledger { self.new.ledger ≡ all_drained cycles (is_draining (state_of self.old.world)) self.old.config.geometry.channels self.old.ledger }
+        ensures rest { IsButLedger self.old self.new }
+    {
+        for channel in 0..self.config.geometry.channels {
+            self.drain(channel, cycles);
+        }
+    }
+
+    /// Counts so many cycles more in a channel, if writes were drained there in the cycle before.
+    fn drain(&mut self, channel: u32, cycles: u64)
+        ensures ledger { self.new.ledger ≡ drained cycles (is_draining (state_of self.old.world)) channel self.old.ledger }
+        ensures rest { IsButLedger self.old self.new }
+    {
+        if self.is_draining(channel) {
+            self.ledger.drain(channel, cycles);
+        }
+    }
+
+    /// Whether writes were drained in the channel of that number in the cycle before.
+    fn is_draining(&self, channel: u32) -> bool
+        ensures { result ≡ is_draining (state_of self.now.world) channel }
+    {
+        match self.world.channel(channel) {
+            Some(channel) => channel.is_draining(),
+            None => false,
+        }
+    }
+
     /// Makes a round: each channel's part in order, then each port's.
     fn make_round(&mut self) -> Result<(), Fault>
         requires { self.old.round < MOST_ROUNDS }
@@ -253,6 +285,7 @@ impl Replaying {
         ensures within { self.new.round ≤ MOST_ROUNDS }
     {
         self.serve_channels()?;
+        self.drain_all(1);
         self.serve_ports()?;
         self.round += 1;
         Ok(())

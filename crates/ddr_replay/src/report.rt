@@ -2,6 +2,7 @@
 //!
 //! `numbers`, `waited`, `places`, `times_report` and `ddr_statistics` stand below, and `telling` above. `specs/Report.antt` has the text, byte for byte.
 ghost use Rattle.std.specs.Prelude.{◌≡◌, IfOk, slice_index_or, string_bytes};
+ghost use Rattle.ddr_replay.specs.Drains.{both_drains, drains_together};
 ghost use Rattle.ddr_replay.specs.Report.{channel_table, channel_tables, head_text, numbers_lines, port_table, port_tables, report_lines, requests_lines, total_table, waited_lines};
 ghost use Rattle.ddr_replay.specs.Waited.{no_wait};
 
@@ -33,10 +34,11 @@ pub fn report_lines(
         alloc,
         &many(requests),
         &all_waited(ledger.waited()),
+        drains_together(ledger.drains()),
         &together(numbers),
     )?;
     text.push_str(total.as_str())?;
-    let channels = channel_tables(alloc, numbers)?;
+    let channels = channel_tables(alloc, numbers, ledger.drains())?;
     text.push_str(channels.as_str())?;
     let ports = port_tables(alloc, requests, ledger.waited())?;
     text.push_str(ports.as_str())?;
@@ -60,39 +62,72 @@ fn total_table(
     alloc: Global,
     requests: &Requests,
     waited: &Waited,
+    drains: u64,
     numbers: &Numbers,
 ) -> Result<String, AllocError>
-    ensures { IfOk result (λ text. string_bytes text ≡ total_table requests.now waited.now numbers.now) }
+    ensures { IfOk result (λ text. string_bytes text ≡ total_table requests.now waited.now drains numbers.now) }
 {
     let mut text = String::from_str(alloc, "\n[total]\n")?;
     let asked = requests_lines(alloc, requests)?;
     text.push_str(asked.as_str())?;
     let waits = waited_lines(alloc, waited)?;
     text.push_str(waits.as_str())?;
-    let counted = numbers_lines(alloc, numbers)?;
+    let counted = numbers_lines(alloc, drains, numbers)?;
     text.push_str(counted.as_str())?;
     Ok(text)
 }
 
-/// The tables of the channels.
-fn channel_tables(alloc: Global, numbers: &[Numbers]) -> Result<String, AllocError>
-    ensures { IfOk result (λ text. string_bytes text ≡ channel_tables 0 numbers.now) }
+/// The tables of the channels, of which a channel that isn't told of drained no writes.
+fn channel_tables(alloc: Global, numbers: &[Numbers], drains: &[u64]) -> Result<String, AllocError>
+    ensures { IfOk result (λ text. string_bytes text ≡ channel_tables 0 numbers.now drains.now) }
 {
     let mut text = String::new(alloc);
     for (channel, one) in numbers.iter().enumerate() {
-        let table = channel_table(alloc, channel, one)?;
+        let table = channel_table(alloc, channel, drains_at(drains, channel), one)?;
         text.push_str(table.as_str())?;
     }
     Ok(text)
 }
 
+/// In how many cycles a channel drained writes; in none where it isn't told of.
+fn drains_at(drains: &[u64], channel: usize) -> u64
+    ensures { result ≡ slice_index_or drains.now channel 0 }
+{
+    match drains.get(channel) {
+        Some(one) => *one,
+        None => 0,
+    }
+}
+
+/// In how many cycles several channels drained writes, together.
+fn drains_together(drains: &[u64]) -> u64
+    ensures { result ≡ drains_together drains.now }
+{
+    let mut all: u64 = 0;
+    for one in drains {
+        all = both_drains(all, *one);
+    }
+    all
+}
+
+fn both_drains(a: u64, b: u64) -> u64
+    ensures { result ≡ both_drains a b }
+{
+    a.saturating_add(b)
+}
+
 /// The table of a channel, behind an empty line.
 #[tactic(auto, unfolding(crate::specs::Report::channel_table))]
-fn channel_table(alloc: Global, channel: usize, numbers: &Numbers) -> Result<String, AllocError>
-    ensures { IfOk result (λ text. string_bytes text ≡ channel_table channel numbers.now) }
+fn channel_table(
+    alloc: Global,
+    channel: usize,
+    drains: u64,
+    numbers: &Numbers,
+) -> Result<String, AllocError>
+    ensures { IfOk result (λ text. string_bytes text ≡ channel_table channel drains numbers.now) }
 {
     let mut text = format!(in alloc; "\n[channel.{channel}]\n")?;
-    let lines = numbers_lines(alloc, numbers)?;
+    let lines = numbers_lines(alloc, drains, numbers)?;
     text.push_str(lines.as_str())?;
     Ok(text)
 }
@@ -160,13 +195,13 @@ fn requests_lines(alloc: Global, requests: &Requests) -> Result<String, AllocErr
 }
 
 #[tactic(auto, unfolding(crate::specs::Report::numbers_lines))]
-fn numbers_lines(alloc: Global, numbers: &Numbers) -> Result<String, AllocError>
-    ensures { IfOk result (λ text. string_bytes text ≡ numbers_lines numbers.now) }
+fn numbers_lines(alloc: Global, drains: u64, numbers: &Numbers) -> Result<String, AllocError>
+    ensures { IfOk result (λ text. string_bytes text ≡ numbers_lines drains numbers.now) }
 {
     let turn_rounds = numbers.turn_rounds;
     let rank_switches = numbers.rank_switches;
     let mut text = format!(in alloc;
-        "turn_rounds = {turn_rounds}\nrank_switches = {rank_switches}\n"
+        "turn_rounds = {turn_rounds}\nrank_switches = {rank_switches}\ndrain_cycles = {drains}\n"
     )?;
     let debt = debt_line(alloc, numbers.refresh_debt_most)?;
     text.push_str(debt.as_str())?;

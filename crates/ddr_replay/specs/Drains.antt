@@ -1,0 +1,25 @@
+-- In how many cycles of each channel writes were drained.
+use Rattle.std.specs.Prelude.{ℕ, zero, suc, Bool, false, if◌then◌else◌, List, fold, slice_get}
+use Rattle.std.specs.Option.{option_map_or}
+use Rattle.ddr_statistics.specs.Noted.{raised}
+use Rattle.ddr_world.specs.State.{State}
+use Rattle.ddr_replay.specs.Ledgers.{Ledger, with_drained}
+
+-- in the channel of that number writes were drained in the cycle before
+abbrev pub is_draining : State → ℕ → Bool
+is_draining s c = option_map_or (λ side. side.channel.drain) (slice_get s.channels c) false
+
+-- a channel in which writes are drained counts so many cycles more, and so does each of the first so many channels
+abbrev pub drained : ℕ → (ℕ → Bool) → ℕ → Ledger → Ledger
+drained cycles draining c ledger = if draining c then with_drained c cycles ledger else ledger
+
+abbrev pub all_drained : ℕ → (ℕ → Bool) → ℕ → Ledger → Ledger
+all_drained cycles draining zero ledger = ledger
+all_drained cycles draining (suc c) ledger = drained cycles draining c (all_drained cycles draining c ledger)
+
+-- several channels together
+abbrev pub both_drains : ℕ → ℕ → ℕ
+both_drains a b = raised b a
+
+abbrev pub drains_together : List ℕ → ℕ
+drains_together drains = fold both_drains 0 drains
