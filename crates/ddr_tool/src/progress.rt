@@ -2,12 +2,13 @@
 //!
 //! `ddr_replay` stands below, which tells it, and `main` above.
 use ddr_replay::watch::Watch;
-use std::time::{Duration, Instant};
+use std::time::Instant;
 
-/// The least time between two lines.
-const EACH: Duration = Duration::from_secs(1);
+/// The least number of seconds between two lines.
+const EACH: u64 = 1;
 
 /// Tells on standard error, about each second, how many requests of a replay were served, and how many cycles were made.
+#[derive(Drop)]
 pub struct Progress<'a> {
     rt: &'a HostRuntime,
     /// When it was told last, or watched first.
@@ -31,7 +32,7 @@ impl Watch for Progress<'_> {
             self.last = Some(now);
             return;
         };
-        if now.saturating_duration_since(last) >= EACH {
+        if now.saturating_duration_since(last).as_secs() >= EACH {
             self.last = Some(now);
             let _ = eprintln!(self.rt; "ddr: {served} requests served, {cycles} cycles made");
         }
