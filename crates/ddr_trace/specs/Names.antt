@@ -1,4 +1,4 @@
--- The names of the rules, as reports print them.
+-- The names of the rules, as reports print them, and their numbers.
 use Rattle.std.specs.Prelude.{ℕ, List, codes}
 use Rattle.ddr_trace.specs.declared.rule.Rule.{Rule}
 use Rattle.ddr_trace.specs.declared.rule.Rule.TheVariants as rule
@@ -27,3 +27,29 @@ name_of rule.Rfc = codes "RFC"
 name_of rule.RefLate = codes "REF_LATE"
 name_of rule.RefGap = codes "REF_GAP"
 name_of rule.Rtrs = codes "RTRS"
+
+-- a rule's number: of two rules that are broken at one place, the one with the lower number is told
+abbrev pub number_of : Rule → ℕ
+number_of rule.Order = 1
+number_of rule.Place = 2
+number_of rule.State = 3
+number_of rule.Row = 4
+number_of rule.Rcd = 5
+number_of rule.Ras = 6
+number_of rule.Rc = 7
+number_of rule.Rp = 8
+number_of rule.RrdL = 9
+number_of rule.RrdS = 10
+number_of rule.Faw = 11
+number_of rule.CcdL = 12
+number_of rule.CcdS = 13
+number_of rule.WtrL = 14
+number_of rule.WtrS = 15
+number_of rule.Rtp = 16
+number_of rule.Wr = 17
+number_of rule.Rtw = 18
+number_of rule.RpRef = 19
+number_of rule.Rfc = 20
+number_of rule.RefLate = 21
+number_of rule.RefGap = 22
+number_of rule.Rtrs = 23

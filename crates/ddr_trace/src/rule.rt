@@ -1,6 +1,8 @@
-//! The names of the rules that a trace is checked against.
-ghost use Rattle.std.specs.Prelude.{◌≡◌};
-ghost use Rattle.ddr_trace.specs.Names.{name_of};
+//! The names of the rules that a trace is checked against, and their order.
+ghost use Rattle.std.specs.Prelude.{◌≡◌, map};
+ghost use Rattle.std.specs.List.{range_with_len};
+ghost use Rattle.ddr_trace.specs.Names.{name_of, number_of};
+ghost use Rattle.ddr_trace.specs.declared.rule.TheConstants.Rule.{ALL};
 ghost use Rattle.ddr_trace.specs.Rules.{is_on_commands};
 
 /// A rule of a trace. `specs/Rules.antt` defines each.
@@ -97,3 +99,10 @@ impl Rule {
         }
     }
 }
+
+/// `Rule::ALL` has each rule once, in the order of their numbers.
+///
+/// A law: it does nothing.
+pub fn all_stand_by_number()
+    ensures { map number_of ALL ≡ range_with_len 1 23 }
+{}
