@@ -12,10 +12,11 @@ ghost use Rattle.ddr_hazards.specs.declared.waiting.Waiting.{Waiting};
 ghost use Rattle.ddr_hazards.specs.PendingList.{IsInRank};
 ghost use Rattle.ddr_arbiter.specs.declared.candidates.Served.{Served};
 ghost use Rattle.ddr_arbiter.specs.Commands as commands;
-ghost use Rattle.ddr_arbiter.specs.Forced.{must_refresh};
+ghost use Rattle.ddr_arbiter.specs.Forced.{AreForced, must_refresh};
 ghost use Rattle.ddr_arbiter.specs.Quiet.{IsQuietUntil};
 ghost use Rattle.ddr_arbiter.specs.Situation.{situation};
 ghost use Rattle.ddr_legality.specs.Bus.{Bus};
+ghost use Rattle.ddr_refresh.specs.Refreshes.{Refreshes};
 ghost use Rattle.ddr_arbiter.specs.Choice.{is_open_row_wanted, open_row_at};
 ghost use Rattle.ddr_arbiter.specs.Served.{places_of};
 ghost use Rattle.ddr_arbiter.specs.Until.{AreSteadyUntil, AreStuckUntil, HasCandidateAt, IsAgeSteadyUntil, IsBankStuckUntil, IsCandidate, IsRefreshStuckUntil, IsStuckUntil};
@@ -39,6 +40,16 @@ const NEVER: u64 = u64::MAX;
 /// Of each bank that a channel may have, whether it was asked until when nothing can be chosen for its candidates.
 type Asked = [bool; BANKS];
 
+/// For how long the scheduler rests.
+#[derive(Clone, Copy, Debug, PartialEq, Eq)]
+pub struct Rest {
+    /// A cycle before which nothing is chosen, as `still_until` tells it.
+    pub until: u64,
+    /// Whether a rank has to be refreshed, as `must_refresh` tells it. So it is in each cycle before `until`, where nothing is
+    /// admitted and nothing served.
+    pub must_refresh: bool,
+}
+
 /// A cycle before which nothing is chosen, in each cycle from the next one of the command bus on, as long as nothing is
 /// admitted, served or completed and the drain mode stays. It is no promise that something is chosen then: while a rank has
 /// to be refreshed it is that next cycle, and `still_until` tells more. The parameters are those of `choose`.
@@ -54,10 +65,11 @@ pub fn quiet_until(
     requires ranks { length debts.now ≤ RANKS }
     ensures { IsQuietUntil result (situation pending.now legality.entry.now debts.now policy.now drain room) }
 {
-    if must_refresh(pending, debts) {
+    let forced = forced_ranks(pending, debts);
+    if is_any(&forced) {
         return legality.now();
     }
-    still_until(pending, legality, debts, policy, drain, room)
+    forced_until(pending, legality, debts, &forced, policy, drain, room)
 }
 
 /// Whether a rank has to be refreshed: it owes more refreshes than may be put off, or owes one with nothing pending for it.
@@ -81,11 +93,57 @@ pub fn still_until(
     requires ranks { length debts.now ≤ RANKS }
     ensures { IsQuietUntil result (situation pending.now legality.entry.now debts.now policy.now drain room) }
 {
-    let now = legality.now();
     let forced = forced_ranks(pending, debts);
+    forced_until(pending, legality, debts, &forced, policy, drain, room)
+}
+
+/// The cycle that `still_until` tells, and what `must_refresh` tells, with one look at which ranks have to be refreshed.
+pub fn rest_of(
+    pending: &Pending,
+    legality: &Legality,
+    debts: &[Debt],
+    policy: &Policy,
+    drain: bool,
+    room: bool,
+) -> Rest
+    requires admitted { All (λ w. w.admitted ≤ legality.now.bus.now) pending.now.waiting }
+    requires ranks { length debts.now ≤ RANKS }
+    ensures until { IsQuietUntil result.until (situation pending.now legality.entry.now debts.now policy.now drain room) }
+    ensures must_refresh { result.must_refresh ≡ must_refresh pending.now.waiting debts.now }
+{
+    let forced = forced_ranks(pending, debts);
+    Rest {
+        until: forced_until(pending, legality, debts, &forced, policy, drain, room),
+        must_refresh: is_any(&forced),
+    }
+}
+
+/// Whether a rank has to be refreshed, where these say it of each.
+fn is_any(forced: &Forced) -> bool
+    ensures { (waiting : List Waiting) (refreshes : List Refreshes) → AreForced waiting refreshes forced.now → result ≡ must_refresh waiting refreshes }
+{
+    forced[0] || forced[1]
+}
+
+/// The cycle that `still_until` tells, where these ranks have to be refreshed.
+fn forced_until(
+    pending: &Pending,
+    legality: &Legality,
+    debts: &[Debt],
+    forced: &Forced,
+    policy: &Policy,
+    drain: bool,
+    room: bool,
+) -> u64
+    requires admitted { All (λ w. w.admitted ≤ legality.now.bus.now) pending.now.waiting }
+    requires ranks { length debts.now ≤ RANKS }
+    requires forced { AreForced pending.now.waiting debts.now forced.now }
+    ensures { IsQuietUntil result (situation pending.now legality.entry.now debts.now policy.now drain room) }
+{
+    let now = legality.now();
     let steady = steady_until(now, debts)
-        .min(rank_until(legality, &forced, 0))
-        .min(rank_until(legality, &forced, 1));
+        .min(rank_until(legality, forced, 0))
+        .min(rank_until(legality, forced, 1));
     if pending.len() == 0 {
         return steady;
     }
@@ -93,7 +151,7 @@ pub fn still_until(
         return now;
     }
     let end = steady.min(age_steady_until(pending, now, policy.cap));
-    let candidates = candidates(pending, now, policy.cap, drain, &forced);
+    let candidates = candidates(pending, now, policy.cap, drain, forced);
     stuck_until(pending, legality, &candidates, room, end)
 }
 
