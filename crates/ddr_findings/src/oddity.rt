@@ -17,13 +17,13 @@ pub enum Oddity {
     RowTime,
     /// rc is below rrd_l.
     GroupOverCycle,
-    /// faw, the window of four ACTs, is below the time that four of them take (JESD79-4, tFAW).
+    /// faw, the window of four ACTs, is below the time that four of different banks take (JESD79-4, tFAW).
     FourActivates,
     /// wtr_l is below wtr_s, though the own group is never the faster one (JESD79-4, tWTR_L and tWTR_S).
     GroupWriteToRead,
     /// A write's data begins less than 2 clocks behind a read's (JESD79-4: tRTW is RL + BL/2 - WL + 2 tCK).
     ReadToWrite,
-    /// cl is below cwl (JESD79-4, CL and CWL of the speed bins).
+    /// cl is more than one clock below cwl (JESD79-4, CL and CWL of the speed bins: DDR4-1600 has CL 10 with CWL 11).
     WriteLatency,
     /// wr is below rtp (JESD79-4, mode register 0: WR is twice RTP).
     WriteRecovery,
@@ -35,7 +35,7 @@ pub enum Oddity {
     RefreshCycle,
     /// refi is below four times rfc.
     RefreshShare,
-    /// refi is below the time that a REF and the opening of a row take.
+    /// refi is below the clocks of a request that meets a refresh: `leaves_time` of `ddr_latency` doesn't hold.
     RefreshRow,
     /// cap is no more than the clocks from a precharge to a column command.
     CapMiss,
@@ -105,7 +105,7 @@ impl Oddity {
             Oddity::FourActivates => "faw",
             Oddity::GroupWriteToRead => "wtr_l",
             Oddity::ReadToWrite => "rtw + cwl",
-            Oddity::WriteLatency => "cl",
+            Oddity::WriteLatency => "cl + 1",
             Oddity::WriteRecovery => "wr",
             Oddity::BurstGap => "the clocks of a burst",
             Oddity::RankGap => "the clocks of a burst",
@@ -142,7 +142,7 @@ impl Oddity {
             Oddity::RankGap => "rtrs",
             Oddity::RefreshCycle => "rc",
             Oddity::RefreshShare => "4 * rfc",
-            Oddity::RefreshRow => "rfc + rcd",
+            Oddity::RefreshRow => "a refresh and a request",
             Oddity::CapMiss => "rp + rcd + 1",
             Oddity::CapRefresh => "rfc + 1",
             Oddity::MarkGap => "low + 2",
@@ -168,12 +168,13 @@ impl Oddity {
             Oddity::GroupOverCycle =>
                 "activates of two banks of a group would stand further apart than those of one bank",
             Oddity::FourActivates =>
-                "activates that stand rrd_s apart keep faw by themselves, so it has no effect",
+                "four activates of different banks take longer anyway, where in DDR4 tFAW is no less than that",
             Oddity::GroupWriteToRead =>
                 "a read of the group just written would be allowed sooner than one of another group",
             Oddity::ReadToWrite =>
                 "fewer than 2 clocks lie on the data bus between the data of a read and of a write",
-            Oddity::WriteLatency => "in DDR4 the write latency is never the longer one",
+            Oddity::WriteLatency =>
+                "in DDR4's speed bins the write latency is at most one clock longer",
             Oddity::WriteRecovery =>
                 "a write would hold up a precharge less than a read does, where in DDR4 wr is twice rtp",
             Oddity::BurstGap =>
@@ -183,7 +184,7 @@ impl Oddity {
                 "a REF, which opens and closes rows of every bank, would take less than one row of one bank",
             Oddity::RefreshShare => "a rank would spend more than a quarter of its time on REFs",
             Oddity::RefreshRow =>
-                "the next REF falls due before a row that is opened behind a REF can be read",
+                "a request may wait for ever, since each refresh may close its row before it is read",
             Oddity::CapMiss =>
                 "a request that has to close another row reaches the age cap before it can be served",
             Oddity::CapRefresh => "each request that waits through a REF reaches the age cap",

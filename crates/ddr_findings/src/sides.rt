@@ -2,13 +2,18 @@
 //!
 //! `table` and `oddity` stand below, and `warnings` compares the sides. A comparison is made where all keys that it speaks of
 //! are there and in range.
-ghost use Rattle.std.specs.Prelude.{◌≡◌};
+ghost use Rattle.std.specs.Prelude.{◌≡◌, ◌≤◌, ℕ, IsTrue, true};
 ghost use Rattle.toml.specs.View.{table_view};
-ghost use Rattle.ddr_findings.specs.Warnings.{sides_of};
+ghost use Rattle.ddr_latency.specs.Latency.{alone};
+ghost use Rattle.ddr_timing.specs.Keys.{domain_of};
+ghost use Rattle.ddr_timing.specs.Tables.{FitsIn, number_of, takes_number};
+ghost use Rattle.ddr_findings.specs.Sound.{are_sound, is_sound};
+ghost use Rattle.ddr_findings.specs.Warnings.{clock_keys, clocks_in, has_two_ranks, sides, sides_of};
 
 use crate::oddity::Oddity;
-use crate::table::number;
+use crate::table::{are_sound, number};
 use crate::warning::Sides;
+use ddr_latency::clocks::Clocks;
 use ddr_timing::key::Key;
 use ddr_timing::units::BURST_CLOCKS;
 use toml::Table;
@@ -30,7 +35,7 @@ pub(crate) fn sides(table: &Table, oddity: Oddity) -> Option<Sides>
         Oddity::RankGap => rank_gap(table),
         Oddity::RefreshCycle => refresh_cycle(table),
         Oddity::RefreshShare => refresh_share(table),
-        Oddity::RefreshRow => refresh_row(table),
+        Oddity::RefreshRow => refreshed_request(table),
         Oddity::CapMiss => cap_miss(table),
         Oddity::CapRefresh => cap_refresh(table),
         Oddity::MarkGap => mark_gap(table),
@@ -119,7 +124,7 @@ fn write_latency(table: &Table) -> Option<Sides>
     let cl = number(table, Key::Cl)?;
     let cwl = number(table, Key::Cwl)?;
     Some(Sides {
-        left: cl,
+        left: cl + 1,
         right: cwl,
     })
 }
@@ -177,16 +182,93 @@ fn refresh_share(table: &Table) -> Option<Sides>
     })
 }
 
-fn refresh_row(table: &Table) -> Option<Sides>
+fn refreshed_request(table: &Table) -> Option<Sides>
     ensures { result ≡ sides_of (table_view table.now) Oddity.RefreshRow }
 {
-    let refi = number(table, Key::Refi)?;
-    let rfc = number(table, Key::Rfc)?;
-    let rcd = number(table, Key::Rcd)?;
+    if !has_two_ranks(table) {
+        return interval_sides(table, 1);
+    }
+    let rtrs = number(table, Key::Rtrs)?;
+    interval_sides(table, rtrs as u16)
+}
+
+/// Whether the table says that there are two ranks.
+fn has_two_ranks(table: &Table) -> bool
+    ensures { result ≡ has_two_ranks (table_view table.now) }
+{
+    match number(table, Key::Ranks) {
+        Some(ranks) => ranks == 2,
+        None => false,
+    }
+}
+
+/// The keys of the clocks of a request that meets a refresh, and of the refresh interval.
+static CLOCK_KEYS: [Key; 16] = [
+    Key::Refi,
+    Key::Cl,
+    Key::Cwl,
+    Key::Rcd,
+    Key::Rp,
+    Key::Ras,
+    Key::Rc,
+    Key::RrdL,
+    Key::Faw,
+    Key::CcdL,
+    Key::WtrS,
+    Key::WtrL,
+    Key::Wr,
+    Key::Rtp,
+    Key::Rtw,
+    Key::Rfc,
+];
+
+/// The refresh interval and the clocks of a request that meets a refresh, with this switch between ranks.
+fn interval_sides(table: &Table, switch: u16) -> Option<Sides>
+    ensures { let t = table_view table.now in result ≡ sides t clock_keys (number_of t Key.Refi) (alone (clocks_in (number_of t) switch)) }
+{
+    if !are_sound(table, &CLOCK_KEYS) {
+        return None;
+    }
     Some(Sides {
-        left: refi,
-        right: rfc + rcd,
+        left: u32::from(clock(table, Key::Refi)),
+        right: clocks(table, switch).alone(),
     })
+}
+
+/// The distances of the table, where all of them are sound.
+fn clocks(table: &Table, switch: u16) -> Clocks
+    ensures { are_sound (table_view table.now) clock_keys ≡ true → result ≡ clocks_in (number_of (table_view table.now)) switch }
+{
+    Clocks {
+        cl: clock(table, Key::Cl),
+        cwl: clock(table, Key::Cwl),
+        rcd: clock(table, Key::Rcd),
+        rp: clock(table, Key::Rp),
+        ras: clock(table, Key::Ras),
+        rc: clock(table, Key::Rc),
+        rrd_l: clock(table, Key::RrdL),
+        faw: clock(table, Key::Faw),
+        ccd_l: clock(table, Key::CcdL),
+        wtr_s: clock(table, Key::WtrS),
+        wtr_l: clock(table, Key::WtrL),
+        wr: clock(table, Key::Wr),
+        rtp: clock(table, Key::Rtp),
+        rtw: clock(table, Key::Rtw),
+        rfc: clock(table, Key::Rfc),
+        switch,
+    }
+}
+
+/// The number of clocks at a key, where it is sound.
+fn clock(table: &Table, key: Key) -> u16
+    requires number { IsTrue (takes_number (domain_of key)) }
+    requires range { (n : ℕ) → FitsIn (domain_of key) n → n ≤ 65535 }
+    ensures { is_sound (table_view table.now) key ≡ true → result ≡ number_of (table_view table.now) key }
+{
+    match number(table, key) {
+        Some(clocks) => clocks as u16,
+        None => 1,
+    }
 }
 
 fn cap_miss(table: &Table) -> Option<Sides>

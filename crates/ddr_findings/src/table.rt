@@ -10,7 +10,7 @@ ghost use Rattle.ddr_timing.specs.Keys.{domain_of, has_key};
 ghost use Rattle.ddr_timing.specs.Refusals.{is_key, is_out_of_range};
 ghost use Rattle.ddr_timing.specs.Tables.{FitsIn, is_within, keys_of, number_of, takes_number, value_of, version_of};
 ghost use Rattle.ddr_findings.specs.Takes.{takes_in};
-ghost use Rattle.ddr_findings.specs.Sound.{is_sound, sound_number};
+ghost use Rattle.ddr_findings.specs.Sound.{are_sound, is_sound, sound_number};
 
 use crate::order::order;
 use crate::takes::Takes;
@@ -107,13 +107,27 @@ fn has_key(version: u32, key: Key) -> bool
     }
 }
 
+/// Whether the table's version has the key, and the value there is one that the key takes.
+pub(crate) fn is_sound(table: &Table, key: Key) -> bool
+    ensures { result ≡ is_sound (table_view table.now) key }
+{
+    has_key(version(table), key) && !is_out_of_range(table, key)
+}
+
+/// Whether each of the keys is sound.
+pub(crate) fn are_sound(table: &Table, keys: &[Key]) -> bool
+    ensures { result ≡ are_sound (table_view table.now) keys.now }
+{
+    keys.iter().all(|key| is_sound(table, *key))
+}
+
 /// The number at a key that takes one, where the table's version has the key and the number is in its range.
 pub(crate) fn number(table: &Table, key: Key) -> Option<u32>
     requires { IsTrue (takes_number (domain_of key)) }
     ensures value { result ≡ sound_number (table_view table.now) key }
     ensures range { IfSome result (λ n. FitsIn (domain_of key) n) }
 {
-    if !has_key(version(table), key) || is_out_of_range(table, key) {
+    if !is_sound(table, key) {
         return None;
     }
     let n = integer_at(table, key).unwrap();

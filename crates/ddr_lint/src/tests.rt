@@ -118,7 +118,7 @@ warning: rtw + cwl = 7 is below cl + 6 = 10: fewer than 2 clocks lie on the data
         &[("rtw = 7", "rtw = 3"), ("cwl = 3", "cwl = 20")],
         Verdict::AtFault,
         "relation 4: max(4, 4 + 4 - 20) = 4 is above rtw 3
-warning: cl = 4 is below cwl = 20: in DDR4 the write latency is never the longer one
+warning: cl + 1 = 5 is below cwl = 20: in DDR4's speed bins the write latency is at most one clock longer
 ",
     ),
     (
@@ -137,7 +137,7 @@ warning: cl = 4 is below cwl = 20: in DDR4 the write latency is never the longer
         Verdict::AtFault,
         "relation 5: max(max(39, 12 + 4 + 18, 9) + 17, 420) + 4 = 424 is above refi 420
 warning: refi = 420 is below 4 * rfc = 1680: a rank would spend more than a quarter of its time on REFs
-warning: refi = 420 is below rfc + rcd = 424: the next REF falls due before a row that is opened behind a REF can be read
+warning: refi = 420 is below a refresh and a request = 845: a request may wait for ever, since each refresh may close its row before it is read
 ",
     ),
     (
@@ -222,6 +222,8 @@ fn each_key_at_fault_is_told(rt: HostRuntime) -> Result<(), Fail> {
     Ok(())
 }
 
+/// A request that meets a refresh takes max(max(10, 3 + 4 + 5, 3) + 4, 20) + 1 + 20 + 4 = 45 clocks in profile S, and with two ranks no
+/// fewer than 4 + 4 + rtrs.
 const TIMINGS: &[Case] = &[
     (
         &[("rc = 14", "rc = 13")],
@@ -241,7 +243,7 @@ const TIMINGS: &[Case] = &[
     (
         &[("faw = 12", "faw = 7")],
         Verdict::Strange,
-        "warning: faw = 7 is below 4 * rrd_s = 8: activates that stand rrd_s apart keep faw by themselves, so it has no effect\n",
+        "warning: faw = 7 is below 4 * rrd_s = 8: four activates of different banks take longer anyway, where in DDR4 tFAW is no less than that\n",
     ),
     (
         &[("wtr_l = 4", "wtr_l = 1")],
@@ -254,9 +256,9 @@ const TIMINGS: &[Case] = &[
         "warning: rtw + cwl = 9 is below cl + 6 = 10: fewer than 2 clocks lie on the data bus between the data of a read and of a write\n",
     ),
     (
-        &[("cwl = 3", "cwl = 5")],
+        &[("cwl = 3", "cwl = 6")],
         Verdict::Strange,
-        "warning: cl = 4 is below cwl = 5: in DDR4 the write latency is never the longer one\n",
+        "warning: cl + 1 = 5 is below cwl = 6: in DDR4's speed bins the write latency is at most one clock longer\n",
     ),
     (
         &[("wr = 5", "wr = 2")],
@@ -279,6 +281,23 @@ const TIMINGS: &[Case] = &[
         "warning: refi = 200 is below 4 * rfc = 204: a rank would spend more than a quarter of its time on REFs\n",
     ),
     (
+        &[("refi = 200", "refi = 45")],
+        Verdict::Strange,
+        "warning: refi = 45 is below 4 * rfc = 80: a rank would spend more than a quarter of its time on REFs\n",
+    ),
+    (
+        &[("refi = 200", "refi = 44")],
+        Verdict::Strange,
+        "warning: refi = 44 is below 4 * rfc = 80: a rank would spend more than a quarter of its time on REFs
+warning: refi = 44 is below a refresh and a request = 45: a request may wait for ever, since each refresh may close its row before it is read
+",
+    ),
+    (
+        &[("cwl = 3", "cwl = 5")],
+        Verdict::Clean,
+        "",
+    ),
+    (
         &[
             ("rcd = 4", "rcd = 181"),
             ("ras = 10", "ras = 184"),
@@ -288,7 +307,7 @@ const TIMINGS: &[Case] = &[
         ],
         Verdict::Strange,
         "warning: rfc = 50 is below rc = 188: a REF, which opens and closes rows of every bank, would take less than one row of one bank
-warning: refi = 230 is below rfc + rcd = 231: the next REF falls due before a row that is opened behind a REF can be read
+warning: refi = 230 is below a refresh and a request = 420: a request may wait for ever, since each refresh may close its row before it is read
 ",
     ),
 ];
@@ -349,6 +368,23 @@ const SECOND: &[Case] = &[
         &[("rtrs = 2", "rtrs = 5")],
         Verdict::Strange,
         "warning: the clocks of a burst = 4 is below rtrs = 5: a change of ranks would cost more than a whole burst\n",
+    ),
+    (
+        &[("rtrs = 2", "rtrs = 192")],
+        Verdict::Strange,
+        "warning: the clocks of a burst = 4 is below rtrs = 192: a change of ranks would cost more than a whole burst\n",
+    ),
+    (
+        &[("rtrs = 2", "rtrs = 193")],
+        Verdict::Strange,
+        "warning: the clocks of a burst = 4 is below rtrs = 193: a change of ranks would cost more than a whole burst
+warning: refi = 200 is below a refresh and a request = 201: a request may wait for ever, since each refresh may close its row before it is read
+",
+    ),
+    (
+        &[("rtrs = 2", "rtrs = 193"), ("ranks = 2", "ranks = 1")],
+        Verdict::Strange,
+        "warning: the clocks of a burst = 4 is below rtrs = 193: a change of ranks would cost more than a whole burst\n",
     ),
     (
         &[
