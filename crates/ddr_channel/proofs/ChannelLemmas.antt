@@ -132,13 +132,14 @@ fields_open config first spare rows = record {
   legality = record { bus = bus.opened config first; spare = spare };
   rows = rows;
   still_until = 0;
+  owes_refresh = false;
 }
 
 pub fields_are_open : (config : Config) (first : ℕ) (p : PendingList) (debts : List Refreshes) (flight done : Buffer Completion) (l : legality.Kept) (rows : Rows) →
     p ≡ pending.opened config.limits.reads config.limits.writes → debts ≡ refreshes.opened config.timing ∷ refreshes.opened config.timing ∷ [] → flight ≡ buffer [] config.limits.done → done ≡ buffer [] config.limits.done → l.bus ≡ bus.opened config first →
-    record { config = config; pending = p; drain = false; debts = debts; flight = flight; done = done; legality = l; rows = rows; still_until = 0 } ≡ fields_open config first l.spare rows
+    record { config = config; pending = p; drain = false; debts = debts; flight = flight; done = done; legality = l; rows = rows; still_until = 0; owes_refresh = false } ≡ fields_open config first l.spare rows
 fields_are_open config first p debts flight done l rows p_is debts_are flight_is done_is bus_are =
-    λ i. record { config = config; pending = p_is i; drain = false; debts = debts_are i; flight = flight_is i; done = done_is i; legality = record { bus = bus_are i; spare = l.spare }; rows = rows; still_until = 0 }
+    λ i. record { config = config; pending = p_is i; drain = false; debts = debts_are i; flight = flight_is i; done = done_is i; legality = record { bus = bus_are i; spare = l.spare }; rows = rows; still_until = 0; owes_refresh = false }
 
 pub state_open : (config : Config) (first spare : ℕ) (rows : Rows) → IsFresh config rows → state_of (kept_of (fields_open config first spare rows)) ≡ opened config first
 state_open config first spare rows fresh =

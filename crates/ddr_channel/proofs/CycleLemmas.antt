@@ -190,7 +190,7 @@ same_state config start now pending drain flight done trace cells =
 
 -- the fields that a cycle leaves
 abbrev pub after : Inside → PendingList → Bool → List Refreshes → Buffer Completion → Buffer Completion → legality.Kept → Rows → Inside
-after a pending drain debts flight done legality rows = record { config = a.config; pending = pending; drain = drain; debts = debts; flight = flight; done = done; legality = legality; rows = rows; still_until = 0 }
+after a pending drain debts flight done legality rows = record { config = a.config; pending = pending; drain = drain; debts = debts; flight = flight; done = done; legality = legality; rows = rows; still_until = 0; owes_refresh = a.owes_refresh }
 
 -- the same bytes in the rows are the same in their lines
 pub same_cells : (shape : Geometry) (old new : Rows) → ((b r l : ℕ) → cells new b r l ≡ cells old b r l) → (address : LineAddress) → line_cells shape new address ≡ line_cells shape old address

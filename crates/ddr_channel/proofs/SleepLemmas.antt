@@ -163,9 +163,9 @@ pub quiet_from : (end chosen : ℕ) (s : State) (first : Option Completion) → 
 quiet_from end chosen s first sooner clock later is due begun until =
     quiet_before (end - s.now) end s (omega arith) begun clock (due_until end s.now s.flight first is due later) (λ count before. until count (omega (arith, before, sooner)))
 
--- a channel's fields with another cycle before which nothing is chosen
-pub whole_asleep : (a : Inside) (end : ℕ) → IsWhole a → IsStillUntil end (state_of (kept_of a)) → IsWhole (record a { still_until = end })
-whole_asleep a end whole still = record {
+-- a channel's fields with another cycle before which nothing is chosen, whether a rank has to be refreshed until then or not
+pub whole_asleep : (a : Inside) (end : ℕ) (owes : Bool) → IsWhole a → IsStillUntil end (state_of (kept_of a)) → IsWhole (record a { still_until = end; owes_refresh = owes })
+whole_asleep a end owes whole still = record {
   sound = whole.sound;
   of_config = whole.of_config;
   clock = whole.clock;
@@ -246,7 +246,7 @@ whole_stilled a drain debts flight done legality whole clock still =
     let agrees = subst (λ (b : Bus). AgreesWith a.config b.trace a.rows) (sym still.on_bus) whole.agrees in
     let woken = whole_after a choice.Nothing None a.pending drain debts flight done legality a.rows whole made clock counted refl refl
     (ap (λ (b : Buffer Completion). b.capacity) still.flight_is) (ap (λ (b : Buffer Completion). b.capacity) still.done_is) agrees in
-    whole_asleep (after a a.pending drain debts flight done legality a.rows) a.still_until woken
+    whole_asleep (after a a.pending drain debts flight done legality a.rows) a.still_until a.owes_refresh woken
     (subst (IsStillUntil a.still_until) (sym (state_stilled a drain debts flight done legality still)) (still_next a.still_until s whole.sound.begun still.chosen whole.still))
 
 -- the cycle that is kept then: where there was no room, none

@@ -32,7 +32,7 @@ use ddr_address_map::request::{Done, Kind, Req};
 use ddr_arbiter::choice::{Choice, choose};
 use ddr_arbiter::commands::command_of;
 use ddr_arbiter::policy::Policy;
-use ddr_arbiter::quiet::{must_refresh, still_until};
+use ddr_arbiter::quiet::{Rest, must_refresh, rest_of};
 use ddr_hazards::pending::{Pending, RANKS};
 use ddr_legality::legality::Legality;
 use ddr_refresh::debt::Debt;
@@ -69,6 +69,8 @@ pub struct Channel {
     // In each cycle from the next one on that lies before this one nothing is chosen, as long as nothing is admitted and no
     // completion is taken where there was no room.
     still_until: u64,
+    // Whether in each of these cycles a rank has to be refreshed. It serves `quiet` alone.
+    owes_refresh: bool,
 }
 
 impl Model for Channel {
@@ -103,6 +105,7 @@ impl Channel {
             legality: Legality::open(alloc, config, first_cycle)?,
             rows: RowArray::open(alloc, config)?,
             still_until: 0,
+            owes_refresh: false,
         })
     }
 
@@ -153,15 +156,15 @@ impl Channel {
         )
     }
 
-    /// A cycle before which the scheduler chooses nothing, where the debts were ticked and the drain mode is that of the
-    /// next cycle.
-    fn choice_until(&self, debts: &Debts, drain: bool) -> u64
+    /// A cycle before which the scheduler chooses nothing, and whether a rank has to be refreshed until then, where the debts were
+    /// ticked and the drain mode is that of the next cycle.
+    fn rest_of_choice(&self, debts: &Debts, drain: bool) -> Rest
         requires debts { debts.now ≡ map after_tick (refreshes_of (state_of self.now) RANKS) }
         requires mode { drain ≡ (drained (state_of self.now)).drain }
-        ensures { IsQuietUntil result (situation_of (at_choice (state_of self.entry.now))) }
+        ensures { IsQuietUntil result.until (situation_of (at_choice (state_of self.entry.now))) }
     {
         let room = self.flight.len() + self.done.len() < self.config.limits.done as usize;
-        still_until(
+        rest_of(
             &self.pending,
             &self.legality,
             &debts[..self.config.geometry.ranks as usize],
@@ -171,18 +174,21 @@ impl Channel {
         )
     }
 
-    /// A cycle before which nothing is chosen, in each cycle from the next one on.
-    fn sleep_until(&self) -> u64
-        ensures { IsStillUntil result (state_of self.entry.now) }
+    /// A cycle before which nothing is chosen, in each cycle from the next one on, and whether a rank has to be refreshed until then.
+    fn rest_now(&self) -> Rest
+        ensures { IsStillUntil result.until (state_of self.entry.now) }
     {
         let now = self.legality.now();
         if now == CLOCK_STOP {
-            return now;
+            return Rest {
+                until: now,
+                must_refresh: false,
+            };
         }
         let mut debts = self.debts;
         tick(&mut debts);
         let drain = self.next_drain();
-        self.choice_until(&debts, drain)
+        self.rest_of_choice(&debts, drain)
     }
 
     /// Looks up to which cycle nothing is chosen.
@@ -190,7 +196,9 @@ impl Channel {
     fn sleep(&mut self)
         ensures { self.new ≡ self.old }
     {
-        self.still_until = self.sleep_until();
+        let rest = self.rest_now();
+        self.still_until = rest.until;
+        self.owes_refresh = rest.must_refresh;
     }
 
     /// Makes the cycle `now`: what is due completes, the refresh debts and the drain mode go on, and the command that
@@ -316,7 +324,7 @@ impl Channel {
     pub fn quiet(&self) -> u64
         ensures { IsQuiet result (state_of self.entry.now) }
     {
-        if self.must_refresh() {
+        if self.owes_refresh {
             return 0;
         }
         self.still()
@@ -456,6 +464,7 @@ impl Channel {
             legality,
             rows: _,
             still_until: _,
+            owes_refresh: _,
         } = self;
         let start = legality.start();
         let end = legality.now();

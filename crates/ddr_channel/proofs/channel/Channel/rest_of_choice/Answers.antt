@@ -8,12 +8,12 @@ use Rattle.ddr_channel.specs.Cycle.{at_choice}
 use Rattle.ddr_channel.specs.Kept.{Kept, state_of}
 use Rattle.ddr_channel.specs.View.{kept_of}
 use Rattle.ddr_channel.proofs.ChannelLemmas.{situation_is, taken_ranks}
-use Rattle.ddr_channel.proofs.channel.Channel.choice_until.Goals as goal
+use Rattle.ddr_channel.proofs.channel.Channel.rest_of_choice.Goals as goal
 
 pub returns : goal.returns
 returns c =
     let a = c.self.inside in
-    subst (λ (s : Situation). IsQuietUntil c.still_until.result s)
+    subst (λ (s : Situation). IsQuietUntil c.rest_of.result.until s)
     (situation_is a _ c.policy.result c.args.drain (ltb (c.len.result + c.len-2.result) a.config.limits.done) c.self.invariant
     (ap (λ (rs : List Refreshes). take a.config.geometry.ranks rs) (c.requires.debts ∙ ap (λ (k : Kept). map after_tick (refreshes_of (state_of k) 2)) (sym c.self.view_is))
     ∙ taken_ranks (state_of (kept_of a)) a.config.geometry.ranks a.config.geometry.ranks_range.1)
@@ -21,4 +21,4 @@ returns c =
     (c.requires.mode ∙ ap (λ (k : Kept). (at_choice (state_of k)).drain) (sym c.self.view_is))
     (ap₂ (λ m n. ltb (m + n) a.config.limits.done) c.len.ensures.len c.len-2.ensures.len)
     ∙ ap (λ (k : Kept). situation_of (at_choice (state_of k))) c.self.view_is)
-    c.still_until.ensures
+    c.rest_of.ensures.until
