@@ -1,7 +1,7 @@
 //! One port of a run, in a thread of its own: it asks for what the lines of its port say, keeps the text of the replies,
 //! and finishes.
 //!
-//! `flag`, `ddr_text`, `ddr_workers` and the text of a reply (`ddr_sim`) stand below; `threads` gives each port a thread.
+//! `flag`, `ddr_text` and `ddr_workers` stand below; `threads` gives each port a thread.
 ghost use Rattle.std.specs.Prelude.{◌≡◌, [], ◌∷◌, if◌then◌else◌, IfOk, OnOk, map, string_bytes};
 ghost use Rattle.std.specs.Option.{option_map, option_to_list};
 ghost use Rattle.ddr_ports.specs.Asked.{asked_of};
