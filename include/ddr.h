@@ -147,7 +147,8 @@ static inline int32_t ddr_quiet(ddr_core *core, uint64_t *rounds) {
 /* Makes `count` rounds. In a round each channel in turn takes what it has room for, makes a cycle and delivers what is done, and
  * then each port collects. Quiet rounds are made at once. Writes to `made` how many rounds were made whole, also at
  * DDR_CLOCK_SPENT and DDR_NO_MEMORY. There one more may be made in part: the channels before the one that was refused have
- * made its cycle, and that one has taken what it had room for. */
+ * made its cycle, and that one has taken what it had room for. The call comes back once all of them are made, also where nothing
+ * is left to do: refreshes go on, so 2^64 - 1 rounds end at cycle 2^62 alone, as DDR_CLOCK_SPENT. */
 static inline int32_t ddr_rounds(ddr_core *core, uint64_t count, uint64_t *made) {
     if (core == NULL || made == NULL) return DDR_NULL;
     return ddr_c_rounds(core, count, made);
