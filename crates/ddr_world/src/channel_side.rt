@@ -3,7 +3,7 @@ ghost use Rattle.std.specs.Prelude.{◌≡◌, ◌<◌, ◌≤◌, ◌↔◌, tr
 ghost use Rattle.std.specs.Option.{option_map};
 ghost use Rattle.ddr_timing.specs.declared.units.TheConstants.{CLOCK_STOP};
 ghost use Rattle.ddr_channel.specs.Kept as kept;
-ghost use Rattle.ddr_channel.specs.Quiet.{IsQuiet, must_refresh};
+ghost use Rattle.ddr_channel.specs.Quiet.{IsQuiet};
 ghost use Rattle.ddr_channel.specs.Room.{wants_memory};
 ghost use Rattle.ddr_world.specs.declared.event.Refusal.TheVariants.{OutOfMemory};
 ghost use Rattle.ddr_world.specs.Close.{trace_of};
@@ -125,13 +125,6 @@ impl ChannelSide {
             return 0;
         }
         self.channel.still()
-    }
-
-    /// Whether a rank of the channel has to be refreshed in its next cycle.
-    pub(crate) fn must_refresh(&self) -> bool
-        ensures { result ≡ must_refresh (kept.state_of self.now.channel) }
-    {
-        self.channel.must_refresh()
     }
 
     /// Makes so many quiet cycles of the channel at once.

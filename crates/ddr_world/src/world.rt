@@ -7,7 +7,6 @@ ghost use Rattle.ddr_reorder.specs.Replies.{lent_service, said};
 ghost use Rattle.ddr_ports.specs.Asked.{asked_of};
 ghost use Rattle.ddr_channel.specs.Kept as channel_kept;
 ghost use Rattle.ddr_channel.specs.Quiet as quiet;
-ghost use Rattle.ddr_channel.specs.Quiet.{must_refresh};
 ghost use Rattle.ddr_world.specs.Answer.{IsAnswered};
 ghost use Rattle.ddr_world.specs.Close.{GaveAll, IsLeftOf, trace_of};
 ghost use Rattle.ddr_world.specs.Events as events;
@@ -306,18 +305,12 @@ impl World {
         ensures channels { length self.now.channels ≡ self.now.config.geometry.channels }
     {
         let cycles = self.still();
-        if cycles > 0 && self.must_refresh() {
-            0
-        } else {
-            cycles
-        }
+        if cycles > 0 && self.rests() { cycles } else { 0 }
     }
 
-    /// Whether a rank of some channel has to be refreshed in that channel's next cycle.
-    fn must_refresh(&self) -> bool
-        ensures { result ≡ list_any (λ side. must_refresh (channel_kept.state_of side.channel)) self.now.channels }
-    {
-        self.channels.iter().any(|side| side.must_refresh())
+    /// Whether each channel is known to have a quiet cycle next, with no rank that has to be refreshed.
+    fn rests(&self) -> bool {
+        self.channels.iter().all(|side| side.channel().quiet() > 0)
     }
 
     /// For how many cycles of each channel nothing is to be done in the core, as `quiet` tells them, also while ranks whose banks are
