@@ -34,13 +34,15 @@ enum Job {
     Sparse,
     /// `sim` of a script whose requests want few rows of few banks, on two ranks with rows that are closed.
     Ranks,
+    /// The same on both ranks alike.
+    BothRanks,
     /// `check` of a legal trace.
     Check,
     /// `check --all` of a trace with faults.
     Faults,
 }
 
-/// Each job, for a run of all.
+/// The jobs of a run of all: each but the one on both ranks, so that its digest is that of the first benchmark.
 const JOBS: [Job; 6] = [
     Job::Random,
     Job::Stream,
@@ -70,6 +72,7 @@ fn job_of(name: &str) -> Option<Job> {
         "stream" => Some(Job::Stream),
         "sparse" => Some(Job::Sparse),
         "ranks" => Some(Job::Ranks),
+        "both_ranks" => Some(Job::BothRanks),
         "check" => Some(Job::Check),
         "faults" => Some(Job::Faults),
         _ => None,
@@ -100,6 +103,7 @@ fn input_of(alloc: Global, job: Job, size: u64, draw: &mut Draw) -> Result<Vec<u
         Job::Stream => scripts::stream(alloc, size, draw),
         Job::Sparse => scripts::sparse(alloc, size, draw),
         Job::Ranks => scripts::ranks(alloc, size, draw),
+        Job::BothRanks => scripts::both_ranks(alloc, size, draw),
         Job::Check => traces::legal(alloc, size, draw),
         Job::Faults => traces::faulty(alloc, size, draw),
     }
@@ -110,7 +114,7 @@ fn run_on(alloc: Global, job: Job, input: &[u8], digest: &mut Digest) -> Result<
     let mut output = Vec::new(alloc);
     let mut reader = input;
     match job {
-        Job::Random | Job::Stream | Job::Sparse | Job::Ranks => {
+        Job::Random | Job::Stream | Job::Sparse | Job::Ranks | Job::BothRanks => {
             sim(alloc, false, None, &mut reader, &mut output)?;
         }
         Job::Check => {

@@ -97,16 +97,27 @@ fn masked(text: &mut Vec<u8>, port: u64, line: u64, draw: &mut Draw) -> Result<(
 }
 
 /// More requests than can be served, from eight ports to two lines of 32 rows in every fourth bank, so that most of them wait for
-/// one another and rows conflict; some are refused.
+/// one another and rows conflict; some are refused. All of these banks are of rank 0.
 pub(crate) fn ranks(alloc: Global, size: u64, draw: &mut Draw) -> Result<Vec<u8>, Fault> {
+    crowded(alloc, size, draw, false)
+}
+
+/// The same of both ranks alike: of every fourth bank and the like one of the other rank.
+pub(crate) fn both_ranks(alloc: Global, size: u64, draw: &mut Draw) -> Result<Vec<u8>, Fault> {
+    crowded(alloc, size, draw, true)
+}
+
+/// More requests than can be served, to banks of rank 0 or of both ranks. The lowest digit of a bank's number is its rank.
+fn crowded(alloc: Global, size: u64, draw: &mut Draw, both: bool) -> Result<Vec<u8>, Fault> {
     let mut text = Vec::from_slice(alloc, TWO_RANKS.as_bytes())?;
     for index in 0..size {
         let port = draw.below(8);
         let channel = draw.below(4);
         let column = draw.below(2);
         let bank = 4 * draw.below(8);
+        let rank = if both { draw.below(2) } else { 0 };
         let row = draw.below(4);
-        let line = channel + 4 * (column + 128 * (bank + 32 * row));
+        let line = channel + 4 * (column + 128 * (bank + rank + 32 * row));
         match draw.below(4) {
             0 => masked(&mut text, port, line, draw)?,
             1 => request(&mut text, true, port, line, draw)?,
