@@ -24,7 +24,7 @@ nothing_waits waits (Some xs) none = rw none refl
 
 module _ (sample : Bool) (profile : List ℕ) (format : Format) (start : ℕ) where
   config_fault : (input : List ℕ) (fault : Fault) → IsConfigRefused sample profile input fault → HasCaptureFault sample profile format start input fault
-  config_fault input (faults.CaptureLine line) refused = not_of_parts (parts_of sample profile input) (faults.CaptureLine line) refused refl
+  config_fault input (faults.CaptureLine line cause) refused = not_of_parts (parts_of sample profile input) (faults.CaptureLine line cause) refused refl
   config_fault input (faults.CaptureOrder line) refused = not_of_parts (parts_of sample profile input) (faults.CaptureOrder line) refused refl
   config_fault input faults.Write refused = not_of_parts (parts_of sample profile input) faults.Write refused refl
   config_fault input _ refused = refused
@@ -35,7 +35,7 @@ module _ (sample : Bool) (profile : List ℕ) (format : Format) (start : ℕ) wh
   front_fault_said (Some input) fault refused = config_fault input fault refused
 
   body_fault : (config : Config) (input body : List ℕ) (fault : Fault) → IsOpened sample profile config input body → IsReadFault format config start body fault → HasCaptureFault sample profile format start input fault
-  body_fault config input body (faults.CaptureLine line) opened said = (config, record { body = body; parts = opened.parts; read = said })
+  body_fault config input body (faults.CaptureLine line cause) opened said = (config, record { body = body; parts = opened.parts; read = said })
   body_fault config input body (faults.CaptureOrder line) opened said = (config, record { body = body; parts = opened.parts; read = said })
   body_fault config input body faults.InputTooLong opened said = inl (omega (arith, said, opened.short))
   body_fault config input body faults.Read opened said = tt

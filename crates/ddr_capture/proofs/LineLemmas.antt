@@ -12,6 +12,7 @@ use Rattle.ddr_timing.specs.declared.config.Config.{Config}
 use Rattle.ddr_text.specs.declared.command.Format.{Format}
 use Rattle.ddr_text.specs.declared.fault.Fault.{Fault}
 use Rattle.ddr_text.specs.declared.fault.Fault.TheVariants as faults
+use Rattle.ddr_text.specs.declared.fault.LineFault.TheVariants.{TooLong}
 use Rattle.ddr_text.specs.declared.input.TheConstants.{LONGEST_INPUT}
 use Rattle.ddr_text.specs.Instructions.{◌>>>◌}
 use Rattle.ddr_text.proofs.BodyLemmas.{is_line, lines-line}
@@ -103,9 +104,9 @@ long_first text h = by_feed (nat_lt (position_or_len is_feed text) (length text)
         }
 
 -- such a line is refused
-long_refused : (format : Format) (channels start line : ℕ) (read : Read) (text : List ℕ) → LONGEST_LINE < length text → with_line format channels start line read text ≡ Err (faults.CaptureLine line)
+long_refused : (format : Format) (channels start line : ℕ) (read : Read) (text : List ℕ) → LONGEST_LINE < length text → with_line format channels start line read text ≡ Err (faults.CaptureLine line TooLong)
 long_refused format channels start line read text long =
-    ap (λ (b : Bool). cond b (Err (faults.CaptureLine line)) (cond (is_some read.end) (with_closed line read text) (with_open format channels start line read text))) (lt-ltb LONGEST_LINE (length text) long)
+    ap (λ (b : Bool). cond b (Err (faults.CaptureLine line TooLong)) (cond (is_some read.end) (with_closed line read text) (with_open format channels start line read text))) (lt-ltb LONGEST_LINE (length text) long)
 
 -- ---- the lines so far
 
@@ -116,8 +117,9 @@ module _ (format : Format) (config : Config) (start : ℕ) where
   stands_first (Some body) = record { said = refl; counted = omega arith }
 
   fault_read : (body : List ℕ) (fault : Fault) {line : ℕ} → IsLineFault line fault → captured format config start body ≡ Err fault → IsReadFault format config start body fault
-  fault_read body fault (inl e) said = rw e (said ∙ ap Err e)
-  fault_read body fault (inr e) said = rw e (said ∙ ap Err e)
+  fault_read body (faults.CaptureLine at cause) is said = said
+  fault_read body (faults.CaptureOrder at) is said = said
+  fault_read body _ is said = absurd is
 
   module _ (count : ℕ) (read : Read) where
     -- a line more
@@ -159,7 +161,7 @@ module _ (format : Format) (config : Config) (start : ℕ) where
         sym so_far.said ∙ ap (λ r. read_from format config.geometry.channels start count read (lines r)) has.0
 
     -- the next line is too long
-    pub stands_long : (a b : Option (List ℕ)) → Along (StandsAt format config start count read) a b → IfSome b IsTooLong → IfSome a (λ body. captured format config start body ≡ Err (faults.CaptureLine (count + 1)))
+    pub stands_long : (a b : Option (List ℕ)) → Along (StandsAt format config start count read) a b → IfSome b IsTooLong → IfSome a (λ body. captured format config start body ≡ Err (faults.CaptureLine (count + 1) TooLong))
     stands_long None b so_far long = tt
     stands_long (Some body) None so_far long = absurd so_far
     stands_long (Some body) (Some rest) so_far long =

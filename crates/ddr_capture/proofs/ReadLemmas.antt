@@ -10,6 +10,7 @@ use Rattle.ddr_judge.specs.Records.{Record, end_behind, lane}
 use Rattle.ddr_judge.specs.Verdict.{IsVerdict}
 use Rattle.ddr_text.specs.declared.fault.Fault.{Fault}
 use Rattle.ddr_text.specs.declared.fault.Fault.TheVariants as faults
+use Rattle.ddr_text.specs.declared.fault.LineFault.TheVariants.{NoSuch}
 use Rattle.ddr_capture.specs.Captured.{Read, end_in, with_command, with_end}
 use Rattle.ddr_capture.specs.Report.{AreVerdicts}
 
@@ -24,7 +25,7 @@ pub command_said : (channels line : ℕ) (read : Read) (channel : ℕ) (entry : 
 command_said channels line read channel entry there =
     let next : Read = record { records = read.records ++ record { channel = channel; entry = entry; line = line } ∷ []; end = read.end } in
     let all : Result Read Fault = Ok next in
-    ap (λ (b : Bool). cond b all (Err (faults.CaptureLine line))) (lt-ltb channel channels there)
+    ap (λ (b : Bool). cond b all (Err (faults.CaptureLine line NoSuch))) (lt-ltb channel channels there)
 
 -- without END the trace ends behind all commands
 pub open_behind : (start : ℕ) (next : Read) → next.end ≡ None → end_behind start next.records ≤ end_in start next

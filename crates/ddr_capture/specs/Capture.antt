@@ -41,7 +41,7 @@ RefusesCapture sample profile format start input fault = (config : Config) × Sa
 
 -- the input has the fault that a check ends by; where writing fails there are verdicts
 abbrev pub HasCaptureFault : Bool → List ℕ → Format → ℕ → List ℕ → Fault → Type 0
-HasCaptureFault sample profile format start input (faults.CaptureLine line) = RefusesCapture sample profile format start input (faults.CaptureLine line)
+HasCaptureFault sample profile format start input (faults.CaptureLine line cause) = RefusesCapture sample profile format start input (faults.CaptureLine line cause)
 HasCaptureFault sample profile format start input (faults.CaptureOrder line) = RefusesCapture sample profile format start input (faults.CaptureOrder line)
 HasCaptureFault sample profile format start input faults.Write = HasCapture sample profile format start input
 HasCaptureFault sample profile format start input fault = IsConfigRefused sample profile input fault

@@ -9,6 +9,7 @@ use Rattle.ddr_judge.specs.Records.{Record, end_behind}
 use Rattle.ddr_text.specs.declared.command.Format.{Format}
 use Rattle.ddr_text.specs.declared.fault.Fault.{Fault}
 use Rattle.ddr_text.specs.declared.fault.Fault.TheVariants.{CaptureLine, CaptureOrder}
+use Rattle.ddr_text.specs.declared.fault.LineFault.TheVariants.{Fields, NoSuch, TooLong}
 use Rattle.ddr_text.specs.Instructions.{◌>>>◌}
 use Rattle.ddr_text.specs.Script.{is_skipped}
 use Rattle.ddr_capture.specs.Line.{said_of}
@@ -32,7 +33,7 @@ with_command channels line read channel entry =
       records = read.records ++ record { channel = channel; entry = entry; line = line } ∷ [];
       end = read.end;
     })
-    else Err (CaptureLine line)
+    else Err (CaptureLine line NoSuch)
 
 -- END, which stands behind all commands
 abbrev pub with_end : ℕ → ℕ → Read → ℕ → Result Read Fault
@@ -48,7 +49,7 @@ with_said channels start line read (says.End cycle) = with_end start line read c
 -- a line that END does not stand before
 abbrev pub with_open : Format → ℕ → ℕ → ℕ → Read → List ℕ → Result Read Fault
 with_open format channels start line read text =
-    option_map_or (with_said channels start line read) (said_of format (line == 1) text) (Err (CaptureLine line))
+    option_map_or (with_said channels start line read) (said_of format (line == 1) text) (Err (CaptureLine line Fields))
 
 -- a line that END stands before
 abbrev pub with_closed : ℕ → Read → List ℕ → Result Read Fault
@@ -57,7 +58,7 @@ with_closed line read text = if is_skipped text then Ok read else Err (CaptureOr
 -- one line more, which has this number
 abbrev pub with_line : Format → ℕ → ℕ → ℕ → Read → List ℕ → Result Read Fault
 with_line format channels start line read text =
-    if nat_lt LONGEST_LINE (length text) then Err (CaptureLine line)
+    if nat_lt LONGEST_LINE (length text) then Err (CaptureLine line TooLong)
     else if is_some read.end then with_closed line read text
     else with_open format channels start line read text
 
@@ -90,4 +91,6 @@ IsStep next config start before (Err fault) said = said ≡ Err fault
 
 -- a line's fault
 abbrev pub IsLineFault : ℕ → Fault → Type 0
-IsLineFault line fault = (fault ≡ CaptureLine line) ⊎ (fault ≡ CaptureOrder line)
+IsLineFault line (CaptureLine at cause) = at ≡ line
+IsLineFault line (CaptureOrder at) = at ≡ line
+IsLineFault line _ = ⊥

@@ -5,6 +5,7 @@ use Rattle.ddr_timing.specs.declared.config.Config.{Config}
 use Rattle.ddr_text.specs.declared.command.Format.{Format}
 use Rattle.ddr_text.specs.declared.fault.Fault.{Fault}
 use Rattle.ddr_text.specs.declared.fault.Fault.TheVariants as faults
+use Rattle.ddr_text.specs.declared.fault.LineFault.TheVariants.{TooLong}
 use Rattle.ddr_text.specs.declared.input.TheConstants.{LONGEST_INPUT}
 use Rattle.ddr_capture.specs.Captured.{HasRead, Read, captured, read_from}
 use Rattle.ddr_capture.specs.Feed.{Along}
@@ -22,13 +23,13 @@ text_of found.End line = line
 
 -- why the line of this number was not found
 abbrev pub line_fault : ℕ → Refusal → Fault
-line_fault line refusals.Line = faults.CaptureLine line
+line_fault line refusals.Line = faults.CaptureLine line TooLong
 line_fault line refusals.Read = faults.Read
 line_fault line refusals.OutOfMemory = faults.OutOfMemory
 
 -- the body has this fault; reading and memory fail by themselves
 abbrev pub IsReadFault : Format → Config → ℕ → List ℕ → Fault → Type 0
-IsReadFault format config start body (faults.CaptureLine line) = captured format config start body ≡ Err (faults.CaptureLine line)
+IsReadFault format config start body (faults.CaptureLine line cause) = captured format config start body ≡ Err (faults.CaptureLine line cause)
 IsReadFault format config start body (faults.CaptureOrder line) = captured format config start body ≡ Err (faults.CaptureOrder line)
 IsReadFault format config start body faults.InputTooLong = LONGEST_INPUT < length body
 IsReadFault format config start body faults.Read = Unit {0}

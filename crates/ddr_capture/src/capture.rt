@@ -17,7 +17,7 @@ use crate::front::read_config;
 use crate::reading::Reading;
 use crate::report::{are_legal, report, told_channels, verdicts};
 use ddr_text::command::Format;
-use ddr_text::fault::Fault;
+use ddr_text::fault::{Fault, LineFault};
 use ddr_text::sink::Sink;
 use ddr_text::source::Source;
 use ddr_text::writing::write_whole;
@@ -197,7 +197,10 @@ fn line_fault(line: u64, refusal: Refusal) -> Fault
     ensures { result ≡ line_fault line refusal }
 {
     match refusal {
-        Refusal::Line => Fault::CaptureLine { line },
+        Refusal::Line => Fault::CaptureLine {
+            line,
+            cause: LineFault::TooLong,
+        },
         Refusal::Read => Fault::Read,
         Refusal::OutOfMemory => Fault::OutOfMemory,
     }

@@ -12,7 +12,7 @@ use crate::feed::LONGEST_LINE;
 use crate::line::{Said, is_skipped, read_line};
 use ddr_judge::judge::Judge;
 use ddr_text::command::Format;
-use ddr_text::fault::Fault;
+use ddr_text::fault::{Fault, LineFault};
 use ddr_timing::config::Config;
 use ddr_trace::command::Entry;
 use std::alloc::{AllocError, Global};
@@ -71,7 +71,10 @@ impl Reading {
             → IsStep self.new config start read result (with_line self.old.format self.old.channels start line read text.now) }
     {
         if text.len() > LONGEST_LINE {
-            return Err(Fault::CaptureLine { line });
+            return Err(Fault::CaptureLine {
+                line,
+                cause: LineFault::TooLong,
+            });
         }
         if self.end.is_some() {
             return self.take_closed(line, text);
@@ -105,7 +108,10 @@ impl Reading {
     {
         match read_line(self.format, line == 1, text) {
             Some(said) => self.take_said(line, said),
-            None => Err(Fault::CaptureLine { line }),
+            None => Err(Fault::CaptureLine {
+                line,
+                cause: LineFault::Fields,
+            }),
         }
     }
 
@@ -143,7 +149,10 @@ impl Reading {
             → IsStep self.new config start read result (with_command self.old.channels line read channel entry.now) }
     {
         if channel >= self.channels {
-            return Err(Fault::CaptureLine { line });
+            return Err(Fault::CaptureLine {
+                line,
+                cause: LineFault::NoSuch,
+            });
         }
         self.judge.pass(channel, entry, line);
         Ok(())

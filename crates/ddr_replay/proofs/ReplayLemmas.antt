@@ -41,7 +41,7 @@ there config reading told body some = ap (on_channel config reading told body) s
 -- the stream is at fault
 pub stream_said : {X Y : Type 0} (view : X → Queues) (text : Y → List ℕ) (config : Config) (reading : Reading) (told : Told) (body : List ℕ) (fault : Fault) → names_no_channel config told ≡ false → AreRead view (Err fault) (queues_of config reading body) → IsSaid text (Err fault) (report_of config reading told body)
 stream_said view text config reading told body faults.OutOfMemory some is = tt
-stream_said view text config reading told body (faults.ReplayLine line) some is = there config reading told body some ∙ ap (on_queues config told) is
+stream_said view text config reading told body (faults.ReplayLine line cause) some is = there config reading told body some ∙ ap (on_queues config told) is
 stream_said view text config reading told body (faults.ReplayRange line) some is = there config reading told body some ∙ ap (on_queues config told) is
 stream_said view text config reading told body _ some is = absurd is
 
@@ -97,7 +97,7 @@ unopened : (profile : List ℕ) (reading : Reading) (told : Told) (text : List �
 unopened profile reading told text sample faults.OutOfMemory is_text refused = tt
 unopened profile reading told text sample faults.Read is_text refused = tt
 unopened profile reading told text sample faults.Write is_text refused = not_of_parts (parts_of sample profile text) faults.Write refused refl
-unopened profile reading told text sample (faults.ReplayLine line) is_text refused = not_of_parts (parts_of sample profile text) (faults.ReplayLine line) refused refl
+unopened profile reading told text sample (faults.ReplayLine line cause) is_text refused = not_of_parts (parts_of sample profile text) (faults.ReplayLine line cause) refused refl
 unopened profile reading told text sample (faults.ReplayRange line) is_text refused = not_of_parts (parts_of sample profile text) (faults.ReplayRange line) refused refl
 unopened profile reading told text sample faults.TraceNoSuch is_text refused = not_of_parts (parts_of sample profile text) faults.TraceNoSuch refused refl
 unopened profile reading told text sample faults.ReplayLimit is_text refused = not_of_parts (parts_of sample profile text) faults.ReplayLimit refused refl
@@ -117,7 +117,7 @@ pub body_fault : {X : Type 0} (view : X → List ℕ) (remaining : Option (List 
     → IfSome remaining (λ input. HasReplayFault sample profile reading told input fault)
 body_fault view None profile sample reading told fault all fails says = tt
 body_fault view (Some input) profile sample reading told faults.OutOfMemory all fails says = tt
-body_fault view (Some input) profile sample reading told (faults.ReplayLine line) all fails says = says (Err (faults.ReplayLine line)) fails
+body_fault view (Some input) profile sample reading told (faults.ReplayLine line cause) all fails says = says (Err (faults.ReplayLine line cause)) fails
 body_fault view (Some input) profile sample reading told (faults.ReplayRange line) all fails says = says (Err (faults.ReplayRange line)) fails
 body_fault view (Some input) profile sample reading told faults.TraceNoSuch all fails says = says (Err faults.TraceNoSuch) fails
 body_fault view (Some input) profile sample reading told faults.ReplayLimit all fails says = says (Err faults.ReplayLimit) fails
@@ -127,7 +127,7 @@ body_fault view (Some input) profile sample reading told _ all fails says = absu
 -- it is a fault of a body, not of the device
 pub body_not_read : {X : Type 0} (view : X → List ℕ) (fault : Fault) (all : Result (List ℕ) Fault) (A : Type 0) → IsSaid view (Err fault) all → ◌≡◌ {A = Result (Unit {0}) Fault} (Err fault) (Err faults.Read) → A
 body_not_read view faults.OutOfMemory all A fails read = absurd (let impossible = read in cc)
-body_not_read view (faults.ReplayLine line) all A fails read = absurd (let impossible = read in cc)
+body_not_read view (faults.ReplayLine line cause) all A fails read = absurd (let impossible = read in cc)
 body_not_read view (faults.ReplayRange line) all A fails read = absurd (let impossible = read in cc)
 body_not_read view faults.TraceNoSuch all A fails read = absurd (let impossible = read in cc)
 body_not_read view faults.ReplayLimit all A fails read = absurd (let impossible = read in cc)
@@ -136,7 +136,7 @@ body_not_read view _ all A fails read = absurd fails
 
 pub body_not_write : {X : Type 0} (view : X → List ℕ) (fault : Fault) (all : Result (List ℕ) Fault) (A : Type 0) → IsSaid view (Err fault) all → ◌≡◌ {A = Result (Unit {0}) Fault} (Err fault) (Err faults.Write) → A
 body_not_write view faults.OutOfMemory all A fails read = absurd (let impossible = read in cc)
-body_not_write view (faults.ReplayLine line) all A fails read = absurd (let impossible = read in cc)
+body_not_write view (faults.ReplayLine line cause) all A fails read = absurd (let impossible = read in cc)
 body_not_write view (faults.ReplayRange line) all A fails read = absurd (let impossible = read in cc)
 body_not_write view faults.TraceNoSuch all A fails read = absurd (let impossible = read in cc)
 body_not_write view faults.ReplayLimit all A fails read = absurd (let impossible = read in cc)

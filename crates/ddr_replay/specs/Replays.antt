@@ -63,7 +63,7 @@ report_of config reading told body =
 -- what is answered, seen by the view, is what the body says, unless memory ran out
 abbrev pub IsSaid : {X : Type 0} → (X → List ℕ) → Result X Fault → Result (List ℕ) Fault → Type 0
 IsSaid view (Ok x) said = said ≡ Ok (view x)
-IsSaid view (Err (faults.ReplayLine line)) said = said ≡ Err (faults.ReplayLine line)
+IsSaid view (Err (faults.ReplayLine line cause)) said = said ≡ Err (faults.ReplayLine line cause)
 IsSaid view (Err (faults.ReplayRange line)) said = said ≡ Err (faults.ReplayRange line)
 IsSaid view (Err faults.TraceNoSuch) said = said ≡ Err faults.TraceNoSuch
 IsSaid view (Err faults.ReplayLimit) said = said ≡ Err faults.ReplayLimit
@@ -101,7 +101,7 @@ HasReport sample profile reading told input = (text : List ℕ) × Says sample p
 -- the input has the fault that a replay ends by; where writing fails it has a report, and reading and memory fail by
 -- themselves
 abbrev pub HasReplayFault : Bool → List ℕ → Reading → Told → List ℕ → Fault → Type 0
-HasReplayFault sample profile reading told input (faults.ReplayLine line) = Says sample profile reading told input (Err (faults.ReplayLine line))
+HasReplayFault sample profile reading told input (faults.ReplayLine line cause) = Says sample profile reading told input (Err (faults.ReplayLine line cause))
 HasReplayFault sample profile reading told input (faults.ReplayRange line) = Says sample profile reading told input (Err (faults.ReplayRange line))
 HasReplayFault sample profile reading told input faults.TraceNoSuch = Says sample profile reading told input (Err faults.TraceNoSuch)
 HasReplayFault sample profile reading told input faults.ReplayLimit = Says sample profile reading told input (Err faults.ReplayLimit)

@@ -27,7 +27,7 @@ stream_more g reading ports texts count n old new text all at turn ok so_far = s
 pub stream_fault : {X : Type 0} (view : X → Queues) (g : Geometry) (reading : Reading) (ports : ℕ) (texts : List (List ℕ)) (count n : ℕ) (old next : Queues) (text : List ℕ) (all : Result Queues Fault) (fault : Fault) → count ≡ n → (n < length texts) × (text ≡ get_or texts n text)
     → IsRead next (Err fault) (with_line g reading ports (count + 1) old text) → queues_from g reading ports count old (drop count texts) ≡ all → AreRead view (Err fault) all
 stream_fault view g reading ports texts count n old next text all faults.OutOfMemory at turn is so_far = tt
-stream_fault view g reading ports texts count n old next text all (faults.ReplayLine line) at turn is so_far = sym so_far ∙ at_line g reading ports texts count n old text (Err (faults.ReplayLine line)) at turn is
+stream_fault view g reading ports texts count n old next text all (faults.ReplayLine line cause) at turn is so_far = sym so_far ∙ at_line g reading ports texts count n old text (Err (faults.ReplayLine line cause)) at turn is
 stream_fault view g reading ports texts count n old next text all (faults.ReplayRange line) at turn is so_far = sym so_far ∙ at_line g reading ports texts count n old text (Err (faults.ReplayRange line)) at turn is
 stream_fault view g reading ports texts count n old next text all _ at turn is so_far = absurd is
 

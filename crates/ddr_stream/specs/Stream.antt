@@ -8,6 +8,7 @@ use Rattle.ddr_address_map.specs.Map.{capacity_of, place_of}
 use Rattle.ddr_text.specs.declared.command.Reading.{Reading}
 use Rattle.ddr_text.specs.declared.fault.Fault.{Fault}
 use Rattle.ddr_text.specs.declared.fault.Fault.TheVariants.{ReplayLine, ReplayRange, OutOfMemory}
+use Rattle.ddr_text.specs.declared.fault.LineFault.TheVariants.{Fields}
 use Rattle.ddr_text.specs.Instructions.{◌>>>◌}
 use Rattle.ddr_text.specs.Script.{is_skipped}
 use Rattle.ddr_stream.specs.declared.ask.Ask.{Ask}
@@ -50,7 +51,7 @@ next_port reading ports queues = if reading.spread then sum_by length queues % p
 abbrev pub with_line : Geometry → Reading → ℕ → ℕ → Queues → List ℕ → Result Queues Fault
 with_line geometry reading ports line queues text =
     if is_skipped text then Ok queues
-    else option_map_or (with_sent geometry reading line queues) (sent_of reading.format ports (next_port reading ports queues) text) (Err (ReplayLine line))
+    else option_map_or (with_sent geometry reading line queues) (sent_of reading.format ports (next_port reading ports queues) text) (Err (ReplayLine line Fields))
 
 -- the lines behind so many, which were read to these queues
 abbrev pub queues_from : Geometry → Reading → ℕ → ℕ → Queues → List (List ℕ) → Result Queues Fault
@@ -67,7 +68,7 @@ queues_of config reading text = queues_from config.geometry reading config.limit
 abbrev pub IsRead : Queues → Result (Unit {0}) Fault → Result Queues Fault → Type 0
 IsRead next (Ok _) said = said ≡ Ok next
 IsRead next (Err OutOfMemory) said = Unit {0}
-IsRead next (Err (ReplayLine line)) said = said ≡ Err (ReplayLine line)
+IsRead next (Err (ReplayLine line cause)) said = said ≡ Err (ReplayLine line cause)
 IsRead next (Err (ReplayRange line)) said = said ≡ Err (ReplayRange line)
 IsRead next (Err _) said = ⊥
 
@@ -75,6 +76,6 @@ IsRead next (Err _) said = ⊥
 abbrev pub AreRead : {X : Type 0} → (X → Queues) → Result X Fault → Result Queues Fault → Type 0
 AreRead view (Ok x) said = said ≡ Ok (view x)
 AreRead view (Err OutOfMemory) said = Unit {0}
-AreRead view (Err (ReplayLine line)) said = said ≡ Err (ReplayLine line)
+AreRead view (Err (ReplayLine line cause)) said = said ≡ Err (ReplayLine line cause)
 AreRead view (Err (ReplayRange line)) said = said ≡ Err (ReplayRange line)
 AreRead view (Err _) said = ⊥

@@ -10,7 +10,7 @@ use crate::line::{Sent, parse_line};
 use crate::queue::Queue;
 use ddr_address_map::map::Map;
 use ddr_text::command::Reading;
-use ddr_text::fault::Fault;
+use ddr_text::fault::{Fault, LineFault};
 use ddr_text::script::{LineError, is_skipped};
 use ddr_timing::config::Config;
 use std::alloc::{AllocError, Global};
@@ -72,7 +72,10 @@ fn read_line(
     let next = next_port(reading, ports, queues.as_slice());
     match parse_line(reading.format, ports, next, written) {
         Ok(sent) => push_sent(map, reading, line, queues, sent),
-        Err(LineError::AtFault) => Err(Fault::ReplayLine { line }),
+        Err(LineError::AtFault) => Err(Fault::ReplayLine {
+            line,
+            cause: LineFault::Fields,
+        }),
         Err(LineError::OutOfMemory) => Err(Fault::OutOfMemory),
     }
 }

@@ -21,7 +21,7 @@ use Rattle.clap.specs.declared.error.kind.ErrorKind.TheVariants.{OutOfMemory}
 use Rattle.clap.proofs.CallerReads.{signed_reads}
 use Rattle.clap.proofs.ValueTestLemmas.{accepts-Accepts}
 use Rattle.ddr_text.specs.declared.command.Job.TheVariants.{Sim}
-use Rattle.ddr_text.specs.Job.{Answers, AreTaken, IsTaken, all_rule, cycle_rule, ddr_app, dramsim3_rule, explain_rule, flag_rule, from_rule, is_subcommand, job_of, job_or, job_with, most_rule, number_rule, progress_rule, ramulator2_rule, requests_rule, sample_rule, spread_rule, start_rule, stream_rule, svg_rule, to_rule, trace_rule, wrap_rule}
+use Rattle.ddr_text.specs.Job.{AreTaken, IsTaken, Reads, all_rule, channel_rule, cycle_rule, ddr_app, dramsim3_rule, explain_rule, flag_rule, from_rule, is_subcommand, job_of, job_or, said_by, most_rule, number_rule, progress_rule, ramulator2_rule, requests_rule, sample_rule, spread_rule, start_rule, stream_rule, svg_rule, to_rule, trace_rule, wrap_rule}
 use Rattle.ddr_text.proofs.PassLemmas.{AllFit, AllSubsLike, IsLike, fit_subcommand, one_passes}
 
 -- a flag, as `get_flag` reads it
@@ -57,22 +57,22 @@ cycle_read name E G (Some text) r only none value (v, same, accepted) =
     unsigned_read E G text r only (value text refl) passed
 
 -- the program's name alone, or not even that
-pub job_alone : (words : List Text) → length words ≤ 1 → job_of words ≡ Ok (Sim true None)
+pub job_alone : (words : List Text) → length words ≤ 1 → job_of words ≡ Ok (Ok (Sim true None))
 unfolding job_of
-job_alone words few = ap (λ b. cond b (Ok (Sim true None)) (job_or (fault_of ddr_app words) (subcommand_of ddr_app words))) (lt-ltb (length words) 2 (omega arith))
+job_alone words few = ap (λ b. cond b (Ok (Ok (Sim true None))) (job_or (fault_of ddr_app words) (subcommand_of ddr_app words))) (lt-ltb (length words) 2 (omega arith))
 
 -- further words
 pub job_further : (words : List Text) → 2 ≤ length words → job_of words ≡ job_or (fault_of ddr_app words) (subcommand_of ddr_app words)
 unfolding job_of
-job_further words some = ap (λ b. cond b (Ok (Sim true None)) (job_or (fault_of ddr_app words) (subcommand_of ddr_app words))) (le-ltb (length words) 2 some)
+job_further words some = ap (λ b. cond b (Ok (Ok (Sim true None))) (job_or (fault_of ddr_app words) (subcommand_of ddr_app words))) (le-ltb (length words) 2 some)
 
 -- memory ran out
-pub without_memory : {X : Type 0} (error : Error) (said : Result X Kinds) → kind_of error ≡ OutOfMemory → Answers (Err error) said
+pub without_memory : {X : Type 0} (error : Error) (said : Result X Kinds) → kind_of error ≡ OutOfMemory → Reads (Err error) said
 without_memory error (Ok x) e = e
 without_memory error (Err kinds) e = inl e
 
 -- what the command line refuses
-pub refused_by : (kinds : Kinds) (subcommand : Option (Text × List Row)) (error : Error) → HasKind kinds error → Answers (Err error) (job_or kinds subcommand)
+pub refused_by : (kinds : Kinds) (subcommand : Option (Text × List Row)) (error : Error) → HasKind kinds error → Reads (Err error) (job_or kinds subcommand)
 refused_by [] subcommand error (inl memory) = without_memory error (job_or [] subcommand) memory
 refused_by [] subcommand error (inr none) = absurd none
 refused_by (kind ∷ kinds) subcommand error h = h
@@ -132,7 +132,7 @@ pub met_named : (words : List Text) (name : Text) (options : List Row) → subco
 met_named words name options met = entered_named (built ddr_app) _ name options names met
 
 -- the job of the subcommand that was met
-pub job_met : (words : List Text) (name : Text) (options : List Row) → 2 ≤ length words → fault_of ddr_app words ≡ [] → subcommand_of ddr_app words ≡ Some (name, options) → job_of words ≡ Ok (job_with name options)
+pub job_met : (words : List Text) (name : Text) (options : List Row) → 2 ≤ length words → fault_of ddr_app words ≡ [] → subcommand_of ddr_app words ≡ Some (name, options) → job_of words ≡ Ok (said_by name options)
 job_met words name options some none met = job_further words some ∙ ap₂ job_or none met
 
 -- ---- the options have only texts that their parsers take
@@ -154,82 +154,87 @@ like_other t a differ uncounted =
 samples_alike : AllSubsLike (filled sample_rule) (built ddr_app).subs
 unfolding ddr_app is_count
 samples_alike =
-    ((like_same _ _ refl refl refl, (like_other _ _ refl refl, (like_other _ _ refl refl, tt))), ((like_same _ _ refl refl refl, (like_other _ _ refl refl, tt)), ((like_same _ _ refl refl refl, (like_other _ _ refl refl, (like_other _ _ refl refl, (like_other _ _ refl refl, (like_other _ _ refl refl, (like_other _ _ refl refl, (like_other _ _ refl refl, (like_other _ _ refl refl, (like_other _ _ refl refl, tt))))))))), ((like_same _ _ refl refl refl, (like_other _ _ refl refl, (like_other _ _ refl refl, (like_other _ _ refl refl, (like_other _ _ refl refl, (like_other _ _ refl refl, (like_other _ _ refl refl, (like_other _ _ refl refl, (like_other _ _ refl refl, tt))))))))), ((like_same _ _ refl refl refl, (like_other _ _ refl refl, (like_other _ _ refl refl, (like_other _ _ refl refl, (like_other _ _ refl refl, tt))))), ((like_same _ _ refl refl refl, (like_other _ _ refl refl, tt)), ((like_same _ _ refl refl refl, (like_other _ _ refl refl, tt)), tt)))))))
+    ((like_same _ _ refl refl refl, (like_other _ _ refl refl, (like_other _ _ refl refl, tt))), ((like_same _ _ refl refl refl, (like_other _ _ refl refl, tt)), ((like_same _ _ refl refl refl, (like_other _ _ refl refl, (like_other _ _ refl refl, (like_other _ _ refl refl, (like_other _ _ refl refl, (like_other _ _ refl refl, (like_other _ _ refl refl, (like_other _ _ refl refl, (like_other _ _ refl refl, tt))))))))), ((like_same _ _ refl refl refl, (like_other _ _ refl refl, (like_other _ _ refl refl, (like_other _ _ refl refl, (like_other _ _ refl refl, (like_other _ _ refl refl, (like_other _ _ refl refl, (like_other _ _ refl refl, (like_other _ _ refl refl, (like_other _ _ refl refl, tt)))))))))), ((like_same _ _ refl refl refl, (like_other _ _ refl refl, (like_other _ _ refl refl, (like_other _ _ refl refl, (like_other _ _ refl refl, tt))))), ((like_same _ _ refl refl refl, (like_other _ _ refl refl, tt)), ((like_same _ _ refl refl refl, (like_other _ _ refl refl, tt)), tt)))))))
 
 traces_alike : AllSubsLike (filled trace_rule) (built ddr_app).subs
 unfolding ddr_app is_count
 traces_alike =
-    ((like_other _ _ refl refl, (like_same _ _ refl refl refl, (like_other _ _ refl refl, tt))), ((like_other _ _ refl refl, (like_other _ _ refl refl, tt)), ((like_other _ _ refl refl, (like_other _ _ refl refl, (like_other _ _ refl refl, (like_other _ _ refl refl, (like_other _ _ refl refl, (like_other _ _ refl refl, (like_same _ _ refl refl refl, (like_other _ _ refl refl, (like_other _ _ refl refl, tt))))))))), ((like_other _ _ refl refl, (like_other _ _ refl refl, (like_other _ _ refl refl, (like_other _ _ refl refl, (like_other _ _ refl refl, (like_other _ _ refl refl, (like_other _ _ refl refl, (like_other _ _ refl refl, (like_other _ _ refl refl, tt))))))))), ((like_other _ _ refl refl, (like_other _ _ refl refl, (like_other _ _ refl refl, (like_other _ _ refl refl, (like_other _ _ refl refl, tt))))), ((like_other _ _ refl refl, (like_other _ _ refl refl, tt)), ((like_other _ _ refl refl, (like_other _ _ refl refl, tt)), tt)))))))
+    ((like_other _ _ refl refl, (like_same _ _ refl refl refl, (like_other _ _ refl refl, tt))), ((like_other _ _ refl refl, (like_other _ _ refl refl, tt)), ((like_other _ _ refl refl, (like_other _ _ refl refl, (like_other _ _ refl refl, (like_other _ _ refl refl, (like_other _ _ refl refl, (like_other _ _ refl refl, (like_same _ _ refl refl refl, (like_other _ _ refl refl, (like_other _ _ refl refl, tt))))))))), ((like_other _ _ refl refl, (like_other _ _ refl refl, (like_other _ _ refl refl, (like_other _ _ refl refl, (like_other _ _ refl refl, (like_other _ _ refl refl, (like_other _ _ refl refl, (like_other _ _ refl refl, (like_other _ _ refl refl, (like_other _ _ refl refl, tt)))))))))), ((like_other _ _ refl refl, (like_other _ _ refl refl, (like_other _ _ refl refl, (like_other _ _ refl refl, (like_other _ _ refl refl, tt))))), ((like_other _ _ refl refl, (like_other _ _ refl refl, tt)), ((like_other _ _ refl refl, (like_other _ _ refl refl, tt)), tt)))))))
 
 explains_alike : AllSubsLike (filled explain_rule) (built ddr_app).subs
 unfolding ddr_app is_count
 explains_alike =
-    ((like_other _ _ refl refl, (like_other _ _ refl refl, (like_other _ _ refl refl, tt))), ((like_other _ _ refl refl, (like_other _ _ refl refl, tt)), ((like_other _ _ refl refl, (like_other _ _ refl refl, (like_other _ _ refl refl, (like_other _ _ refl refl, (like_other _ _ refl refl, (like_other _ _ refl refl, (like_other _ _ refl refl, (like_other _ _ refl refl, (like_other _ _ refl refl, tt))))))))), ((like_other _ _ refl refl, (like_same _ _ refl refl refl, (like_other _ _ refl refl, (like_other _ _ refl refl, (like_other _ _ refl refl, (like_other _ _ refl refl, (like_other _ _ refl refl, (like_other _ _ refl refl, (like_other _ _ refl refl, tt))))))))), ((like_other _ _ refl refl, (like_other _ _ refl refl, (like_other _ _ refl refl, (like_other _ _ refl refl, (like_other _ _ refl refl, tt))))), ((like_other _ _ refl refl, (like_other _ _ refl refl, tt)), ((like_other _ _ refl refl, (like_other _ _ refl refl, tt)), tt)))))))
+    ((like_other _ _ refl refl, (like_other _ _ refl refl, (like_other _ _ refl refl, tt))), ((like_other _ _ refl refl, (like_other _ _ refl refl, tt)), ((like_other _ _ refl refl, (like_other _ _ refl refl, (like_other _ _ refl refl, (like_other _ _ refl refl, (like_other _ _ refl refl, (like_other _ _ refl refl, (like_other _ _ refl refl, (like_other _ _ refl refl, (like_other _ _ refl refl, tt))))))))), ((like_other _ _ refl refl, (like_same _ _ refl refl refl, (like_other _ _ refl refl, (like_other _ _ refl refl, (like_other _ _ refl refl, (like_other _ _ refl refl, (like_other _ _ refl refl, (like_other _ _ refl refl, (like_other _ _ refl refl, (like_other _ _ refl refl, tt)))))))))), ((like_other _ _ refl refl, (like_other _ _ refl refl, (like_other _ _ refl refl, (like_other _ _ refl refl, (like_other _ _ refl refl, tt))))), ((like_other _ _ refl refl, (like_other _ _ refl refl, tt)), ((like_other _ _ refl refl, (like_other _ _ refl refl, tt)), tt)))))))
 
 alls_alike : AllSubsLike (filled all_rule) (built ddr_app).subs
 unfolding ddr_app is_count
 alls_alike =
-    ((like_other _ _ refl refl, (like_other _ _ refl refl, (like_other _ _ refl refl, tt))), ((like_other _ _ refl refl, (like_other _ _ refl refl, tt)), ((like_other _ _ refl refl, (like_other _ _ refl refl, (like_other _ _ refl refl, (like_other _ _ refl refl, (like_other _ _ refl refl, (like_other _ _ refl refl, (like_other _ _ refl refl, (like_other _ _ refl refl, (like_other _ _ refl refl, tt))))))))), ((like_other _ _ refl refl, (like_other _ _ refl refl, (like_same _ _ refl refl refl, (like_other _ _ refl refl, (like_other _ _ refl refl, (like_other _ _ refl refl, (like_other _ _ refl refl, (like_other _ _ refl refl, (like_other _ _ refl refl, tt))))))))), ((like_other _ _ refl refl, (like_other _ _ refl refl, (like_other _ _ refl refl, (like_other _ _ refl refl, (like_other _ _ refl refl, tt))))), ((like_other _ _ refl refl, (like_other _ _ refl refl, tt)), ((like_other _ _ refl refl, (like_other _ _ refl refl, tt)), tt)))))))
+    ((like_other _ _ refl refl, (like_other _ _ refl refl, (like_other _ _ refl refl, tt))), ((like_other _ _ refl refl, (like_other _ _ refl refl, tt)), ((like_other _ _ refl refl, (like_other _ _ refl refl, (like_other _ _ refl refl, (like_other _ _ refl refl, (like_other _ _ refl refl, (like_other _ _ refl refl, (like_other _ _ refl refl, (like_other _ _ refl refl, (like_other _ _ refl refl, tt))))))))), ((like_other _ _ refl refl, (like_other _ _ refl refl, (like_same _ _ refl refl refl, (like_other _ _ refl refl, (like_other _ _ refl refl, (like_other _ _ refl refl, (like_other _ _ refl refl, (like_other _ _ refl refl, (like_other _ _ refl refl, (like_other _ _ refl refl, tt)))))))))), ((like_other _ _ refl refl, (like_other _ _ refl refl, (like_other _ _ refl refl, (like_other _ _ refl refl, (like_other _ _ refl refl, tt))))), ((like_other _ _ refl refl, (like_other _ _ refl refl, tt)), ((like_other _ _ refl refl, (like_other _ _ refl refl, tt)), tt)))))))
 
 mosts_alike : AllSubsLike (filled most_rule) (built ddr_app).subs
 unfolding ddr_app is_count
 mosts_alike =
-    ((like_other _ _ refl refl, (like_other _ _ refl refl, (like_other _ _ refl refl, tt))), ((like_other _ _ refl refl, (like_other _ _ refl refl, tt)), ((like_other _ _ refl refl, (like_other _ _ refl refl, (like_other _ _ refl refl, (like_other _ _ refl refl, (like_other _ _ refl refl, (like_other _ _ refl refl, (like_other _ _ refl refl, (like_other _ _ refl refl, (like_other _ _ refl refl, tt))))))))), ((like_other _ _ refl refl, (like_other _ _ refl refl, (like_other _ _ refl refl, (like_same _ _ refl refl refl, (like_other _ _ refl refl, (like_other _ _ refl refl, (like_other _ _ refl refl, (like_other _ _ refl refl, (like_other _ _ refl refl, tt))))))))), ((like_other _ _ refl refl, (like_other _ _ refl refl, (like_other _ _ refl refl, (like_other _ _ refl refl, (like_other _ _ refl refl, tt))))), ((like_other _ _ refl refl, (like_other _ _ refl refl, tt)), ((like_other _ _ refl refl, (like_other _ _ refl refl, tt)), tt)))))))
+    ((like_other _ _ refl refl, (like_other _ _ refl refl, (like_other _ _ refl refl, tt))), ((like_other _ _ refl refl, (like_other _ _ refl refl, tt)), ((like_other _ _ refl refl, (like_other _ _ refl refl, (like_other _ _ refl refl, (like_other _ _ refl refl, (like_other _ _ refl refl, (like_other _ _ refl refl, (like_other _ _ refl refl, (like_other _ _ refl refl, (like_other _ _ refl refl, tt))))))))), ((like_other _ _ refl refl, (like_other _ _ refl refl, (like_other _ _ refl refl, (like_same _ _ refl refl refl, (like_other _ _ refl refl, (like_other _ _ refl refl, (like_other _ _ refl refl, (like_other _ _ refl refl, (like_other _ _ refl refl, (like_other _ _ refl refl, tt)))))))))), ((like_other _ _ refl refl, (like_other _ _ refl refl, (like_other _ _ refl refl, (like_other _ _ refl refl, (like_other _ _ refl refl, tt))))), ((like_other _ _ refl refl, (like_other _ _ refl refl, tt)), ((like_other _ _ refl refl, (like_other _ _ refl refl, tt)), tt)))))))
 
 dramsim3_alike : AllSubsLike (filled dramsim3_rule) (built ddr_app).subs
 unfolding ddr_app is_count
 dramsim3_alike =
-    ((like_other _ _ refl refl, (like_other _ _ refl refl, (like_other _ _ refl refl, tt))), ((like_other _ _ refl refl, (like_other _ _ refl refl, tt)), ((like_other _ _ refl refl, (like_same _ _ refl refl refl, (like_other _ _ refl refl, (like_other _ _ refl refl, (like_other _ _ refl refl, (like_other _ _ refl refl, (like_other _ _ refl refl, (like_other _ _ refl refl, (like_other _ _ refl refl, tt))))))))), ((like_other _ _ refl refl, (like_other _ _ refl refl, (like_other _ _ refl refl, (like_other _ _ refl refl, (like_other _ _ refl refl, (like_same _ _ refl refl refl, (like_other _ _ refl refl, (like_other _ _ refl refl, (like_other _ _ refl refl, tt))))))))), ((like_other _ _ refl refl, (like_other _ _ refl refl, (like_other _ _ refl refl, (like_other _ _ refl refl, (like_other _ _ refl refl, tt))))), ((like_other _ _ refl refl, (like_other _ _ refl refl, tt)), ((like_other _ _ refl refl, (like_other _ _ refl refl, tt)), tt)))))))
+    ((like_other _ _ refl refl, (like_other _ _ refl refl, (like_other _ _ refl refl, tt))), ((like_other _ _ refl refl, (like_other _ _ refl refl, tt)), ((like_other _ _ refl refl, (like_same _ _ refl refl refl, (like_other _ _ refl refl, (like_other _ _ refl refl, (like_other _ _ refl refl, (like_other _ _ refl refl, (like_other _ _ refl refl, (like_other _ _ refl refl, (like_other _ _ refl refl, tt))))))))), ((like_other _ _ refl refl, (like_other _ _ refl refl, (like_other _ _ refl refl, (like_other _ _ refl refl, (like_other _ _ refl refl, (like_same _ _ refl refl refl, (like_other _ _ refl refl, (like_other _ _ refl refl, (like_other _ _ refl refl, (like_other _ _ refl refl, tt)))))))))), ((like_other _ _ refl refl, (like_other _ _ refl refl, (like_other _ _ refl refl, (like_other _ _ refl refl, (like_other _ _ refl refl, tt))))), ((like_other _ _ refl refl, (like_other _ _ refl refl, tt)), ((like_other _ _ refl refl, (like_other _ _ refl refl, tt)), tt)))))))
 
 ramulator2_alike : AllSubsLike (filled ramulator2_rule) (built ddr_app).subs
 unfolding ddr_app is_count
 ramulator2_alike =
-    ((like_other _ _ refl refl, (like_other _ _ refl refl, (like_other _ _ refl refl, tt))), ((like_other _ _ refl refl, (like_other _ _ refl refl, tt)), ((like_other _ _ refl refl, (like_other _ _ refl refl, (like_same _ _ refl refl refl, (like_other _ _ refl refl, (like_other _ _ refl refl, (like_other _ _ refl refl, (like_other _ _ refl refl, (like_other _ _ refl refl, (like_other _ _ refl refl, tt))))))))), ((like_other _ _ refl refl, (like_other _ _ refl refl, (like_other _ _ refl refl, (like_other _ _ refl refl, (like_other _ _ refl refl, (like_other _ _ refl refl, (like_same _ _ refl refl refl, (like_other _ _ refl refl, (like_other _ _ refl refl, tt))))))))), ((like_other _ _ refl refl, (like_other _ _ refl refl, (like_other _ _ refl refl, (like_other _ _ refl refl, (like_other _ _ refl refl, tt))))), ((like_other _ _ refl refl, (like_other _ _ refl refl, tt)), ((like_other _ _ refl refl, (like_other _ _ refl refl, tt)), tt)))))))
+    ((like_other _ _ refl refl, (like_other _ _ refl refl, (like_other _ _ refl refl, tt))), ((like_other _ _ refl refl, (like_other _ _ refl refl, tt)), ((like_other _ _ refl refl, (like_other _ _ refl refl, (like_same _ _ refl refl refl, (like_other _ _ refl refl, (like_other _ _ refl refl, (like_other _ _ refl refl, (like_other _ _ refl refl, (like_other _ _ refl refl, (like_other _ _ refl refl, tt))))))))), ((like_other _ _ refl refl, (like_other _ _ refl refl, (like_other _ _ refl refl, (like_other _ _ refl refl, (like_other _ _ refl refl, (like_other _ _ refl refl, (like_same _ _ refl refl refl, (like_other _ _ refl refl, (like_other _ _ refl refl, (like_other _ _ refl refl, tt)))))))))), ((like_other _ _ refl refl, (like_other _ _ refl refl, (like_other _ _ refl refl, (like_other _ _ refl refl, (like_other _ _ refl refl, tt))))), ((like_other _ _ refl refl, (like_other _ _ refl refl, tt)), ((like_other _ _ refl refl, (like_other _ _ refl refl, tt)), tt)))))))
 
 spreads_alike : AllSubsLike (filled spread_rule) (built ddr_app).subs
 unfolding ddr_app is_count
 spreads_alike =
-    ((like_other _ _ refl refl, (like_other _ _ refl refl, (like_other _ _ refl refl, tt))), ((like_other _ _ refl refl, (like_other _ _ refl refl, tt)), ((like_other _ _ refl refl, (like_other _ _ refl refl, (like_other _ _ refl refl, (like_same _ _ refl refl refl, (like_other _ _ refl refl, (like_other _ _ refl refl, (like_other _ _ refl refl, (like_other _ _ refl refl, (like_other _ _ refl refl, tt))))))))), ((like_other _ _ refl refl, (like_other _ _ refl refl, (like_other _ _ refl refl, (like_other _ _ refl refl, (like_other _ _ refl refl, (like_other _ _ refl refl, (like_other _ _ refl refl, (like_other _ _ refl refl, (like_other _ _ refl refl, tt))))))))), ((like_other _ _ refl refl, (like_other _ _ refl refl, (like_other _ _ refl refl, (like_other _ _ refl refl, (like_other _ _ refl refl, tt))))), ((like_other _ _ refl refl, (like_other _ _ refl refl, tt)), ((like_other _ _ refl refl, (like_other _ _ refl refl, tt)), tt)))))))
+    ((like_other _ _ refl refl, (like_other _ _ refl refl, (like_other _ _ refl refl, tt))), ((like_other _ _ refl refl, (like_other _ _ refl refl, tt)), ((like_other _ _ refl refl, (like_other _ _ refl refl, (like_other _ _ refl refl, (like_same _ _ refl refl refl, (like_other _ _ refl refl, (like_other _ _ refl refl, (like_other _ _ refl refl, (like_other _ _ refl refl, (like_other _ _ refl refl, tt))))))))), ((like_other _ _ refl refl, (like_other _ _ refl refl, (like_other _ _ refl refl, (like_other _ _ refl refl, (like_other _ _ refl refl, (like_other _ _ refl refl, (like_other _ _ refl refl, (like_other _ _ refl refl, (like_other _ _ refl refl, (like_other _ _ refl refl, tt)))))))))), ((like_other _ _ refl refl, (like_other _ _ refl refl, (like_other _ _ refl refl, (like_other _ _ refl refl, (like_other _ _ refl refl, tt))))), ((like_other _ _ refl refl, (like_other _ _ refl refl, tt)), ((like_other _ _ refl refl, (like_other _ _ refl refl, tt)), tt)))))))
 
 wraps_alike : AllSubsLike (filled wrap_rule) (built ddr_app).subs
 unfolding ddr_app is_count
 wraps_alike =
-    ((like_other _ _ refl refl, (like_other _ _ refl refl, (like_other _ _ refl refl, tt))), ((like_other _ _ refl refl, (like_other _ _ refl refl, tt)), ((like_other _ _ refl refl, (like_other _ _ refl refl, (like_other _ _ refl refl, (like_other _ _ refl refl, (like_same _ _ refl refl refl, (like_other _ _ refl refl, (like_other _ _ refl refl, (like_other _ _ refl refl, (like_other _ _ refl refl, tt))))))))), ((like_other _ _ refl refl, (like_other _ _ refl refl, (like_other _ _ refl refl, (like_other _ _ refl refl, (like_other _ _ refl refl, (like_other _ _ refl refl, (like_other _ _ refl refl, (like_other _ _ refl refl, (like_other _ _ refl refl, tt))))))))), ((like_other _ _ refl refl, (like_other _ _ refl refl, (like_other _ _ refl refl, (like_other _ _ refl refl, (like_other _ _ refl refl, tt))))), ((like_other _ _ refl refl, (like_other _ _ refl refl, tt)), ((like_other _ _ refl refl, (like_other _ _ refl refl, tt)), tt)))))))
+    ((like_other _ _ refl refl, (like_other _ _ refl refl, (like_other _ _ refl refl, tt))), ((like_other _ _ refl refl, (like_other _ _ refl refl, tt)), ((like_other _ _ refl refl, (like_other _ _ refl refl, (like_other _ _ refl refl, (like_other _ _ refl refl, (like_same _ _ refl refl refl, (like_other _ _ refl refl, (like_other _ _ refl refl, (like_other _ _ refl refl, (like_other _ _ refl refl, tt))))))))), ((like_other _ _ refl refl, (like_other _ _ refl refl, (like_other _ _ refl refl, (like_other _ _ refl refl, (like_other _ _ refl refl, (like_other _ _ refl refl, (like_other _ _ refl refl, (like_other _ _ refl refl, (like_other _ _ refl refl, (like_other _ _ refl refl, tt)))))))))), ((like_other _ _ refl refl, (like_other _ _ refl refl, (like_other _ _ refl refl, (like_other _ _ refl refl, (like_other _ _ refl refl, tt))))), ((like_other _ _ refl refl, (like_other _ _ refl refl, tt)), ((like_other _ _ refl refl, (like_other _ _ refl refl, tt)), tt)))))))
 
 requests_alike : AllSubsLike (filled requests_rule) (built ddr_app).subs
 unfolding ddr_app is_count
 requests_alike =
-    ((like_other _ _ refl refl, (like_other _ _ refl refl, (like_other _ _ refl refl, tt))), ((like_other _ _ refl refl, (like_other _ _ refl refl, tt)), ((like_other _ _ refl refl, (like_other _ _ refl refl, (like_other _ _ refl refl, (like_other _ _ refl refl, (like_other _ _ refl refl, (like_same _ _ refl refl refl, (like_other _ _ refl refl, (like_other _ _ refl refl, (like_other _ _ refl refl, tt))))))))), ((like_other _ _ refl refl, (like_other _ _ refl refl, (like_other _ _ refl refl, (like_other _ _ refl refl, (like_other _ _ refl refl, (like_other _ _ refl refl, (like_other _ _ refl refl, (like_other _ _ refl refl, (like_other _ _ refl refl, tt))))))))), ((like_other _ _ refl refl, (like_other _ _ refl refl, (like_other _ _ refl refl, (like_other _ _ refl refl, (like_other _ _ refl refl, tt))))), ((like_other _ _ refl refl, (like_other _ _ refl refl, tt)), ((like_other _ _ refl refl, (like_other _ _ refl refl, tt)), tt)))))))
+    ((like_other _ _ refl refl, (like_other _ _ refl refl, (like_other _ _ refl refl, tt))), ((like_other _ _ refl refl, (like_other _ _ refl refl, tt)), ((like_other _ _ refl refl, (like_other _ _ refl refl, (like_other _ _ refl refl, (like_other _ _ refl refl, (like_other _ _ refl refl, (like_same _ _ refl refl refl, (like_other _ _ refl refl, (like_other _ _ refl refl, (like_other _ _ refl refl, tt))))))))), ((like_other _ _ refl refl, (like_other _ _ refl refl, (like_other _ _ refl refl, (like_other _ _ refl refl, (like_other _ _ refl refl, (like_other _ _ refl refl, (like_other _ _ refl refl, (like_other _ _ refl refl, (like_other _ _ refl refl, (like_other _ _ refl refl, tt)))))))))), ((like_other _ _ refl refl, (like_other _ _ refl refl, (like_other _ _ refl refl, (like_other _ _ refl refl, (like_other _ _ refl refl, tt))))), ((like_other _ _ refl refl, (like_other _ _ refl refl, tt)), ((like_other _ _ refl refl, (like_other _ _ refl refl, tt)), tt)))))))
 
 progress_alike : AllSubsLike (filled progress_rule) (built ddr_app).subs
 unfolding ddr_app is_count
 progress_alike =
-    ((like_other _ _ refl refl, (like_other _ _ refl refl, (like_other _ _ refl refl, tt))), ((like_other _ _ refl refl, (like_other _ _ refl refl, tt)), ((like_other _ _ refl refl, (like_other _ _ refl refl, (like_other _ _ refl refl, (like_other _ _ refl refl, (like_other _ _ refl refl, (like_other _ _ refl refl, (like_other _ _ refl refl, (like_same _ _ refl refl refl, (like_other _ _ refl refl, tt))))))))), ((like_other _ _ refl refl, (like_other _ _ refl refl, (like_other _ _ refl refl, (like_other _ _ refl refl, (like_other _ _ refl refl, (like_other _ _ refl refl, (like_other _ _ refl refl, (like_other _ _ refl refl, (like_other _ _ refl refl, tt))))))))), ((like_other _ _ refl refl, (like_other _ _ refl refl, (like_other _ _ refl refl, (like_other _ _ refl refl, (like_other _ _ refl refl, tt))))), ((like_other _ _ refl refl, (like_other _ _ refl refl, tt)), ((like_other _ _ refl refl, (like_other _ _ refl refl, tt)), tt)))))))
+    ((like_other _ _ refl refl, (like_other _ _ refl refl, (like_other _ _ refl refl, tt))), ((like_other _ _ refl refl, (like_other _ _ refl refl, tt)), ((like_other _ _ refl refl, (like_other _ _ refl refl, (like_other _ _ refl refl, (like_other _ _ refl refl, (like_other _ _ refl refl, (like_other _ _ refl refl, (like_other _ _ refl refl, (like_same _ _ refl refl refl, (like_other _ _ refl refl, tt))))))))), ((like_other _ _ refl refl, (like_other _ _ refl refl, (like_other _ _ refl refl, (like_other _ _ refl refl, (like_other _ _ refl refl, (like_other _ _ refl refl, (like_other _ _ refl refl, (like_other _ _ refl refl, (like_other _ _ refl refl, (like_other _ _ refl refl, tt)))))))))), ((like_other _ _ refl refl, (like_other _ _ refl refl, (like_other _ _ refl refl, (like_other _ _ refl refl, (like_other _ _ refl refl, tt))))), ((like_other _ _ refl refl, (like_other _ _ refl refl, tt)), ((like_other _ _ refl refl, (like_other _ _ refl refl, tt)), tt)))))))
 
 streams_alike : AllSubsLike (filled stream_rule) (built ddr_app).subs
 unfolding ddr_app is_count
 streams_alike =
-    ((like_other _ _ refl refl, (like_other _ _ refl refl, (like_other _ _ refl refl, tt))), ((like_other _ _ refl refl, (like_other _ _ refl refl, tt)), ((like_other _ _ refl refl, (like_other _ _ refl refl, (like_other _ _ refl refl, (like_other _ _ refl refl, (like_other _ _ refl refl, (like_other _ _ refl refl, (like_other _ _ refl refl, (like_other _ _ refl refl, (like_other _ _ refl refl, tt))))))))), ((like_other _ _ refl refl, (like_other _ _ refl refl, (like_other _ _ refl refl, (like_other _ _ refl refl, (like_same _ _ refl refl refl, (like_other _ _ refl refl, (like_other _ _ refl refl, (like_other _ _ refl refl, (like_other _ _ refl refl, tt))))))))), ((like_other _ _ refl refl, (like_other _ _ refl refl, (like_other _ _ refl refl, (like_other _ _ refl refl, (like_other _ _ refl refl, tt))))), ((like_other _ _ refl refl, (like_other _ _ refl refl, tt)), ((like_other _ _ refl refl, (like_other _ _ refl refl, tt)), tt)))))))
+    ((like_other _ _ refl refl, (like_other _ _ refl refl, (like_other _ _ refl refl, tt))), ((like_other _ _ refl refl, (like_other _ _ refl refl, tt)), ((like_other _ _ refl refl, (like_other _ _ refl refl, (like_other _ _ refl refl, (like_other _ _ refl refl, (like_other _ _ refl refl, (like_other _ _ refl refl, (like_other _ _ refl refl, (like_other _ _ refl refl, (like_other _ _ refl refl, tt))))))))), ((like_other _ _ refl refl, (like_other _ _ refl refl, (like_other _ _ refl refl, (like_other _ _ refl refl, (like_same _ _ refl refl refl, (like_other _ _ refl refl, (like_other _ _ refl refl, (like_other _ _ refl refl, (like_other _ _ refl refl, (like_other _ _ refl refl, tt)))))))))), ((like_other _ _ refl refl, (like_other _ _ refl refl, (like_other _ _ refl refl, (like_other _ _ refl refl, (like_other _ _ refl refl, tt))))), ((like_other _ _ refl refl, (like_other _ _ refl refl, tt)), ((like_other _ _ refl refl, (like_other _ _ refl refl, tt)), tt)))))))
 
 starts_alike : AllSubsLike (filled start_rule) (built ddr_app).subs
 unfolding ddr_app is_count
 starts_alike =
-    ((like_other _ _ refl refl, (like_other _ _ refl refl, (like_other _ _ refl refl, tt))), ((like_other _ _ refl refl, (like_other _ _ refl refl, tt)), ((like_other _ _ refl refl, (like_other _ _ refl refl, (like_other _ _ refl refl, (like_other _ _ refl refl, (like_other _ _ refl refl, (like_other _ _ refl refl, (like_other _ _ refl refl, (like_other _ _ refl refl, (like_other _ _ refl refl, tt))))))))), ((like_other _ _ refl refl, (like_other _ _ refl refl, (like_other _ _ refl refl, (like_other _ _ refl refl, (like_other _ _ refl refl, (like_other _ _ refl refl, (like_other _ _ refl refl, (like_same _ _ refl refl refl, (like_other _ _ refl refl, tt))))))))), ((like_other _ _ refl refl, (like_other _ _ refl refl, (like_other _ _ refl refl, (like_other _ _ refl refl, (like_other _ _ refl refl, tt))))), ((like_other _ _ refl refl, (like_other _ _ refl refl, tt)), ((like_other _ _ refl refl, (like_other _ _ refl refl, tt)), tt)))))))
+    ((like_other _ _ refl refl, (like_other _ _ refl refl, (like_other _ _ refl refl, tt))), ((like_other _ _ refl refl, (like_other _ _ refl refl, tt)), ((like_other _ _ refl refl, (like_other _ _ refl refl, (like_other _ _ refl refl, (like_other _ _ refl refl, (like_other _ _ refl refl, (like_other _ _ refl refl, (like_other _ _ refl refl, (like_other _ _ refl refl, (like_other _ _ refl refl, tt))))))))), ((like_other _ _ refl refl, (like_other _ _ refl refl, (like_other _ _ refl refl, (like_other _ _ refl refl, (like_other _ _ refl refl, (like_other _ _ refl refl, (like_other _ _ refl refl, (like_same _ _ refl refl refl, (like_other _ _ refl refl, (like_other _ _ refl refl, tt)))))))))), ((like_other _ _ refl refl, (like_other _ _ refl refl, (like_other _ _ refl refl, (like_other _ _ refl refl, (like_other _ _ refl refl, tt))))), ((like_other _ _ refl refl, (like_other _ _ refl refl, tt)), ((like_other _ _ refl refl, (like_other _ _ refl refl, tt)), tt)))))))
+
+channels_alike : AllSubsLike (filled channel_rule) (built ddr_app).subs
+unfolding ddr_app is_count
+channels_alike =
+    ((like_other _ _ refl refl, (like_other _ _ refl refl, (like_other _ _ refl refl, tt))), ((like_other _ _ refl refl, (like_other _ _ refl refl, tt)), ((like_other _ _ refl refl, (like_other _ _ refl refl, (like_other _ _ refl refl, (like_other _ _ refl refl, (like_other _ _ refl refl, (like_other _ _ refl refl, (like_other _ _ refl refl, (like_other _ _ refl refl, (like_other _ _ refl refl, tt))))))))), ((like_other _ _ refl refl, (like_other _ _ refl refl, (like_other _ _ refl refl, (like_other _ _ refl refl, (like_other _ _ refl refl, (like_other _ _ refl refl, (like_other _ _ refl refl, (like_other _ _ refl refl, (like_same _ _ refl refl refl, (like_other _ _ refl refl, tt)))))))))), ((like_other _ _ refl refl, (like_other _ _ refl refl, (like_other _ _ refl refl, (like_other _ _ refl refl, (like_other _ _ refl refl, tt))))), ((like_other _ _ refl refl, (like_other _ _ refl refl, tt)), ((like_other _ _ refl refl, (like_other _ _ refl refl, tt)), tt)))))))
 
 svgs_alike : AllSubsLike (filled svg_rule) (built ddr_app).subs
 unfolding ddr_app is_count
 svgs_alike =
-    ((like_other _ _ refl refl, (like_other _ _ refl refl, (like_other _ _ refl refl, tt))), ((like_other _ _ refl refl, (like_other _ _ refl refl, tt)), ((like_other _ _ refl refl, (like_other _ _ refl refl, (like_other _ _ refl refl, (like_other _ _ refl refl, (like_other _ _ refl refl, (like_other _ _ refl refl, (like_other _ _ refl refl, (like_other _ _ refl refl, (like_other _ _ refl refl, tt))))))))), ((like_other _ _ refl refl, (like_other _ _ refl refl, (like_other _ _ refl refl, (like_other _ _ refl refl, (like_other _ _ refl refl, (like_other _ _ refl refl, (like_other _ _ refl refl, (like_other _ _ refl refl, (like_other _ _ refl refl, tt))))))))), ((like_other _ _ refl refl, (like_same _ _ refl refl refl, (like_other _ _ refl refl, (like_other _ _ refl refl, (like_other _ _ refl refl, tt))))), ((like_other _ _ refl refl, (like_other _ _ refl refl, tt)), ((like_other _ _ refl refl, (like_other _ _ refl refl, tt)), tt)))))))
+    ((like_other _ _ refl refl, (like_other _ _ refl refl, (like_other _ _ refl refl, tt))), ((like_other _ _ refl refl, (like_other _ _ refl refl, tt)), ((like_other _ _ refl refl, (like_other _ _ refl refl, (like_other _ _ refl refl, (like_other _ _ refl refl, (like_other _ _ refl refl, (like_other _ _ refl refl, (like_other _ _ refl refl, (like_other _ _ refl refl, (like_other _ _ refl refl, tt))))))))), ((like_other _ _ refl refl, (like_other _ _ refl refl, (like_other _ _ refl refl, (like_other _ _ refl refl, (like_other _ _ refl refl, (like_other _ _ refl refl, (like_other _ _ refl refl, (like_other _ _ refl refl, (like_other _ _ refl refl, (like_other _ _ refl refl, tt)))))))))), ((like_other _ _ refl refl, (like_same _ _ refl refl refl, (like_other _ _ refl refl, (like_other _ _ refl refl, (like_other _ _ refl refl, tt))))), ((like_other _ _ refl refl, (like_other _ _ refl refl, tt)), ((like_other _ _ refl refl, (like_other _ _ refl refl, tt)), tt)))))))
 
 froms_alike : AllSubsLike (filled from_rule) (built ddr_app).subs
 unfolding ddr_app is_count
 froms_alike =
-    ((like_other _ _ refl refl, (like_other _ _ refl refl, (like_other _ _ refl refl, tt))), ((like_other _ _ refl refl, (like_other _ _ refl refl, tt)), ((like_other _ _ refl refl, (like_other _ _ refl refl, (like_other _ _ refl refl, (like_other _ _ refl refl, (like_other _ _ refl refl, (like_other _ _ refl refl, (like_other _ _ refl refl, (like_other _ _ refl refl, (like_other _ _ refl refl, tt))))))))), ((like_other _ _ refl refl, (like_other _ _ refl refl, (like_other _ _ refl refl, (like_other _ _ refl refl, (like_other _ _ refl refl, (like_other _ _ refl refl, (like_other _ _ refl refl, (like_other _ _ refl refl, (like_other _ _ refl refl, tt))))))))), ((like_other _ _ refl refl, (like_other _ _ refl refl, (like_same _ _ refl refl refl, (like_other _ _ refl refl, (like_other _ _ refl refl, tt))))), ((like_other _ _ refl refl, (like_other _ _ refl refl, tt)), ((like_other _ _ refl refl, (like_other _ _ refl refl, tt)), tt)))))))
+    ((like_other _ _ refl refl, (like_other _ _ refl refl, (like_other _ _ refl refl, tt))), ((like_other _ _ refl refl, (like_other _ _ refl refl, tt)), ((like_other _ _ refl refl, (like_other _ _ refl refl, (like_other _ _ refl refl, (like_other _ _ refl refl, (like_other _ _ refl refl, (like_other _ _ refl refl, (like_other _ _ refl refl, (like_other _ _ refl refl, (like_other _ _ refl refl, tt))))))))), ((like_other _ _ refl refl, (like_other _ _ refl refl, (like_other _ _ refl refl, (like_other _ _ refl refl, (like_other _ _ refl refl, (like_other _ _ refl refl, (like_other _ _ refl refl, (like_other _ _ refl refl, (like_other _ _ refl refl, (like_other _ _ refl refl, tt)))))))))), ((like_other _ _ refl refl, (like_other _ _ refl refl, (like_same _ _ refl refl refl, (like_other _ _ refl refl, (like_other _ _ refl refl, tt))))), ((like_other _ _ refl refl, (like_other _ _ refl refl, tt)), ((like_other _ _ refl refl, (like_other _ _ refl refl, tt)), tt)))))))
 
 tos_alike : AllSubsLike (filled to_rule) (built ddr_app).subs
 unfolding ddr_app is_count
 tos_alike =
-    ((like_other _ _ refl refl, (like_other _ _ refl refl, (like_other _ _ refl refl, tt))), ((like_other _ _ refl refl, (like_other _ _ refl refl, tt)), ((like_other _ _ refl refl, (like_other _ _ refl refl, (like_other _ _ refl refl, (like_other _ _ refl refl, (like_other _ _ refl refl, (like_other _ _ refl refl, (like_other _ _ refl refl, (like_other _ _ refl refl, (like_other _ _ refl refl, tt))))))))), ((like_other _ _ refl refl, (like_other _ _ refl refl, (like_other _ _ refl refl, (like_other _ _ refl refl, (like_other _ _ refl refl, (like_other _ _ refl refl, (like_other _ _ refl refl, (like_other _ _ refl refl, (like_other _ _ refl refl, tt))))))))), ((like_other _ _ refl refl, (like_other _ _ refl refl, (like_other _ _ refl refl, (like_same _ _ refl refl refl, (like_other _ _ refl refl, tt))))), ((like_other _ _ refl refl, (like_other _ _ refl refl, tt)), ((like_other _ _ refl refl, (like_other _ _ refl refl, tt)), tt)))))))
+    ((like_other _ _ refl refl, (like_other _ _ refl refl, (like_other _ _ refl refl, tt))), ((like_other _ _ refl refl, (like_other _ _ refl refl, tt)), ((like_other _ _ refl refl, (like_other _ _ refl refl, (like_other _ _ refl refl, (like_other _ _ refl refl, (like_other _ _ refl refl, (like_other _ _ refl refl, (like_other _ _ refl refl, (like_other _ _ refl refl, (like_other _ _ refl refl, tt))))))))), ((like_other _ _ refl refl, (like_other _ _ refl refl, (like_other _ _ refl refl, (like_other _ _ refl refl, (like_other _ _ refl refl, (like_other _ _ refl refl, (like_other _ _ refl refl, (like_other _ _ refl refl, (like_other _ _ refl refl, (like_other _ _ refl refl, tt)))))))))), ((like_other _ _ refl refl, (like_other _ _ refl refl, (like_other _ _ refl refl, (like_same _ _ refl refl refl, (like_other _ _ refl refl, tt))))), ((like_other _ _ refl refl, (like_other _ _ refl refl, tt)), ((like_other _ _ refl refl, (like_other _ _ refl refl, tt)), tt)))))))
 
 taken_of : (t : Rule) (words : List Text) (name : Text) (options : List Row) → AllSubsLike t (built ddr_app).subs → fault_of ddr_app words ≡ [] → subcommand_of ddr_app words ≡ Some (name, options) → IfSome (one_of t.id options) (IsTaken t)
 taken_of t words name options alike none met =
@@ -251,6 +256,7 @@ met_taken words name options none met = record {
   progress = taken_of (filled progress_rule) words name options progress_alike none met;
   stream = taken_of (filled stream_rule) words name options streams_alike none met;
   start = taken_of (filled start_rule) words name options starts_alike none met;
+  channel = taken_of (filled channel_rule) words name options channels_alike none met;
   svg = taken_of (filled svg_rule) words name options svgs_alike none met;
   from = taken_of (filled from_rule) words name options froms_alike none met;
   to = taken_of (filled to_rule) words name options tos_alike none met;

@@ -7,12 +7,15 @@ use Rattle.ddr_trace.specs.declared.text.TraceError.TheVariants as traces
 use Rattle.ddr_text.specs.declared.fault.Fault.{Fault}
 use Rattle.ddr_text.specs.declared.fault.Fault.TheVariants as faults
 
--- the status that a run ends with: 3 where the device, the memory, the clock, a port or the system's threads are at fault, 2 where the input is
+-- the status that a run ends with: 3 where the device, the memory, the clock, a port or the system's threads are at fault, or where a
+-- run goes on no more, 2 where the input is
 abbrev pub status_of : Fault → ℕ
 status_of faults.Read = 3
 status_of faults.Write = 3
 status_of faults.OutOfMemory = 3
 status_of faults.NotDrained = 3
+status_of (faults.ReplayStuck cycle) = 3
+status_of (faults.RunStuck cycle) = 3
 status_of faults.ClockSpent = 3
 status_of faults.PortBroken = 3
 status_of faults.ThreadsRefused = 3
@@ -33,10 +36,12 @@ is_before_output faults.InputHasNoMark = true
 is_before_output (faults.MapLine line) = true
 is_before_output (faults.ScriptLine line) = true
 is_before_output (faults.RequestLine line cause) = true
-is_before_output (faults.ReplayLine line) = true
+is_before_output (faults.ReplayLine line cause) = true
 is_before_output (faults.ReplayRange line) = true
 is_before_output faults.ReplayLimit = true
-is_before_output (faults.CaptureLine line) = true
+is_before_output (faults.ReplayStuck cycle) = true
+is_before_output (faults.RunStuck cycle) = true
+is_before_output (faults.CaptureLine line cause) = true
 is_before_output (faults.CaptureOrder line) = true
 is_before_output faults.TraceHeader = true
 is_before_output (faults.TraceRow line) = true
@@ -44,6 +49,7 @@ is_before_output (faults.TraceOrder line) = true
 is_before_output faults.TraceTruncated = true
 is_before_output faults.TraceTooLong = true
 is_before_output faults.TraceNoSuch = true
+is_before_output faults.DrawTooLong = true
 is_before_output faults.Read = true
 is_before_output _ = false
 

@@ -1,5 +1,5 @@
 -- The command line of the program, and the job that its words state.
-use Rattle.std.specs.Prelude.{◌≡◌, ℕ, Bool, true, false, ◌||◌, nat_lt, if◌then◌else◌, List, [], ◌∷◌, length, codes, pos, IfSome, Option, Some, None, is_some, option_map, unwrap_or, Result, Ok, Err}
+use Rattle.std.specs.Prelude.{◌≡◌, ℕ, Bool, true, false, not, ◌&&◌, ◌||◌, nat_lt, if◌then◌else◌, List, [], ◌∷◌, length, codes, pos, IfSome, Option, Some, None, is_some, option_map, unwrap_or, Result, Ok, Err}
 use Rattle.std.specs.Option.{option_map_or}
 use Rattle.std.specs.Str.{bytes_eq}
 use Rattle.std.specs.Str.Parse.{digits_value, without_leading_plus}
@@ -12,6 +12,10 @@ use Rattle.clap.specs.declared.builder.ArgAction.TheVariants.{SetTrue}
 use Rattle.clap.specs.declared.builder.value_parser.ValueParser.TheVariants as parser
 use Rattle.clap.specs.declared.error.Error.{Error}
 use Rattle.clap.specs.declared.error.kind.ErrorKind.TheVariants.{OutOfMemory}
+use Rattle.ddr_text.specs.declared.job.JobError.{JobError}
+use Rattle.ddr_text.specs.declared.job.JobError.TheVariants as errors
+use Rattle.ddr_text.specs.declared.misuse.Misuse.{Misuse}
+use Rattle.ddr_text.specs.declared.misuse.Misuse.TheVariants.{TwoForms, SpreadOfOwnForm, RequestsBesideTrace, FaultsOfCapture, ChannelOfOwnForm, PartOfWaves}
 use Rattle.ddr_text.specs.declared.command.Job.{Job}
 use Rattle.ddr_text.specs.declared.command.Job.TheVariants.{Sim, Run, Replay, Check, Explain, All, Stream, Draw, Map, Lint}
 use Rattle.ddr_text.specs.declared.command.Format.{Format}
@@ -94,6 +98,10 @@ stream_rule = flag_rule (codes "stream")
 abbrev pub start_rule : Rule
 start_rule = cycle_rule (codes "start")
 
+-- the option `--channel`
+abbrev pub channel_rule : Rule
+channel_rule = number_rule (codes "channel")
+
 -- the flag `--svg`
 abbrev pub svg_rule : Rule
 svg_rule = flag_rule (codes "svg")
@@ -116,7 +124,7 @@ with_faults app = with_rule (with_rule (with_rule app explain_rule) all_rule) mo
 
 -- a subcommand with the options that say how captured commands are read
 abbrev pub with_capture : App → App
-with_capture app = with_rule (with_rule (with_rule (with_rule app stream_rule) dramsim3_rule) ramulator2_rule) start_rule
+with_capture app = with_rule (with_rule (with_rule (with_rule (with_rule app stream_rule) dramsim3_rule) ramulator2_rule) start_rule) channel_rule
 
 -- the subcommand `check`, with its own options behind the flag
 abbrev pub check_app : App
@@ -166,8 +174,8 @@ abbrev pub number_in : Text → List Row → Option ℕ
 number_in name options = option_map (λ text. digits_value 10 (without_leading_plus text)) (one_of name options)
 
 -- the channel of `--trace`
-abbrev pub channel_of : List Row → Option ℕ
-channel_of = number_in (codes "trace")
+abbrev pub trace_of : List Row → Option ℕ
+trace_of = number_in (codes "trace")
 
 -- how many faults `--most` asks for
 abbrev pub most_of : List Row → Option ℕ
@@ -177,7 +185,19 @@ most_of = number_in (codes "most")
 abbrev pub start_of : List Row → Option ℕ
 start_of = number_in (codes "start")
 
--- the format that the flags name, or the program's own; next to `--dramsim3` `--ramulator2` says nothing
+-- the channel of `--channel`
+abbrev pub channel_of : List Row → Option ℕ
+channel_of = number_in (codes "channel")
+
+-- whether the form of another simulator is named
+abbrev pub names_form : List Row → Bool
+names_form options = is_used (codes "dramsim3") options || is_used (codes "ramulator2") options
+
+-- whether the forms of both are named
+abbrev pub names_two_forms : List Row → Bool
+names_two_forms options = is_used (codes "dramsim3") options && is_used (codes "ramulator2") options
+
+-- the format that the flags name, or the program's own
 abbrev pub format_of : List Row → Format
 format_of options = if is_used (codes "dramsim3") options then Dramsim3 else if is_used (codes "ramulator2") options then Ramulator2 else Own
 
@@ -185,15 +205,15 @@ format_of options = if is_used (codes "dramsim3") options then Dramsim3 else if 
 abbrev pub reading_of : List Row → Reading
 reading_of options = record { format = format_of options; spread = is_used (codes "spread") options; wrap = is_used (codes "wrap") options }
 
--- what `replay` tells; next to `--trace` `--requests` asks for nothing
+-- what `replay` tells
 abbrev pub told_of : List Row → Told
-told_of options = option_map_or (λ channel. Trace channel) (channel_of options) (if is_used (codes "requests") options then Requests else Statistics)
+told_of options = option_map_or (λ channel. Trace channel) (trace_of options) (if is_used (codes "requests") options then Requests else Statistics)
 
--- whether `check` reads captured commands; `--start` and the name of a format ask for that by themselves
+-- whether `check` reads captured commands; `--start`, `--channel` and the name of a format ask for that by themselves
 abbrev pub is_streamed : List Row → Bool
-is_streamed options = is_used (codes "stream") options || is_used (codes "dramsim3") options || is_used (codes "ramulator2") options || is_some (start_of options)
+is_streamed options = is_used (codes "stream") options || is_used (codes "dramsim3") options || is_used (codes "ramulator2") options || is_some (start_of options) || is_some (channel_of options)
 
--- what `draw` draws; without `--svg` `--from` and `--to` ask for nothing
+-- what `draw` draws
 abbrev pub picture_of : List Row → Picture
 picture_of options = if is_used (codes "svg") options then Lanes (number_in (codes "from") options) (number_in (codes "to") options) else Waves
 
@@ -217,6 +237,7 @@ pub record AreTaken (options : List Row) : Type 0 where
   pub progress : IfSome (one_of (codes "progress") options) (IsTaken (filled progress_rule))
   pub stream : IfSome (one_of (codes "stream") options) (IsTaken (filled stream_rule))
   pub start : IfSome (one_of (codes "start") options) (IsTaken (filled start_rule))
+  pub channel : IfSome (one_of (codes "channel") options) (IsTaken (filled channel_rule))
   pub svg : IfSome (one_of (codes "svg") options) (IsTaken (filled svg_rule))
   pub from : IfSome (one_of (codes "from") options) (IsTaken (filled from_rule))
   pub to : IfSome (one_of (codes "to") options) (IsTaken (filled to_rule))
@@ -231,14 +252,16 @@ faults_job options sample =
     else if is_used (codes "explain") options then Explain sample
     else Check sample
 
--- the job of the subcommand `check`; a stream is only judged, so next to what asks for one nothing asks for more
+-- the job of the subcommand `check`
 abbrev pub check_job : List Row → Bool → Job
-check_job options sample = if is_streamed options then Stream sample (format_of options) (unwrap_or (start_of options) 0) else faults_job options sample
+check_job options sample =
+    if is_streamed options then Stream sample (format_of options) (unwrap_or (start_of options) 0) (channel_of options)
+    else faults_job options sample
 
 -- the job of a subcommand with these options
 abbrev pub job_with : Text → List Row → Job
 job_with name options =
-    if bytes_eq name (codes "sim") then Sim (is_sample options) (channel_of options)
+    if bytes_eq name (codes "sim") then Sim (is_sample options) (trace_of options)
     else if bytes_eq name (codes "run") then Run (is_sample options)
     else if bytes_eq name (codes "replay") then Replay (is_sample options) (reading_of options) (told_of options) (is_used (codes "progress") options)
     else if bytes_eq name (codes "check") then check_job options (is_sample options)
@@ -246,20 +269,65 @@ job_with name options =
     else if bytes_eq name (codes "map") then Map (is_sample options)
     else Lint (is_sample options)
 
--- the kinds of error that the command line gives at the words, and where it gives none the job; a subcommand is required
-abbrev pub job_or : Kinds → Option (Text × List Row) → Result Job Kinds
+-- of `replay`: both other forms; ports in turn, where lines name their ports; two things to be told
+abbrev pub replay_misuse : List Row → Option Misuse
+replay_misuse options =
+    if names_two_forms options then Some TwoForms
+    else if is_used (codes "spread") options && not (names_form options) then Some SpreadOfOwnForm
+    else if is_used (codes "requests") options && is_some (trace_of options) then Some RequestsBesideTrace
+    else None
+
+-- whether more is asked for than the first fault
+abbrev pub tells_faults : List Row → Bool
+tells_faults options = is_used (codes "explain") options || is_used (codes "all") options || is_some (most_of options)
+
+-- of `check`: both other forms; more than the first faults of captured commands; a channel, where there is one
+abbrev pub check_misuse : List Row → Option Misuse
+check_misuse options =
+    if names_two_forms options then Some TwoForms
+    else if is_streamed options && tells_faults options then Some FaultsOfCapture
+    else if is_some (channel_of options) && not (names_form options) then Some ChannelOfOwnForm
+    else None
+
+-- of `draw`: a part of the trace, where waves are drawn
+abbrev pub draw_misuse : List Row → Option Misuse
+draw_misuse options =
+    if (is_some (number_in (codes "from") options) || is_some (number_in (codes "to") options)) && not (is_used (codes "svg") options) then Some PartOfWaves
+    else None
+
+-- the first option of a subcommand that would have no effect, if there is one
+abbrev pub misuse_of : Text → List Row → Option Misuse
+misuse_of name options =
+    if bytes_eq name (codes "replay") then replay_misuse options
+    else if bytes_eq name (codes "check") then check_misuse options
+    else if bytes_eq name (codes "draw") then draw_misuse options
+    else None
+
+-- what a subcommand with these options says: its job, unless an option would have no effect
+abbrev pub said_by : Text → List Row → Result Job Misuse
+said_by name options = option_map_or Err (misuse_of name options) (Ok (job_with name options))
+
+-- the kinds of error that the command line gives at the words, and where it gives none what they say; a subcommand is required
+abbrev pub job_or : Kinds → Option (Text × List Row) → Result (Result Job Misuse) Kinds
 job_or [] None = Err []
-job_or [] (Some subcommand) = Ok (job_with subcommand.0 subcommand.1)
+job_or [] (Some subcommand) = Ok (said_by subcommand.0 subcommand.1)
 job_or (kind ∷ kinds) subcommand = Err (kind ∷ kinds)
 
--- the job that the words state, or the kinds of error that they may give; the first word is the program's name
-unfoldable pub job_of : List Text → Result Job Kinds
+-- the job that the words state or the option that would have no effect, or the kinds of error that they may give; the first word
+-- is the program's name
+unfoldable pub job_of : List Text → Result (Result Job Misuse) Kinds
 job_of words =
-    if nat_lt (length words) 2 then Ok (Sim true None)
+    if nat_lt (length words) 2 then Ok (Ok (Sim true None))
     else job_or (fault_of ddr_app words) (subcommand_of ddr_app words)
 
--- what is answered is what was said; an error has one of the kinds, unless memory ran out
-abbrev pub Answers : {X : Type 0} → Result X Error → Result X Kinds → Type 0
-Answers (Ok x) said = said ≡ Ok x
-Answers (Err error) (Ok x) = kind_of error ≡ OutOfMemory
-Answers (Err error) (Err kinds) = HasKind kinds error
+-- what is read is what was said; an error has one of the kinds, unless memory ran out
+abbrev pub Reads : {X : Type 0} → Result X Error → Result X Kinds → Type 0
+Reads (Ok x) said = said ≡ Ok x
+Reads (Err error) (Ok x) = kind_of error ≡ OutOfMemory
+Reads (Err error) (Err kinds) = HasKind kinds error
+
+-- what is answered is what was said
+abbrev pub Answers : Result Job JobError → Result (Result Job Misuse) Kinds → Type 0
+Answers (Ok job) said = said ≡ Ok (Ok job)
+Answers (Err (errors.Misuse misuse)) said = said ≡ Ok (Err misuse)
+Answers (Err (errors.Words error)) said = Reads (Err error) said

@@ -35,11 +35,13 @@ pub enum Job {
         sample: bool,
         most: Option<u32>,
     },
-    /// Checks captured commands of each channel in one pass, from cycle `start` on, read in this form.
+    /// Checks captured commands of each channel in one pass, from cycle `start` on, read in this form. Where `channel` names one,
+    /// they are those of that channel alone.
     Stream {
         sample: bool,
         format: Format,
         start: u64,
+        channel: Option<u32>,
     },
     /// Draws a trace.
     Draw {

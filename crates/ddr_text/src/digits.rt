@@ -1,6 +1,7 @@
-//! The numbers of a script and of a map, each read in one pass over its bytes.
+//! Decimal numbers, each read in one pass over its bytes.
 //!
-//! `ddr_trace` says what a number is, and nothing of the program stands below; `script` reads its fields by this.
+//! `ddr_trace` says what a number is, and nothing of the program stands below; `script` and `map` read their numbers by this, and so do
+//! the crates above.
 ghost use Rattle.std.specs.Prelude.{◌≡◌, ◌≤◌, ◌+◌, ◌*◌, ◌^◌, IfSome, IfNone, true};
 ghost use Rattle.std.specs.Char.{digit_value, is_ascii_digit};
 ghost use Rattle.std.specs.List.{list_all};
@@ -12,7 +13,7 @@ use ddr_trace::number::MOST_DIGITS;
 /// The number that the field spells, where it is at most `most`: 1 to 20 decimal digits, leading zeros among them,
 /// with no sign and no space. None where the field is of another form, or its number is greater.
 #[tactic(auto, unfolding(ddr_trace::specs::Numbers::number_of))]
-pub(crate) fn number_in(field: &[u8], most: u64) -> Option<u64>
+pub fn number_in(field: &[u8], most: u64) -> Option<u64>
     ensures exact { result ≡ number_of most field.now }
     ensures small { IfSome result (λ number. number ≤ most) }
 {

@@ -1,12 +1,14 @@
 //! What ends the program before its command is done.
 //!
-//! `fault` and `clap` stand below, and the program above, which prints it.
+//! `fault`, `misuse` and `job` stand below, and the program above, which prints it.
 ghost use Rattle.std.specs.Prelude.{◌≡◌};
 ghost use Rattle.ddr_text.specs.declared.fault.Fault.TheVariants as faults;
 ghost use Rattle.ddr_text.specs.declared.ending.Ending.TheVariants as endings;
-ghost use Rattle.ddr_text.specs.Ending.{IsEndingBy, status_of};
+ghost use Rattle.ddr_text.specs.Ending.{IsEndingBy, IsEndingByWords, status_of};
 
 use crate::fault::Fault;
+use crate::job::JobError;
+use crate::misuse::Misuse;
 use clap::error::ErrorKind;
 use std::alloc::AllocError;
 
@@ -17,6 +19,8 @@ pub enum Ending {
     NotText,
     /// The words are of no command, or ask for help.
     Words(clap::Error),
+    /// An option would have no effect.
+    Misuse(Misuse),
     Fault(Fault),
 }
 
@@ -26,7 +30,7 @@ impl Ending {
         ensures { result ≡ status_of self.now }
     {
         match self {
-            Ending::NotText | Ending::Words(_) => 2,
+            Ending::NotText | Ending::Words(_) | Ending::Misuse(_) => 2,
             Ending::Fault(fault) => fault.status(),
         }
     }
@@ -48,14 +52,24 @@ impl From<AllocError> for Ending {
     }
 }
 
-impl From<clap::Error> for Ending {
+impl From<JobError> for Ending {
     ghost from_gives = { λ error ending. IsEndingBy error ending };
 
-    fn from(error: clap::Error) -> Ending {
-        if error.kind() == ErrorKind::OutOfMemory {
-            Ending::Fault(Fault::OutOfMemory)
-        } else {
-            Ending::Words(error)
+    fn from(error: JobError) -> Ending {
+        match error {
+            JobError::Words(words) => ending_by_words(words),
+            JobError::Misuse(misuse) => Ending::Misuse(misuse),
         }
+    }
+}
+
+/// The ending by an error of `clap`.
+fn ending_by_words(error: clap::Error) -> Ending
+    ensures { IsEndingByWords error result }
+{
+    if error.kind() == ErrorKind::OutOfMemory {
+        Ending::Fault(Fault::OutOfMemory)
+    } else {
+        Ending::Words(error)
     }
 }

@@ -46,18 +46,24 @@ pub enum Fault {
     MapLine { line: u64 },
     /// A line of a request stream is of no form that is read, or names a port that is not there. Lines count from 1,
     /// behind the line `---`, skipped ones too.
-    #[error("replay line {line}")]
-    ReplayLine { line: u64 },
+    #[error("replay line {line} {cause}")]
+    ReplayLine { line: u64, cause: LineFault },
     /// The address of a line of a request stream is not below the memory's capacity. Lines count as above.
     #[error("replay line {line} OutOfRange")]
     ReplayRange { line: u64 },
     /// The replay of a request stream needs more cycles than are made.
     #[error("replay limit")]
     ReplayLimit,
+    /// From this cycle on nothing of a replay goes on, though requests are left.
+    #[error("replay stuck at cycle {cycle}")]
+    ReplayStuck { cycle: u64 },
+    /// From this cycle on nothing of a run in threads goes on, though requests are left.
+    #[error("run stuck at cycle {cycle}")]
+    RunStuck { cycle: u64 },
     /// A line of captured commands is of no form that is read, or names a channel that is not there. Lines count from 1, behind
     /// the line `---`, skipped ones too.
-    #[error("capture line {line}")]
-    CaptureLine { line: u64 },
+    #[error("capture line {line} {cause}")]
+    CaptureLine { line: u64, cause: LineFault },
     /// An END is not behind all captured commands, or a line stands behind END. Lines count as above.
     #[error("capture line {line} Order")]
     CaptureOrder { line: u64 },
@@ -76,9 +82,12 @@ pub enum Fault {
     /// The trace has more than 65,536 commands.
     #[error("trace TooLong")]
     TraceTooLong,
-    /// A trace is asked for of a channel that is not there.
+    /// A channel is asked for that is not there.
     #[error("trace NoSuch")]
     TraceNoSuch,
+    /// A trace is too long to be drawn whole.
+    #[error("trace TooLong, draw a part with --from and --to")]
+    DrawTooLong,
     /// The script has more requests than are taken, or needs more rounds than are made.
     #[error("script limit")]
     ScriptLimit,
@@ -100,6 +109,33 @@ pub enum Fault {
     /// The system gave too few threads.
     #[error("threads refused")]
     ThreadsRefused,
+}
+
+/// What is wrong with a line of a request stream or of captured commands. The first that applies is told.
+#[derive(Clone, Copy, Debug, PartialEq, Eq, Error)]
+pub enum LineFault {
+    /// The line has more than 4,096 bytes.
+    #[error("TooLong")]
+    TooLong,
+    /// The line is no text.
+    #[error("NotUtf8")]
+    NotUtf8,
+    /// A space stands before the first field or behind the last, where the form has none.
+    #[error("Spaces")]
+    Spaces,
+    /// There are not as many fields as the form has.
+    #[error("Fields")]
+    Fields,
+    /// The word is neither a read nor a write, or names no command.
+    #[error("Word")]
+    Word,
+    /// A field is not the number that the form wants there: it is of no form that is read, too great, left out where a number is
+    /// needed, or filled where none is.
+    #[error("Number")]
+    Number,
+    /// The port or the channel is not there.
+    #[error("NoSuch")]
+    NoSuch,
 }
 
 /// Why no port takes a request. The first that applies is told.
@@ -146,11 +182,14 @@ impl Fault {
             | Fault::TraceTruncated
             | Fault::TraceTooLong
             | Fault::TraceNoSuch
+            | Fault::DrawTooLong
             | Fault::ScriptLimit => 2,
             Fault::Read
             | Fault::Write
             | Fault::OutOfMemory
             | Fault::NotDrained
+            | Fault::ReplayStuck { .. }
+            | Fault::RunStuck { .. }
             | Fault::ClockSpent
             | Fault::PortBroken
             | Fault::ThreadsRefused => 3,

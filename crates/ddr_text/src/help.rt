@@ -83,8 +83,9 @@ Output: `legal`, or `fault PLACE RULE`, where PLACE counts the commands from 0. 
   read in one pass, and a verdict on each channel tells its first fault. Their lines are
   those of a trace; with --dramsim3 those of the command trace that DRAMSim3 writes, and
   with --ramulator2 those of Ramulator 2's trace recorder. The first cycle is 0, or that
-  of --start. --dramsim3, --ramulator2 and --start each ask for --stream, and next to
-  these --explain, --all and --most ask for nothing.
+  of --start. These two write a file for each channel: --channel C judges one as that of
+  channel C. --dramsim3, --ramulator2, --start and --channel each ask for --stream; none
+  of them goes with --explain, --all or --most, and --channel needs one of the two forms.
 Status: 0 where the trace is legal; 1 where it is not; 2 for a bad input or command
   line; 3 where the device or the memory fails.
 
@@ -98,7 +99,7 @@ Input: a configuration, a line `---` and a trace; with --sample the trace alone.
 Output: a value change dump (IEEE 1364), which a wave viewer shows: what stands on the
   command bus and on the data bus, and which banks have a row open, cycle by cycle.
   With --svg a timeline as SVG in its place, of the commands from the cycle of --from on
-  and before that of --to. Without --svg these two ask for nothing.
+  and before that of --to; these two need --svg.
 Status: 0; 2 for a bad input or command line; 3 where the device or the memory fails.
 
 To paste:

@@ -1,43 +1,81 @@
 //! What the command line asks for.
 //!
-//! `command`, `help` and `clap` stand below, and the program above.
+//! `command`, `options`, `misuse`, `help` and `clap` stand below, and the program above.
 ghost use Rattle.std.specs.Prelude.{◌≡◌, ◌≤◌, IfOk, IsTrue, None, Ok, codes, false, length, map, true};
 ghost use Rattle.clap.specs.Words.{app_of, found_of, rows_of, rule_of, with_rule, with_subcommand};
 ghost use Rattle.clap.specs.declared.Command.TheViews.{out-Command as settings_of};
-ghost use Rattle.ddr_text.specs.Job.{Answers, AreTaken, channel_of, check_app, check_job, cycle_rule, ddr_app, draw_app, faults_job, flag_rule, format_of, is_streamed, is_subcommand, is_used, job_of, job_with, most_of, name_alone, number_in, number_rule, picture_of, reading_of, replay_app, start_of, told_of, trace_rule, with_capture, with_faults, with_reading, with_sample, with_telling};
+ghost use Rattle.ddr_text.specs.Job.{Answers, AreTaken, Reads, check_app, check_job, cycle_rule, ddr_app, draw_app, faults_job, flag_rule, format_of, is_subcommand, job_of, job_with, name_alone, number_rule, picture_of, reading_of, replay_app, said_by, told_of, trace_rule, with_capture, with_faults, with_reading, with_sample, with_telling};
 
 use crate::command::{Format, Job, Picture, Reading, Told};
 use crate::help;
+use crate::misuse::{Misuse, misuse_of};
+use crate::options::{
+    channel_of, from_of, is_all, is_explained, is_of_dramsim3, is_of_ramulator2, is_of_requests,
+    is_progress, is_sample, is_spread, is_streamed, is_svg, is_wrapped, most_of, start_of, to_of,
+    trace_of,
+};
 use clap::{Arg, ArgAction, ArgMatches, Command, Error, value_parser};
 use std::alloc::{AllocError, Global};
+
+/// Why words state no job.
+#[derive(Debug, Drop)]
+pub enum JobError {
+    /// The words are of another form, they ask for help, or memory ran out. The `Display` is the text for the user.
+    Words(Error),
+    /// An option would have no effect.
+    Misuse(Misuse),
+}
 
 /// The job that the words of a command line state, of which the first is the program's name.
 ///
 /// The subcommands are `sim`, `run`, `replay`, `check`, `draw`, `map` and `lint`. Each has the flag `--sample`, `sim` the option `--trace C`
 /// with the number of a channel, a `u32`, and `check` the flags `--explain` and `--all` and the option `--most N` with a `u32`, which
-/// asks for all faults too. `replay` has the flags `--dramsim3` and `--ramulator2`, of which the first goes before the second,
-/// `--spread`, `--wrap`, `--requests` and `--progress`, and `--trace C`, which goes before `--requests`. `check` has the flags `--stream`,
-/// `--dramsim3` and `--ramulator2` and the option `--start CYCLE` with a `u64` too: each of them asks for captured commands, and goes
-/// before `--explain`, `--all` and `--most`. `draw` has the flag `--svg`, without which its options `--from CYCLE` and `--to CYCLE`
-/// ask for nothing. No words, or the name alone, are read as `sim --sample`.
+/// asks for all faults too. `replay` has the flags `--dramsim3`, `--ramulator2`, `--spread`, `--wrap`, `--requests` and `--progress`, and
+/// `--trace C`. `check` has the flags `--stream`, `--dramsim3` and `--ramulator2` and the options `--start CYCLE` with a `u64` and
+/// `--channel C` with a `u32` too: each of them asks for captured commands. `draw` has the flag `--svg` and the options `--from CYCLE` and
+/// `--to CYCLE`. No words, or the name alone, are read as `sim --sample`.
 ///
-/// Fails with an error of `clap`, whose `Display` is the text for the user, where the words are of another form,
-/// where they ask for help, and where memory runs out.
-pub fn job(alloc: Global, words: &[&str]) -> Result<Job, Error>
+/// Fails as `Words` where the words are of another form, where they ask for help, and where memory runs out, and else as `Misuse`
+/// where an option would have no effect.
+pub fn job(alloc: Global, words: &[&str]) -> Result<Job, JobError>
     ensures said { Answers result (job_of (map (λ word. word.now) words.now)) }
     ensures alone { length words.now ≤ 1 → result ≡ Ok (Job.Sim true None) }
 {
+    match stated(alloc, words) {
+        Ok(Ok(job)) => Ok(job),
+        Ok(Err(misuse)) => Err(JobError::Misuse(misuse)),
+        Err(error) => Err(JobError::Words(error)),
+    }
+}
+
+/// The job that the words state, or the option that would have no effect.
+fn stated(alloc: Global, words: &[&str]) -> Result<Result<Job, Misuse>, Error>
+    ensures said { Reads result (job_of (map (λ word. word.now) words.now)) }
+    ensures alone { length words.now ≤ 1 → result ≡ Ok (Ok (Job.Sim true None)) }
+{
     if words.len() <= 1 {
-        return Ok(Job::Sim {
+        return Ok(Ok(Job::Sim {
             sample: true,
             trace: None,
-        });
+        }));
     }
     let matches = command(alloc)?.try_get_matches_from(words)?;
     let Some((name, options)) = matches.subcommand() else {
         unreachable!()
     };
-    Ok(job_with(name, options))
+    Ok(said_by(name, options))
+}
+
+/// What a subcommand with these options says: its job, or the option that would have no effect.
+fn said_by(name: &str, options: &ArgMatches<'_>) -> Result<Job, Misuse>
+    requires named { IsTrue (is_subcommand name.now) }
+    requires taken { AreTaken (rows_of (found_of options.now)) }
+    ensures { result ≡ said_by name.now (rows_of (found_of options.now)) }
+{
+    match misuse_of(name, options) {
+        Some(misuse) => Err(misuse),
+        None => Ok(job_with(name, options)),
+    }
 }
 
 /// The job of a subcommand with these options.
@@ -50,7 +88,7 @@ fn job_with(name: &str, options: &ArgMatches<'_>) -> Job
     match name {
         "sim" => Job::Sim {
             sample,
-            trace: channel_of(options),
+            trace: trace_of(options),
         },
         "run" => Job::Run { sample },
         "replay" => Job::Replay {
@@ -80,6 +118,7 @@ fn check_job(options: &ArgMatches<'_>, sample: bool) -> Job
             sample,
             format: format_of(options),
             start: start_of(options).unwrap_or(0),
+            channel: channel_of(options),
         }
     } else {
         faults_job(options, sample)
@@ -101,17 +140,6 @@ fn faults_job(options: &ArgMatches<'_>, sample: bool) -> Job
     }
 }
 
-/// Whether the options ask for captured commands to be checked.
-fn is_streamed(options: &ArgMatches<'_>) -> bool
-    requires { AreTaken (rows_of (found_of options.now)) }
-    ensures { result ≡ is_streamed (rows_of (found_of options.now)) }
-{
-    is_stream(options)
-        || is_of_dramsim3(options)
-        || is_of_ramulator2(options)
-        || start_of(options).is_some()
-}
-
 /// What the options ask `draw` for.
 fn picture_of(options: &ArgMatches<'_>) -> Picture
     requires { AreTaken (rows_of (found_of options.now)) }
@@ -125,54 +153,6 @@ fn picture_of(options: &ArgMatches<'_>) -> Picture
     } else {
         Picture::Waves
     }
-}
-
-/// Whether the flag `--stream` was used.
-fn is_stream(options: &ArgMatches<'_>) -> bool
-    requires { AreTaken (rows_of (found_of options.now)) }
-    ensures { result ≡ is_used (codes "stream") (rows_of (found_of options.now)) }
-{
-    options.get_flag("stream")
-}
-
-/// The cycle of the option `--start`, if that was used.
-fn start_of(options: &ArgMatches<'_>) -> Option<u64>
-    requires { AreTaken (rows_of (found_of options.now)) }
-    ensures { result ≡ start_of (rows_of (found_of options.now)) }
-{
-    options.get_one::<u64>("start")
-}
-
-/// Whether the flag `--svg` was used.
-fn is_svg(options: &ArgMatches<'_>) -> bool
-    requires { AreTaken (rows_of (found_of options.now)) }
-    ensures { result ≡ is_used (codes "svg") (rows_of (found_of options.now)) }
-{
-    options.get_flag("svg")
-}
-
-/// The cycle of the option `--from`, if that was used.
-fn from_of(options: &ArgMatches<'_>) -> Option<u64>
-    requires { AreTaken (rows_of (found_of options.now)) }
-    ensures { result ≡ number_in (codes "from") (rows_of (found_of options.now)) }
-{
-    options.get_one::<u64>("from")
-}
-
-/// The cycle of the option `--to`, if that was used.
-fn to_of(options: &ArgMatches<'_>) -> Option<u64>
-    requires { AreTaken (rows_of (found_of options.now)) }
-    ensures { result ≡ number_in (codes "to") (rows_of (found_of options.now)) }
-{
-    options.get_one::<u64>("to")
-}
-
-/// Whether the flag `--progress` was used.
-fn is_progress(options: &ArgMatches<'_>) -> bool
-    requires { AreTaken (rows_of (found_of options.now)) }
-    ensures { result ≡ is_used (codes "progress") (rows_of (found_of options.now)) }
-{
-    options.get_flag("progress")
 }
 
 /// How the options say that a stream is read.
@@ -201,96 +181,16 @@ fn format_of(options: &ArgMatches<'_>) -> Format
     }
 }
 
-/// Whether the flag `--dramsim3` was used.
-fn is_of_dramsim3(options: &ArgMatches<'_>) -> bool
-    requires { AreTaken (rows_of (found_of options.now)) }
-    ensures { result ≡ is_used (codes "dramsim3") (rows_of (found_of options.now)) }
-{
-    options.get_flag("dramsim3")
-}
-
-/// Whether the flag `--ramulator2` was used.
-fn is_of_ramulator2(options: &ArgMatches<'_>) -> bool
-    requires { AreTaken (rows_of (found_of options.now)) }
-    ensures { result ≡ is_used (codes "ramulator2") (rows_of (found_of options.now)) }
-{
-    options.get_flag("ramulator2")
-}
-
-/// Whether the flag `--spread` was used.
-fn is_spread(options: &ArgMatches<'_>) -> bool
-    requires { AreTaken (rows_of (found_of options.now)) }
-    ensures { result ≡ is_used (codes "spread") (rows_of (found_of options.now)) }
-{
-    options.get_flag("spread")
-}
-
 /// What the options ask a replay for.
 fn told_of(options: &ArgMatches<'_>) -> Told
     requires { AreTaken (rows_of (found_of options.now)) }
     ensures { result ≡ told_of (rows_of (found_of options.now)) }
 {
-    match channel_of(options) {
+    match trace_of(options) {
         Some(channel) => Told::Trace { channel },
         None if is_of_requests(options) => Told::Requests,
         None => Told::Statistics,
     }
-}
-
-/// Whether the flag `--wrap` was used.
-fn is_wrapped(options: &ArgMatches<'_>) -> bool
-    requires { AreTaken (rows_of (found_of options.now)) }
-    ensures { result ≡ is_used (codes "wrap") (rows_of (found_of options.now)) }
-{
-    options.get_flag("wrap")
-}
-
-/// Whether the flag `--requests` was used.
-fn is_of_requests(options: &ArgMatches<'_>) -> bool
-    requires { AreTaken (rows_of (found_of options.now)) }
-    ensures { result ≡ is_used (codes "requests") (rows_of (found_of options.now)) }
-{
-    options.get_flag("requests")
-}
-
-/// Whether the flag `--all` was used.
-fn is_all(options: &ArgMatches<'_>) -> bool
-    requires { AreTaken (rows_of (found_of options.now)) }
-    ensures { result ≡ is_used (codes "all") (rows_of (found_of options.now)) }
-{
-    options.get_flag("all")
-}
-
-/// The number of the option `--most`, if that was used.
-fn most_of(options: &ArgMatches<'_>) -> Option<u32>
-    requires { AreTaken (rows_of (found_of options.now)) }
-    ensures { result ≡ most_of (rows_of (found_of options.now)) }
-{
-    options.get_one::<u32>("most")
-}
-
-/// Whether the flag `--explain` was used.
-fn is_explained(options: &ArgMatches<'_>) -> bool
-    requires { AreTaken (rows_of (found_of options.now)) }
-    ensures { result ≡ is_used (codes "explain") (rows_of (found_of options.now)) }
-{
-    options.get_flag("explain")
-}
-
-/// Whether the flag `--sample` was used.
-fn is_sample(options: &ArgMatches<'_>) -> bool
-    requires { AreTaken (rows_of (found_of options.now)) }
-    ensures { result ≡ is_used (codes "sample") (rows_of (found_of options.now)) }
-{
-    options.get_flag("sample")
-}
-
-/// The channel of the option `--trace`, if that was used.
-fn channel_of(options: &ArgMatches<'_>) -> Option<u32>
-    requires { AreTaken (rows_of (found_of options.now)) }
-    ensures { result ≡ channel_of (rows_of (found_of options.now)) }
-{
-    options.get_one::<u32>("trace")
 }
 
 /// The command line as `clap` reads it: the program with its subcommands.
@@ -426,7 +326,9 @@ fn with_capture<'a>(alloc: Global, command: Command<'a>) -> Result<Command<'a>, 
     let about = "Reads that of Ramulator 2's trace recorder; means --stream too";
     let with_ramulator2 = with_dramsim3.arg(flag(alloc, "ramulator2", about))?;
     let about = "Begins in this cycle, and not in cycle 0; means --stream too";
-    with_ramulator2.arg(cycle_option(alloc, "start", about))
+    let with_start = with_ramulator2.arg(cycle_option(alloc, "start", about))?;
+    let about = "Judges this channel alone, whose capture it is; means --stream too";
+    with_start.arg(number_option(alloc, "channel", "CHANNEL", about))
 }
 
 /// The command with the subcommand that draws a trace, which has options of its own.

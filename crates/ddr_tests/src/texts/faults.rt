@@ -1,7 +1,8 @@
 //! The texts of the faults, and the statuses that they end the program with.
 use ddr_text::ending::Ending;
-use ddr_text::fault::{Fault, RequestError};
+use ddr_text::fault::{Fault, LineFault, RequestError};
 use ddr_text::job::job;
+use ddr_text::misuse::Misuse;
 use ddr_timing::key::Key;
 use std::alloc::{AllocError, Global};
 use std::process::Abort;
@@ -43,25 +44,34 @@ const TOLD: &[(Fault, &str, u8)] = &[
     (Fault::ScriptLine { line: 12 }, "script line 12", 2),
     (Fault::ScriptLimit, "script limit", 2),
     (Fault::MapLine { line: 12 }, "map line 12", 2),
-    (Fault::ReplayLine { line: 12 }, "replay line 12", 2),
     (
         Fault::ReplayRange { line: 12 },
         "replay line 12 OutOfRange",
         2,
     ),
     (Fault::ReplayLimit, "replay limit", 2),
-    (Fault::CaptureLine { line: 12 }, "capture line 12", 2),
     (Fault::CaptureOrder { line: 12 }, "capture line 12 Order", 2),
     // Of a trace.
     (Fault::TraceHeader, "trace Header", 2),
     (Fault::TraceTruncated, "trace Truncated", 2),
     (Fault::TraceTooLong, "trace TooLong", 2),
     (Fault::TraceNoSuch, "trace NoSuch", 2),
+    (
+        Fault::DrawTooLong,
+        "trace TooLong, draw a part with --from and --to",
+        2,
+    ),
     // Of the device.
     (Fault::Read, "read failed", 3),
     (Fault::Write, "write failed", 3),
     (Fault::OutOfMemory, "out of memory", 3),
     (Fault::NotDrained, "core not drained", 3),
+    (
+        Fault::ReplayStuck { cycle: 12 },
+        "replay stuck at cycle 12",
+        3,
+    ),
+    (Fault::RunStuck { cycle: 12 }, "run stuck at cycle 12", 3),
     (Fault::ClockSpent, "clock spent", 3),
     (Fault::PortBroken, "port broken", 3),
     (Fault::ThreadsRefused, "threads refused", 3),
@@ -117,6 +127,32 @@ fn faults_of_requests(rt: HostRuntime) -> Result<(), Fail> {
     Ok(())
 }
 
+/// What is wrong with a line, and its text.
+const LINE_FAULTS: &[(LineFault, &str)] = &[
+    (LineFault::TooLong, "TooLong"),
+    (LineFault::NotUtf8, "NotUtf8"),
+    (LineFault::Spaces, "Spaces"),
+    (LineFault::Fields, "Fields"),
+    (LineFault::Word, "Word"),
+    (LineFault::Number, "Number"),
+    (LineFault::NoSuch, "NoSuch"),
+];
+
+#[test]
+fn faults_of_lines(rt: HostRuntime) -> Result<(), Fail> {
+    let alloc = rt.alloc();
+    for (cause, text) in LINE_FAULTS {
+        let cause = *cause;
+        let replay = format!(in alloc; "replay line 12 {text}")?;
+        let fault = Fault::ReplayLine { line: 12, cause };
+        is_told(&rt, alloc, fault, replay.as_str(), 2)?;
+        let capture = format!(in alloc; "capture line 12 {text}")?;
+        let fault = Fault::CaptureLine { line: 12, cause };
+        is_told(&rt, alloc, fault, capture.as_str(), 2)?;
+    }
+    Ok(())
+}
+
 #[test]
 fn statuses_of_what_ends_the_program(rt: HostRuntime) {
     assert_eq!(rt; Ending::NotText.status(), 2);
@@ -126,4 +162,5 @@ fn statuses_of_what_ends_the_program(rt: HostRuntime) {
     let unknown = job(rt.alloc(), ["ddr", "erase"].as_slice());
     let status = unknown.err().map(|error| Ending::from(error).status());
     assert_eq!(rt; status, Some(2));
+    assert_eq!(rt; Ending::Misuse(Misuse::TwoForms).status(), 2);
 }

@@ -1,7 +1,8 @@
 //! Command lines, and the jobs that they state.
 use clap::error::ErrorKind;
 use ddr_text::command::{Format, Job, Picture, Reading, Told};
-use ddr_text::job::job;
+use ddr_text::job::{JobError, job};
+use ddr_text::misuse::Misuse;
 use std::alloc::{AllocError, Global};
 use std::process::Abort;
 use std::test::Fail;
@@ -25,8 +26,22 @@ fn states(rt: &impl Abort, alloc: Global, line: &str, wanted: Job) -> Result<(),
 /// That a command line gives an error of this kind.
 fn gives(rt: &impl Abort, alloc: Global, line: &str, kind: ErrorKind) -> Result<(), Fail> {
     let words = words_of(alloc, line)?;
-    let given = job(alloc, words.as_slice()).err();
-    assert_eq!(rt; given.map(|error| error.kind()), Some(kind), "{line:?}");
+    let given = match job(alloc, words.as_slice()) {
+        Err(JobError::Words(error)) => Some(error.kind()),
+        _ => None,
+    };
+    assert_eq!(rt; given, Some(kind), "{line:?}");
+    Ok(())
+}
+
+/// That a command line has an option that would have no effect.
+fn misuses(rt: &impl Abort, alloc: Global, line: &str, misuse: Misuse) -> Result<(), Fail> {
+    let words = words_of(alloc, line)?;
+    let given = match job(alloc, words.as_slice()) {
+        Err(JobError::Misuse(misuse)) => Some(misuse),
+        _ => None,
+    };
+    assert_eq!(rt; given, Some(misuse), "{line:?}");
     Ok(())
 }
 
@@ -110,6 +125,7 @@ const ERRORS: &[(&str, ErrorKind)] = &[
     ("ddr check --svg", ErrorKind::UnknownArgument),
     ("ddr replay --stream", ErrorKind::UnknownArgument),
     ("ddr draw --start 1", ErrorKind::UnknownArgument),
+    ("ddr replay --channel 1", ErrorKind::UnknownArgument),
     ("ddr trace", ErrorKind::InvalidSubcommand),
     ("ddr SIM", ErrorKind::InvalidSubcommand),
     ("ddr ", ErrorKind::InvalidSubcommand),
@@ -127,6 +143,8 @@ const ERRORS: &[(&str, ErrorKind)] = &[
         "ddr check --start 18446744073709551616",
         ErrorKind::ValueValidation,
     ),
+    ("ddr check --channel x", ErrorKind::ValueValidation),
+    ("ddr check --channel 4294967296", ErrorKind::ValueValidation),
     ("ddr draw --from 0x1", ErrorKind::ValueValidation),
     ("ddr draw --svg --to", ErrorKind::InvalidValue),
     ("ddr sim --all", ErrorKind::UnknownArgument),
@@ -144,8 +162,7 @@ const OWN: Reading = Reading {
     wrap: false,
 };
 
-/// Words behind `ddr replay`, how they say that a stream is read, and what they ask for. `--dramsim3` goes before `--ramulator2`, and
-/// `--trace` before `--requests`.
+/// Words behind `ddr replay`, how they say that a stream is read, and what they ask for.
 const REPLAYS: &[(&str, Reading, Told)] = &[
     ("--sample", OWN, Told::Statistics),
     (
@@ -166,7 +183,7 @@ const REPLAYS: &[(&str, Reading, Told)] = &[
         Told::Statistics,
     ),
     (
-        "--ramulator2 --dramsim3 --wrap --sample --requests",
+        "--dramsim3 --wrap --sample --requests",
         Reading {
             format: Format::Dramsim3,
             spread: false,
@@ -174,15 +191,11 @@ const REPLAYS: &[(&str, Reading, Told)] = &[
         },
         Told::Requests,
     ),
+    ("--trace 3 --sample", OWN, Told::Trace { channel: 3 }),
     (
-        "--trace 3 --sample --requests",
-        OWN,
-        Told::Trace { channel: 3 },
-    ),
-    (
-        "--sample --spread --wrap --trace=0",
+        "--sample --spread --wrap --trace=0 --dramsim3",
         Reading {
-            format: Format::Own,
+            format: Format::Dramsim3,
             spread: true,
             wrap: true,
         },
@@ -223,34 +236,42 @@ fn progress(rt: HostRuntime) -> Result<(), Fail> {
     states(&rt, rt.alloc(), "ddr replay --progress --requests", told)
 }
 
-/// Words behind `ddr check` that ask for captured commands, their format, and their first cycle. Each of the four asks for that by itself,
-/// next to them `--explain`, `--all` and `--most` ask for nothing, and `--dramsim3` goes before `--ramulator2`.
-const STREAMS: &[(&str, Format, u64)] = &[
-    ("--stream", Format::Own, 0),
-    ("--dramsim3", Format::Dramsim3, 0),
-    ("--ramulator2", Format::Ramulator2, 0),
-    ("--ramulator2 --stream --dramsim3", Format::Dramsim3, 0),
-    ("--start 12", Format::Own, 12),
-    ("--start=0", Format::Own, 0),
+/// Words behind `ddr check` that ask for captured commands, their format, their first cycle, and the channel whose they are. Each of the
+/// five asks for that by itself.
+const STREAMS: &[(&str, Format, u64, Option<u32>)] = &[
+    ("--stream", Format::Own, 0, None),
+    ("--dramsim3", Format::Dramsim3, 0, None),
+    ("--ramulator2", Format::Ramulator2, 0, None),
+    ("--stream --dramsim3", Format::Dramsim3, 0, None),
+    ("--start 12", Format::Own, 12, None),
+    ("--start=0", Format::Own, 0, None),
+    ("--start 007", Format::Own, 7, None),
     (
         "--ramulator2 --start=18446744073709551615",
         Format::Ramulator2,
         18_446_744_073_709_551_615,
+        None,
     ),
-    ("--all --stream --most 3 --explain", Format::Own, 0),
-    ("--explain --start 007", Format::Own, 7),
+    ("--channel 0 --dramsim3", Format::Dramsim3, 0, Some(0)),
+    (
+        "--ramulator2 --start 3 --channel=4294967295",
+        Format::Ramulator2,
+        3,
+        Some(4_294_967_295),
+    ),
 ];
 
 #[test]
 fn streams(rt: HostRuntime) -> Result<(), Fail> {
     let alloc = rt.alloc();
-    for (words, format, start) in STREAMS {
-        let (format, start) = (*format, *start);
+    for (words, format, start, channel) in STREAMS {
+        let (format, start, channel) = (*format, *start, *channel);
         let line = format!(in alloc; "ddr check {words}")?;
         let wanted = Job::Stream {
             sample: false,
             format,
             start,
+            channel,
         };
         states(&rt, alloc, line.as_str(), wanted)?;
         let line = format!(in alloc; "ddr check {words} --sample")?;
@@ -258,16 +279,16 @@ fn streams(rt: HostRuntime) -> Result<(), Fail> {
             sample: true,
             format,
             start,
+            channel,
         };
         states(&rt, alloc, line.as_str(), wanted)?;
     }
     Ok(())
 }
 
-/// Words behind `ddr draw`, and what is drawn. Without `--svg` `--from` and `--to` ask for nothing.
+/// Words behind `ddr draw`, and what is drawn.
 const PICTURES: &[(&str, Picture)] = &[
     ("--sample", Picture::Waves),
-    ("--from 1 --sample --to 9", Picture::Waves),
     (
         "--sample --svg",
         Picture::Lanes {
@@ -337,6 +358,46 @@ fn all_faults(rt: HostRuntime) -> Result<(), Fail> {
     Ok(())
 }
 
+/// Command lines with an option that would have no effect, the first one of each.
+const MISUSES: &[(&str, Misuse)] = &[
+    ("ddr replay --dramsim3 --ramulator2", Misuse::TwoForms),
+    (
+        "ddr replay --ramulator2 --trace 0 --dramsim3 --requests",
+        Misuse::TwoForms,
+    ),
+    ("ddr replay --sample --spread", Misuse::SpreadOfOwnForm),
+    (
+        "ddr replay --spread --wrap --trace 0 --requests",
+        Misuse::SpreadOfOwnForm,
+    ),
+    (
+        "ddr replay --requests --trace 1 --ramulator2",
+        Misuse::RequestsBesideTrace,
+    ),
+    ("ddr check --dramsim3 --ramulator2 --all", Misuse::TwoForms),
+    ("ddr check --stream --explain", Misuse::FaultsOfCapture),
+    ("ddr check --all --ramulator2", Misuse::FaultsOfCapture),
+    ("ddr check --most 3 --start 0", Misuse::FaultsOfCapture),
+    ("ddr check --most=0 --dramsim3", Misuse::FaultsOfCapture),
+    ("ddr check --channel 1 --explain", Misuse::FaultsOfCapture),
+    ("ddr check --channel 0", Misuse::ChannelOfOwnForm),
+    (
+        "ddr check --sample --stream --start 5 --channel 1",
+        Misuse::ChannelOfOwnForm,
+    ),
+    ("ddr draw --from 1 --sample --to 9", Misuse::PartOfWaves),
+    ("ddr draw --from 0", Misuse::PartOfWaves),
+    ("ddr draw --to=7", Misuse::PartOfWaves),
+];
+
+#[test]
+fn misused(rt: HostRuntime) -> Result<(), Fail> {
+    for (line, misuse) in MISUSES {
+        misuses(&rt, rt.alloc(), line, *misuse)?;
+    }
+    Ok(())
+}
+
 #[test]
 fn errors(rt: HostRuntime) -> Result<(), Fail> {
     for (line, kind) in ERRORS {
@@ -375,7 +436,9 @@ const TEXTS: &[(&str, &str)] = &[
 /// That a command line gives an error whose text begins with this line.
 fn says(rt: &impl Abort, alloc: Global, line: &str, text: &str) -> Result<(), Fail> {
     let words = words_of(alloc, line)?;
-    let error = job(alloc, words.as_slice()).err().ok_or("an error")?;
+    let Err(JobError::Words(error)) = job(alloc, words.as_slice()) else {
+        return Err(Fail::new("no error"));
+    };
     let whole = error.to_string(alloc)?;
     assert_eq!(rt; whole.as_str().lines().next(), Some(text), "{line:?}");
     Ok(())
