@@ -2,7 +2,7 @@
 //!
 //! Below stand the program's texts (`ddr_text`) and the core (`ddr_world`), and of what the core stands on `ddr_timing`,
 //! `ddr_trace`, `ddr_address_map`, `ddr_ports`, `ddr_reorder` and `ddr_channel`. Above stand `ddr_tool`, whose command line
-//! asks for `sim`, and `ddr_run`, which prints replies as `reply` does. `simulation` runs a script, whose replies `line` puts
+//! asks for `sim`, and `ddr_replay`, which goes by the same rounds. `simulation` runs a script, whose replies `line` puts
 //! together and whose traces `trace`, and `sim` reads it first, over a reader and a writer.
 #![tactic(auto)]
 

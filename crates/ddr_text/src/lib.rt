@@ -1,7 +1,8 @@
 //! The program's texts: the words of its command line, its inputs, its faults, and the two commands that need no core.
 //!
-//! Below stand `ddr_timing`, `ddr_trace`, `ddr_legality` and `ddr_address_map`, and the words of `ddr_ports`; above stand
-//! `ddr_sim` and `ddr_run`, the two other commands, and `ddr_tool`, which performs what is asked for. `job` says which
+//! Below stand `ddr_timing`, `ddr_trace`, `ddr_legality` and `ddr_address_map`, the words of `ddr_ports`, and the replies of
+//! `ddr_reorder`, of which `reply` makes lines; above stand the crates of the other commands, and `ddr_tool`, which performs
+//! what is asked for. `job` says which
 //! `command` the words of the command line ask for, with the texts of `help`; `options` are those of a subcommand, and `misuse`
 //! looks for those that would have no effect. An input goes from module to module: `source` is where it comes from, `input`
 //! makes a text of its bytes, `body` takes the configuration off it, `script` reads a line, whose numbers are read by `digits`
