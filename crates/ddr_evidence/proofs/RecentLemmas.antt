@@ -11,7 +11,7 @@ use Rattle.ddr_trace.specs.declared.command.Command.{Command}
 use Rattle.ddr_trace.specs.declared.command.Entry.{Entry}
 use Rattle.ddr_trace.specs.declared.rule.Rule.{Rule}
 use Rattle.ddr_trace.specs.declared.rule.Rule.TheVariants as rule
-use Rattle.ddr_trace.specs.Commands.{is_activate, is_column, is_read, is_refresh, is_same_rank}
+use Rattle.ddr_trace.specs.Commands.{is_activate, is_column, is_read, is_same_rank}
 use Rattle.ddr_trace.specs.Rules.{is_switched_too_soon, is_too_close, latency, rank_switch, some_earlier, spacing_of, speaks_of}
 use Rattle.ddr_evidence.specs.Places.{are_breaking, counts, pair_breaks}
 use Rattle.ddr_evidence.specs.Recent.{is_later, is_of_near, span_of}
@@ -34,18 +34,18 @@ second_of_five true true c d f e = cc
 second_of_five true false c d f e = refl
 second_of_five false b c d f e = refl
 
-none_with : (t : Timing) (r : Rule) (e a : Entry) (between : ℕ) → is_later t r e.command ≡ false → are_breaking t r e a between ≡ false
-none_with t rule.Rtrs e a between wrong = second_of_four (is_column a.command) (is_column e.command) (not (is_same_rank a.command e.command)) _ wrong
-none_with t rule.Faw e a between wrong = second_of_five (is_activate a.command) (is_activate e.command) (is_same_rank a.command e.command) (between == 3) _ wrong
-none_with t rule.RefGap e a between wrong = second_of_five (is_refresh a.command) (is_refresh e.command) (is_same_rank a.command e.command) (between == 0) _ wrong
-none_with t r e a between wrong = second_of_three ((spacing_of t r).earlier a.command) ((spacing_of t r).later e.command) ((spacing_of t r).pairs a.command e.command) (nat_lt e.cycle (a.cycle + (spacing_of t r).at_least)) wrong
+none_with : (t : Timing) (r : Rule) (e a : Entry) (between : ℕ) → is_of_near r ≡ true → is_later t r e.command ≡ false → are_breaking t r e a between ≡ false
+none_with t rule.Rtrs e a between near wrong = second_of_four (is_column a.command) (is_column e.command) (not (is_same_rank a.command e.command)) _ wrong
+none_with t rule.Faw e a between near wrong = second_of_five (is_activate a.command) (is_activate e.command) (is_same_rank a.command e.command) (between == 3) _ wrong
+none_with t rule.RefGap e a between near wrong = cc
+none_with t r e a between near wrong = second_of_three ((spacing_of t r).earlier a.command) ((spacing_of t r).later e.command) ((spacing_of t r).pairs a.command e.command) (nat_lt e.cycle (a.cycle + (spacing_of t r).at_least)) wrong
 
-pub not_later : (t : Timing) (r : Rule) (history : List Entry) (e : Entry) → is_later t r e.command ≡ false → pair_breaks t r history e ≡ false
-not_later t r history e wrong = pair_kept t r history e (λ place. at (slice_get history place) (count_by (counts r e) (drop (place + 1) history)))
+pub not_later : (t : Timing) (r : Rule) (history : List Entry) (e : Entry) → is_of_near r ≡ true → is_later t r e.command ≡ false → pair_breaks t r history e ≡ false
+not_later t r history e near wrong = pair_kept t r history e (λ place. at (slice_get history place) (count_by (counts r e) (drop (place + 1) history)))
   where
     at : (o : Option Entry) (n : ℕ) → option_map_or (λ a. are_breaking t r e a n) o false ≡ false
     at None n = refl
-    at (Some a) n = none_with t r e a n wrong
+    at (Some a) n = none_with t r e a n near wrong
 
 -- ---- an entry far enough before
 

@@ -7,7 +7,7 @@ use Rattle.ddr_trace.specs.declared.command.Command.{Command}
 use Rattle.ddr_trace.specs.declared.command.Entry.{Entry}
 use Rattle.ddr_trace.specs.declared.rule.Rule.{Rule}
 use Rattle.ddr_trace.specs.declared.rule.Rule.TheVariants as rule
-use Rattle.ddr_trace.specs.Commands.{is_activate, is_column, is_precharge, is_refresh, is_same_bank}
+use Rattle.ddr_trace.specs.Commands.{is_activate, is_column, is_precharge, is_same_bank}
 use Rattle.ddr_trace.specs.Rules.{spacing_of}
 
 -- ---- banks
@@ -42,9 +42,8 @@ span_of t rule.Rtrs = max t.cl t.cwl + BURST_CLOCKS + t.rtrs
 span_of t rule.Faw = t.faw
 span_of t r = (spacing_of t r).at_least
 
--- the command is one that may break the rule together with an earlier one
+-- the command is one that may break the rule together with a near earlier one
 abbrev pub is_later : Timing → Rule → Command → Bool
 is_later t rule.Rtrs command = is_column command
 is_later t rule.Faw command = is_activate command
-is_later t rule.RefGap command = is_refresh command
 is_later t r command = (spacing_of t r).later command

@@ -8,7 +8,7 @@ ghost use Rattle.ddr_evidence.specs.Places.{pair_breaks};
 ghost use Rattle.ddr_evidence.specs.Recent.{IsReach, is_later, is_of_near, span_of};
 
 use crate::find::{evidence_of, too_close};
-use crate::kind::{is_activate, is_column, is_of_kind, is_refresh};
+use crate::kind::{is_activate, is_column, is_of_kind};
 use crate::refresh::breaks_gap;
 use crate::state;
 use ddr_timing::config::Config;
@@ -86,7 +86,6 @@ fn is_later(rule: Rule, command: &Command, timing: &Timing) -> bool
     match rule {
         Rule::Rtrs => is_column(command),
         Rule::Faw => is_activate(command),
-        Rule::RefGap => is_refresh(command),
         _ => is_later_of_two(rule, command, timing),
     }
 }

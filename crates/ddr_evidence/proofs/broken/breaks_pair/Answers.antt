@@ -5,7 +5,7 @@ use Rattle.ddr_evidence.proofs.RecentLemmas.{not_later, pair_behind}
 use Rattle.ddr_evidence.proofs.broken.breaks_pair.Goals as goal
 
 pub returns-then-not-is_later : goal.returns-then-not-is_later
-returns-then-not-is_later c = sym (not_later c.args.timing.now c.args.rule c.args.history.now c.args.entry.now (sym c.is_later.ensures ∙ c.if-not-is_later.true))
+returns-then-not-is_later c = sym (not_later c.args.timing.now c.args.rule c.args.history.now c.args.entry.now c.requires.rule (sym c.is_later.ensures ∙ c.if-not-is_later.true))
 
 pub returns : goal.returns
 returns c =
