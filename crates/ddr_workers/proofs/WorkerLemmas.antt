@@ -484,6 +484,19 @@ idle_after k k' (Err cycle.ClockSpent) cycle.ClockSpent is none idle memory noth
 idle_after k k' (Err cycle.ClockSpent) cycle.OutOfMemory is none idle memory nothing = cc
 idle_after k k' (Err cycle.OutOfMemory) e is none idle memory nothing = idle (ap (λ (s : State). choice_of (at_choice s)) (sym none) ∙ nothing) refl
 
+-- what an error says, and what it says where it is want of memory
+pub on_err_of : {T : Type 0} (P : Type 0) (r : Result T CycleError) (e : CycleError) → r ≡ Err e → OnErr r P → P
+on_err_of P (Ok x) e is holds = absurd (let impossible = is in cc)
+on_err_of P (Err x) e is holds = holds
+
+pub wanted_at : {T : Type 0} (P : Type 0) (r : Result T CycleError) (e : CycleError) → r ≡ Err e → (IsErrOf r cycle.OutOfMemory → P) → cause_of e ≡ OutOfMemory → P
+wanted_at P r cycle.ClockSpent is wants memory = absurd (let impossible = memory in cc)
+wanted_at P r cycle.OutOfMemory is wants memory = wants (is_error r is)
+  where
+    is_error : {T : Type 0} (x : Result T CycleError) → x ≡ Err cycle.OutOfMemory → IsErrOf x cycle.OutOfMemory
+    is_error (Ok v) same = absurd (let impossible = same in cc)
+    is_error (Err y) same = cc
+
 -- before the first turn
 
 get_or-replicate : (n k : ℕ) → get_or (replicate n false) k false ≡ false

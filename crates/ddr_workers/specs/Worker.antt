@@ -1,5 +1,5 @@
 -- What contracts see of a worker, and what a worker did with the requests that it took.
-use Rattle.std.specs.Prelude.{◌≡◌, ℕ, ◌+◌, ◌<◌, ◌≤◌, ◌==◌, if◌then◌else◌, Bool, true, List, [], ◌∷◌, ◌++◌, All, length, filter, map, sum_by, Option, Some, None, IsPermutation, slice_get}
+use Rattle.std.specs.Prelude.{◌≡◌, ℕ, ◌+◌, ◌<◌, ◌≤◌, ◌==◌, if◌then◌else◌, Bool, true, List, [], ◌∷◌, ◌++◌, All, length, filter, map, sum_by, Option, Some, None, IsPermutation, IsTrue, slice_get}
 use Rattle.std.specs.List.{range_with_len}
 use Rattle.std.specs.Option.{option_to_list}
 use Rattle.ddr_timing.specs.declared.config.Config.{Config}
@@ -13,6 +13,7 @@ use Rattle.ddr_channel.specs.declared.channel.CycleError.TheVariants as cycle
 use Rattle.ddr_channel.specs.History.{Call, Admit, Cycle, Pop, History, Owner, begun, after_call, run}
 use Rattle.ddr_channel.specs.Kept.{Kept, state_of}
 use Rattle.ddr_channel.specs.Promise.{KeepsPromise, right_answer, owned_entry}
+use Rattle.ddr_channel.specs.Room.{wants_memory}
 use Rattle.ddr_channel.specs.State.{State}
 use Rattle.ddr_workers.specs.declared.completions.Delivery.{Delivery}
 use Rattle.ddr_world.specs.declared.item.Item.{Item}
@@ -105,6 +106,12 @@ pub record IsAtWork (w : WorkerState) : Type 0 where
 abbrev pub cause_of : CycleError → Cause
 cause_of cycle.ClockSpent = ClockSpent
 cause_of cycle.OutOfMemory = OutOfMemory
+
+-- a channel in this state wanted memory for its next cycle
+pub record WantedMemory (k : Kept) : Type 0 where
+  pub before : Kept
+  pub same : state_of before ≡ state_of k
+  pub wanted : IsTrue (wants_memory before)
 
 -- It is still the worker of that channel, over the same queues.
 pub record IsSameWorker (w w' : WorkerState) : Type 0 where

@@ -15,7 +15,7 @@ pub enum Turn {
     Stop,
 }
 
-/// Asked before each turn of a worker.
+/// Asked before each turn of a worker, and told behind each in which its channel made a cycle.
 pub trait Gate {
     /// The gate may answer `Stop`.
     ghost may_stop: { Self → Type 0 };
@@ -26,6 +26,10 @@ pub trait Gate {
     fn turn<R: Wait>(&self, rt: &R, channel: u32) -> Turn
         ensures stop { result ≡ Stop → may_stop self.now }
         ensures hold { result ≡ Hold → may_hold self.now };
+
+    /// Told behind a turn in which this channel made a cycle: which one comes next, and whether a completion is done and not
+    /// pushed yet. A gate that has no use for it leaves it out.
+    fn made(&self, _channel: u32, _next: u64, _has_done: bool) {}
 }
 
 /// A gate that always answers `Go`: it neither stops a worker nor holds it.

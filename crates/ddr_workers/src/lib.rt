@@ -27,7 +27,7 @@ mod law;
 pub mod port;
 pub mod refusal;
 pub mod requests;
-mod rest;
+pub mod rest;
 mod rows;
 mod system;
 pub mod worker;

@@ -1,4 +1,4 @@
-//! How a worker rests between turns that found nothing.
+//! How a thread rests between turns that found nothing: a worker, or who polls a port.
 use crossbeam_utils::Backoff;
 use std::sync::Wait;
 use std::thread::Parker;
@@ -10,9 +10,9 @@ const PATIENCE: u32 = 1_000;
 /// How long it sleeps then, in microseconds.
 const SLEEP: u64 = 100;
 
-/// The rests of a worker: short spins at first, then its processor is left to others, and then it sleeps.
+/// The rests of a thread: short spins at first, then its processor is left to others, and then it sleeps.
 #[derive(Drop)]
-pub(crate) struct Rest {
+pub struct Rest {
     backoff: Backoff,
     // On which nobody wakes it.
     sleep: Parker,
@@ -22,7 +22,7 @@ pub(crate) struct Rest {
 
 impl Rest {
     /// Before the first turn.
-    pub(crate) fn new() -> Rest {
+    pub fn new() -> Rest {
         Rest {
             backoff: Backoff::new(),
             sleep: Parker::new(),
@@ -31,7 +31,7 @@ impl Rest {
     }
 
     /// Rests, unless the turn found something to do: then the next rest is a short one again.
-    pub(crate) fn after<R: Wait>(&mut self, rt: &R, found: bool) {
+    pub fn after<R: Wait>(&mut self, rt: &R, found: bool) {
         if found {
             self.backoff.reset();
             self.count = 0;

@@ -17,7 +17,7 @@ ghost use Rattle.ddr_workers.specs.Ended.{IsWorkerEnded};
 ghost use Rattle.ddr_workers.specs.Open.{IsNewDonePut, IsNewWorker};
 ghost use Rattle.ddr_workers.specs.Sides.{PutSide, after_full, after_push, changed_at};
 ghost use Rattle.ddr_workers.specs.WorkerView.{HasTried};
-ghost use Rattle.ddr_workers.specs.Worker.{WorkerState, IsAtWork, IsEndOf, IsSameWorker, IsWorkDone, HasNothing, cause_of};
+ghost use Rattle.ddr_workers.specs.Worker.{WorkerState, IsAtWork, IsEndOf, IsSameWorker, IsWorkDone, HasNothing, WantedMemory, cause_of};
 
 use crate::completions::DonePut;
 use crate::ends::Numbered;
@@ -247,6 +247,7 @@ impl Worker {
         ensures same { IsSameWorker self.old self.new }
         ensures spent { IfErr result (λ cause. cause ≡ ClockSpent → self.new.channel.now ≡ CLOCK_STOP) }
         ensures memory { IfErr result (λ cause. cause ≡ OutOfMemory → choice_of (at_choice (kept.state_of self.new.channel)) ≡ Nothing → ⊥) }
+        ensures wanted { IfErr result (λ cause. cause ≡ OutOfMemory → WantedMemory self.new.channel) }
         ensures told { IfErr result (λ cause. cause ≡ Told → ⊥) }
     {
         if self.channel.is_empty() {
@@ -262,6 +263,11 @@ impl Worker {
         ensures { result ≡ self.now.number }
     {
         self.number
+    }
+
+    /// Whether a completion is done and not pushed yet.
+    fn has_done(&self) -> bool {
+        self.held.is_some() || self.channel.next_done().is_some()
     }
 
     /// Whether every port's End came, and nothing is held or left in the channel.
@@ -319,7 +325,7 @@ impl Worker {
 
     /// Makes turns until every port's End came and nothing is left. In each the gate is asked, a completion is pushed
     /// where there is one, an item is taken where the channel has room, and the channel makes a cycle unless it holds
-    /// nothing. After a turn without a cycle it rests. It may wait.
+    /// nothing, of which the gate is told. After a turn without a cycle it rests. It may wait.
     pub fn run<G: Gate, R: Wait>(mut self, rt: &R, gate: &G) -> Result<WorkerEnd, Stopped>
         ensures done { IfOk result (IsWorkDone self.channel.config) }
         ensures end { IfOk result (IsEndOf self) }
@@ -328,6 +334,7 @@ impl Worker {
         ensures told { IfErr result (λ s. s.cause ≡ Told → G.may_stop gate.now) }
         ensures spent { IfErr result (λ s. s.cause ≡ ClockSpent → s.worker.channel.now ≡ CLOCK_STOP) }
         ensures memory { IfErr result (λ s. s.cause ≡ OutOfMemory → choice_of (at_choice (kept.state_of s.worker.channel)) ≡ Nothing → ⊥) }
+        ensures wanted { IfErr result (λ s. s.cause ≡ OutOfMemory → WantedMemory s.worker.channel) }
     {
         let mut rest = Rest::new();
         for _ in rt.forever() {
@@ -349,7 +356,11 @@ impl Worker {
             if self.is_done() {
                 return Ok(self.into_end());
             }
-            rest.after(rt, !self.channel.is_empty());
+            let works = !self.channel.is_empty();
+            if works {
+                gate.made(self.number(), self.channel.now(), self.has_done());
+            }
+            rest.after(rt, works);
         }
         unreachable!()
     }
