@@ -1,12 +1,23 @@
--- How a channel's reads and writes found their banks, cycle by cycle.
-use Rattle.std.specs.Prelude.{ℕ, ◌==◌, ◌&&◌, if◌then◌else◌, List, [], ◌∷◌, ◌++◌, map, slice_get, slice_set, Option, Some, None}
+-- How a channel's reads and writes found their banks, by their cycles.
+use Rattle.std.specs.Prelude.{ℕ, ◌==◌, ◌&&◌, if◌then◌else◌, List, [], ◌∷◌, ◌++◌, map, slice_get, Option, Some, None}
+use Rattle.std.specs.BTreeMap.{get}
 use Rattle.std.specs.List.{range_with_len}
 use Rattle.std.specs.Option.{option_map_or}
+use Rattle.std.specs.Ordering.{nat_cmp}
 use Rattle.ddr_trace.specs.declared.command.Entry.{Entry}
 use Rattle.ddr_trace.specs.Commands.{is_column}
 use Rattle.ddr_statistics.specs.declared.counts.Finding.{Finding}
 use Rattle.ddr_statistics.specs.Visits.{finding}
 use Rattle.ddr_world.specs.State.{State}
+use Rattle.ddr_replay.specs.declared.found.Findings.{Findings}
+
+-- how the read or write of a cycle found its bank, as it is kept
+abbrev pub found_in : Findings → ℕ → Option Finding
+found_in findings = get nat_cmp findings.cycles
+
+-- of each channel
+abbrev pub all_found_in : List Findings → List (ℕ → Option Finding)
+all_found_in all = map found_in all
 
 -- what is known of a cycle with one command more, which stands behind these
 abbrev pub found_next : ℕ → Option Finding → List Entry → Entry → Option Finding
@@ -21,19 +32,15 @@ found_from cycle known before (e ∷ later) = found_from cycle (found_next cycle
 abbrev pub found_at : List Entry → ℕ → Option Finding
 found_at trace cycle = found_from cycle None [] trace
 
--- that of each of the first so many cycles
-abbrev pub findings_in : ℕ → List Entry → List (Option Finding)
-findings_in cycles trace = map (found_at trace) (range_with_len 0 cycles)
-
--- that of each cycle which the channel of this number made
-abbrev pub findings_at : State → ℕ → List (Option Finding)
-findings_at s channel = option_map_or (λ side. findings_in side.channel.now side.channel.trace) (slice_get s.channels channel) []
+-- that of each cycle of the channel of this number
+abbrev pub findings_at : State → ℕ → ℕ → Option Finding
+findings_at s channel = option_map_or (λ side. found_at side.channel.trace) (slice_get s.channels channel) (λ cycle. None)
 
 -- those of so many channels
-abbrev pub findings_of : State → ℕ → List (List (Option Finding))
+abbrev pub findings_of : State → ℕ → List (ℕ → Option Finding)
 findings_of s channels = map (findings_at s) (range_with_len 0 channels)
 
 -- the command of a cycle found its bank so, if it is a read or a write
-abbrev pub with_found : ℕ → Option Finding → List (Option Finding) → List (Option Finding)
-with_found cycle None findings = findings
-with_found cycle (Some found) findings = slice_set findings cycle (Some found)
+abbrev pub with_found : ℕ → Option Finding → (ℕ → Option Finding) → ℕ → Option Finding
+with_found cycle None findings other = findings other
+with_found cycle (Some found) findings other = if cycle == other then Some found else findings other

@@ -1,5 +1,5 @@
 -- The text of the requests whose replies were released: comma-separated values.
-use Rattle.std.specs.Prelude.{ℕ, List, [], ◌∷◌, ◌++◌, codes, flat_map, slice_get, slice_index_or, Option, Some, None}
+use Rattle.std.specs.Prelude.{ℕ, List, [], ◌∷◌, ◌++◌, codes, flat_map, slice_get, Option, Some, None}
 use Rattle.std.specs.Fmt.{decimal}
 use Rattle.std.specs.Option.{option_and_then}
 use Rattle.ddr_timing.specs.declared.geometry.Geometry.{Geometry}
@@ -26,9 +26,9 @@ times_fields served =
     decimal served.accepted ++ (codes "," ++ (decimal served.issued ++ (codes "," ++ (decimal served.due ++ (codes "," ++ decimal served.released)))))
 
 -- how a request's read or write found its bank, as the findings of the channels have it
-abbrev pub found_of : Geometry → List (List (Option Finding)) → Served → Option Finding
+abbrev pub found_of : Geometry → List (ℕ → Option Finding) → Served → Option Finding
 found_of geometry findings served =
-    option_and_then (λ place. option_and_then (λ channel. slice_index_or channel served.issued None) (slice_get findings place.channel)) (place_of geometry served.ask.addr)
+    option_and_then (λ place. option_and_then (λ channel. channel served.issued) (slice_get findings place.channel)) (place_of geometry served.ask.addr)
 
 abbrev pub found_word : Option Finding → List ℕ
 found_word (Some Hit) = codes "hit"
@@ -41,7 +41,7 @@ unfoldable pub served_line : Served → Option Finding → List ℕ
 served_line served found = asked_fields served ++ (codes "," ++ (times_fields served ++ (codes "," ++ (found_word found ++ 10 ∷ []))))
 
 -- a line that names the columns, and a line for each request
-unfoldable pub served_text : Geometry → List (List (Option Finding)) → List Served → List ℕ
+unfoldable pub served_text : Geometry → List (ℕ → Option Finding) → List Served → List ℕ
 served_text geometry findings all =
     codes "line,port,number,op,addr,at,accepted,issued,done,released,found" ++ 10 ∷ []
     ++ flat_map (λ served. served_line served (found_of geometry findings served)) all

@@ -1,11 +1,11 @@
-//! How the reads and writes of each channel found their banks, cycle by cycle.
+//! How the reads and writes of each channel found their banks, by their cycles.
 //!
 //! `numbers`, `ddr_statistics` and `ddr_world` stand below, and `served` and `telling` above.
-ghost use Rattle.std.specs.Prelude.{◌≡◌, ◌≢◌, ◌<◌, All, None, false, IfOk, IsTrue, length, replicate, slice_index_or};
+ghost use Rattle.std.specs.Prelude.{◌≡◌, ◌≢◌, ◌<◌, ℕ, All, None, false, IfOk, IsTrue, OnOk, length};
 ghost use Rattle.ddr_timing.specs.declared.units.TheConstants.{CLOCK_STOP};
 ghost use Rattle.ddr_trace.specs.Rules.{is_in};
 ghost use Rattle.ddr_world.specs.Kept.{state_of};
-ghost use Rattle.ddr_replay.specs.Found.{findings_at, findings_in, findings_of, with_found};
+ghost use Rattle.ddr_replay.specs.Found.{all_found_in, findings_at, findings_of, found_at, found_in, with_found};
 ghost use Rattle.ddr_replay.specs.Numbers.{is_any_spent, is_spent};
 
 use ddr_channel::channel::Channel;
@@ -15,60 +15,46 @@ use ddr_timing::config::Config;
 use ddr_trace::command::Entry;
 use ddr_world::world::World;
 use std::alloc::{AllocError, Global};
-use std::marker::Model;
+use std::collections::BTreeMap;
 
-/// Of each cycle that a channel made, how its read or write found its bank; nothing where it had none.
+/// Of each cycle in which a channel had a read or a write, how that found its bank. Contracts see it by `found_in`.
 #[derive(Drop)]
 pub struct Findings {
-    cycles: Vec<Option<Finding>>,
-}
-
-impl Model for Findings {
-    ghost use Rattle.std.specs.Prelude.{List, Option};
-    ghost use Rattle.ddr_statistics.specs.declared.counts.Finding.{Finding};
-
-    ghost Value = { List (Option Finding) };
-
-    ghost view = { λ a. a.cycles.items };
+    cycles: BTreeMap<u64, Finding>,
 }
 
 impl Findings {
-    /// Of so many cycles, none of which had a read or a write.
-    fn none(alloc: Global, cycles: u64) -> Result<Findings, AllocError>
-        ensures { IfOk result (λ findings. findings ≡ replicate cycles None) }
+    /// Of no command.
+    fn none(alloc: Global) -> Findings
+        ensures { (cycle : ℕ) → found_in result cycle ≡ None }
     {
-        let mut all = Vec::new(alloc);
-        for _ in 0..cycles {
-            all.push(None)?;
+        Findings {
+            cycles: BTreeMap::new(alloc),
         }
-        Ok(Findings { cycles: all })
     }
 
     /// Notes how the command of a cycle found its bank, if it is a read or a write.
-    fn note(&mut self, cycle: u64, found: Option<Finding>)
-        ensures { self.new ≡ with_found cycle found self.old }
+    fn note(&mut self, cycle: u64, found: Option<Finding>) -> Result<(), AllocError>
+        ensures { OnOk result ((other : ℕ) → found_in self.new other ≡ with_found cycle found (found_in self.old) other) }
     {
-        let cycle = cycle as usize;
-        if found.is_some() && cycle < self.cycles.len() {
-            self.cycles[cycle] = found;
+        if let Some(found) = found {
+            self.cycles.insert(cycle, found)?;
         }
+        Ok(())
     }
 
     /// How the read or write of a cycle found its bank.
     pub fn at(&self, cycle: u64) -> Option<Finding>
-        ensures { result ≡ slice_index_or self.now cycle None }
+        ensures { result ≡ found_in self.now cycle }
     {
-        match self.cycles.get(cycle as usize) {
-            Some(found) => *found,
-            None => None,
-        }
+        self.cycles.get(&cycle).copied()
     }
 }
 
 /// Those of each channel.
 pub fn findings_of(alloc: Global, world: &World, channels: u32) -> Result<Vec<Findings>, AllocError>
     requires { is_any_spent (state_of world.now) channels ≡ false }
-    ensures { IfOk result (λ v. v.items ≡ findings_of (state_of world.now) channels) }
+    ensures { IfOk result (λ v. all_found_in v.items ≡ findings_of (state_of world.now) channels) }
 {
     let mut all = Vec::new(alloc);
     for channel in 0..channels {
@@ -80,37 +66,32 @@ pub fn findings_of(alloc: Global, world: &World, channels: u32) -> Result<Vec<Fi
 /// Those of the channel of that number.
 fn findings_at(alloc: Global, world: &World, number: u32) -> Result<Findings, AllocError>
     requires { is_spent (state_of world.now) number ≡ false }
-    ensures { IfOk result (λ findings. findings ≡ findings_at (state_of world.now) number) }
+    ensures { IfOk result (λ findings. found_in findings ≡ findings_at (state_of world.now) number) }
 {
     match world.channel(number) {
         Some(channel) => findings_in(alloc, channel),
-        None => Findings::none(alloc, 0),
+        None => Ok(Findings::none(alloc)),
     }
 }
 
 /// Those of a channel.
 fn findings_in(alloc: Global, channel: &Channel) -> Result<Findings, AllocError>
     requires { channel.now.now ≢ CLOCK_STOP }
-    ensures { IfOk result (λ findings. findings ≡ findings_in channel.now.now channel.now.trace) }
+    ensures { IfOk result (λ findings. found_in findings ≡ found_at channel.now.trace) }
 {
-    findings_by(alloc, channel.config(), channel.trace(), channel.now())
+    findings_by(alloc, channel.config(), channel.trace())
 }
 
-/// Those of the first so many cycles of a trace.
-fn findings_by(
-    alloc: Global,
-    config: &Config,
-    trace: &[Entry],
-    cycles: u64,
-) -> Result<Findings, AllocError>
+/// Those of a trace.
+fn findings_by(alloc: Global, config: &Config, trace: &[Entry]) -> Result<Findings, AllocError>
     requires placed { All (λ e. IsTrue (is_in config.now.geometry e.command)) trace.now }
     requires few { length trace.now < CLOCK_STOP }
-    ensures { IfOk result (λ findings. findings ≡ findings_in cycles trace.now) }
+    ensures { IfOk result (λ findings. found_in findings ≡ found_at trace.now) }
 {
-    let mut findings = Findings::none(alloc, cycles)?;
+    let mut findings = Findings::none(alloc);
     let mut statistics = Statistics::open(config, 0);
     for entry in trace {
-        findings.note(entry.cycle, statistics.finding(&entry.command));
+        findings.note(entry.cycle, statistics.finding(&entry.command))?;
         statistics.note(entry);
     }
     Ok(findings)

@@ -2,6 +2,7 @@
 //!
 //! `found` and `ddr_stream` stand below, and `ledger` and `telling` above. `specs/ServedText.antt` has the text, byte for byte.
 ghost use Rattle.std.specs.Prelude.{◌≡◌, IfOk, string_bytes};
+ghost use Rattle.ddr_replay.specs.Found.{all_found_in};
 ghost use Rattle.ddr_replay.specs.ServedText.{asked_fields, found_of, found_word, kind_word, served_line, served_text, times_fields};
 
 use crate::found::Findings;
@@ -36,7 +37,7 @@ pub fn served_text(
     findings: &[Findings],
     all: &[Served],
 ) -> Result<String, AllocError>
-    ensures { IfOk result (λ text. string_bytes text ≡ served_text map.now.geometry findings.now all.now) }
+    ensures { IfOk result (λ text. string_bytes text ≡ served_text map.now.geometry (all_found_in findings.now) all.now) }
 {
     let mut text = String::from_str(
         alloc,
@@ -61,7 +62,7 @@ fn served_line(alloc: Global, served: &Served, found: Option<Finding>) -> Result
 
 /// How a request's read or write found its bank.
 fn found_of(map: &Map, findings: &[Findings], served: &Served) -> Option<Finding>
-    ensures { result ≡ found_of map.now.geometry findings.now served.now }
+    ensures { result ≡ found_of map.now.geometry (all_found_in findings.now) served.now }
 {
     let place = map.place(served.ask.addr)?;
     let channel = findings.get(place.channel as usize)?;
