@@ -1,10 +1,9 @@
 -- Quiet rounds, in each of which the same channels drain writes.
-use Rattle.std.proofs.Common.{◌≡◌, ◌≢◌, ◌<◌, ◌≤◌, ℕ, zero, suc, Bool, true, false, List, [], ◌∷◌, Option, None, Some, if◌then◌else◌, refl, sym, ap, ◌∙◌, arith}
+use Rattle.std.proofs.Common.{◌≡◌, ◌≢◌, ◌≤◌, ℕ, zero, suc, Bool, true, false, List, [], ◌∷◌, Option, None, Some, if◌then◌else◌, refl, sym, ap, ◌∙◌, arith}
 use Rattle.std.specs.List.{slice_get, slice_index_or, slice_set}
 use Rattle.std.specs.Option.{option_map, option_map_or}
 use Rattle.std.proofs.lemmas.Option.{slice_get-map}
 use Rattle.ddr_channel.proofs.QuietLemmas.{cycles_idle}
-use Rattle.ddr_channel.specs.Quiet.{after_cycles}
 use Rattle.ddr_channel.specs.State as channel
 use Rattle.ddr_statistics.specs.Noted.{raised}
 use Rattle.ddr_world.specs.Quiet.{IsQuietSide, passed, side_passed}

@@ -145,7 +145,7 @@ turns_passed config n m k until run ready e busy still is are waits within =
     ∙ quiet_turns config m k until ready are waits within still
 
 -- the channels' part failed
-pub turn_failed : (config : Config) (n m : ℕ) (run ready : Run) (fault : Fault) → n ≡ suc m → (unserved run == 0) ≡ false → ready ≡ ports_submitted config.limits.ports run → IsCycleFault fault (channels_served config.geometry.channels ready.state) → IsRunFault fault (replayed config n run)
+pub turn_failed : (config : Config) (n m : ℕ) (run ready : Run) (fault : Fault) → n ≡ suc m → (unserved run == 0) ≡ false → ready ≡ ports_submitted config.limits.ports run → IsCycleFault fault (channels_served config.geometry.channels ready.state) → IsRunFault config fault (replayed config n run)
 turn_failed config n m run ready faults.ClockSpent e busy is fault =
     replayed_turn config n m run e busy
     ∙ ap (λ (r : Run). option_map_or (replayed config m) (round_made config r) (Err faults.ClockSpent)) (sym is)

@@ -13,10 +13,11 @@ use Rattle.ddr_text.proofs.BodyLemmas.{not_of_parts}
 use Rattle.ddr_replay.specs.declared.numbers.Numbers.{Numbers}
 use Rattle.ddr_replay.specs.declared.numbers.Requests.{Requests}
 use Rattle.ddr_replay.specs.Numbers.{IsCounted, is_any_spent, requests_in}
-use Rattle.ddr_replay.specs.Replays.{HasReplayFault, IsReplayed, IsSaid, IsStream, Says, keeps_served, names_no_channel, report_of, reported, told_behind, told_of}
+use Rattle.ddr_replay.specs.Replays.{HasReplayFault, IsReplayed, IsReported, IsSaid, IsStream, IsStuckInput, Says, keeps_served, names_no_channel, report_of, reported, told_behind, told_of}
 use Rattle.ddr_replay.specs.Report.{report_text}
 use Rattle.ddr_replay.specs.Runs.{Run, begun, replayed}
 use Rattle.ddr_stream.specs.Stream.{AreRead, Queues, queues_of}
+use Rattle.ddr_replay.specs.Stuck.{IsStuckBody}
 use Rattle.ddr_replay.specs.View.{IsRunFault, Replay, run_of}
 use Rattle.std.specs.Prelude.{◌-◌}
 
@@ -39,7 +40,7 @@ unfolding report_of
 there config reading told body some = ap (on_channel config reading told body) some
 
 -- the stream is at fault
-pub stream_said : {X Y : Type 0} (view : X → Queues) (text : Y → List ℕ) (config : Config) (reading : Reading) (told : Told) (body : List ℕ) (fault : Fault) → names_no_channel config told ≡ false → AreRead view (Err fault) (queues_of config reading body) → IsSaid text (Err fault) (report_of config reading told body)
+pub stream_said : {X Y : Type 0} (view : X → Queues) (text : Y → List ℕ) (config : Config) (reading : Reading) (told : Told) (body : List ℕ) (fault : Fault) → names_no_channel config told ≡ false → AreRead view (Err fault) (queues_of config reading body) → IsReported text config reading told body (Err fault)
 stream_said view text config reading told body faults.OutOfMemory some is = tt
 stream_said view text config reading told body (faults.ReplayLine line cause) some is = there config reading told body some ∙ ap (on_queues config told) is
 stream_said view text config reading told body (faults.ReplayRange line) some is = there config reading told body some ∙ ap (on_queues config told) is
@@ -49,9 +50,10 @@ behind : (config : Config) (reading : Reading) (told : Told) (body : List ℕ) (
 behind config reading told body queues some read = there config reading told body some ∙ ap (on_queues config told) read
 
 -- the run comes to no end
-pub run_said : {Y : Type 0} (text : Y → List ℕ) (config : Config) (reading : Reading) (told : Told) (body : List ℕ) (queues : Queues) (fault : Fault) → names_no_channel config told ≡ false → queues_of config reading body ≡ Ok queues → IsRunFault fault (replayed config 4294967295 (begun config (keeps_served told) queues)) → IsSaid text (Err fault) (report_of config reading told body)
+pub run_said : {Y : Type 0} (text : Y → List ℕ) (config : Config) (reading : Reading) (told : Told) (body : List ℕ) (queues : Queues) (fault : Fault) → names_no_channel config told ≡ false → queues_of config reading body ≡ Ok queues → IsRunFault config fault (replayed config 4294967295 (begun config (keeps_served told) queues)) → IsReported text config reading told body (Err fault)
 run_said text config reading told body queues faults.ReplayLimit some read is = behind config reading told body queues some read ∙ ap (on_run config told queues) is
 run_said text config reading told body queues faults.ClockSpent some read is = behind config reading told body queues some read ∙ ap (on_run config told queues) is
+run_said text config reading told body queues (faults.ReplayStuck cycle) some read is = record { queues = queues; read = read; stuck = is }
 run_said text config reading told body queues faults.OutOfMemory some read is = tt
 run_said text config reading told body queues _ some read is = absurd is
 
@@ -73,6 +75,12 @@ spent_said view text config requests run _ is = absurd is
 pub report_said : (config : Config) (requests : List Requests) (run : Run) (said : List ℕ) → is_any_spent run.state config.geometry.channels ≡ false
     → said ≡ report_text config requests run → reported config requests run ≡ Ok said
 report_said config requests run said running is = ap (by_spent config requests run) running ∙ ap (λ (t : List ℕ). Ok t) (sym is)
+
+-- what is said of a run is no debt of its replay
+pub reported_of : {X : Type 0} (view : X → List ℕ) (config : Config) (reading : Reading) (told : Told) (body : List ℕ) (r : Result X Fault) → IsSaid view r (report_of config reading told body) → IsReported view config reading told body r
+reported_of view config reading told body (Ok x) is = is
+reported_of view config reading told body (Err (faults.ReplayStuck cycle)) is = absurd is
+reported_of view config reading told body (Err _) is = is
 
 -- a trace
 pub trace_said : {X : Type 0} (view : X → List ℕ) (r : Result X Fault) (text : List ℕ) → IfOk r (λ x. view x ≡ text) → IfErr r (λ fault. fault ≡ faults.OutOfMemory) → IsSaid view r (Ok text)
@@ -101,6 +109,7 @@ unopened profile reading told text sample (faults.ReplayLine line cause) is_text
 unopened profile reading told text sample (faults.ReplayRange line) is_text refused = not_of_parts (parts_of sample profile text) (faults.ReplayRange line) refused refl
 unopened profile reading told text sample faults.TraceNoSuch is_text refused = not_of_parts (parts_of sample profile text) faults.TraceNoSuch refused refl
 unopened profile reading told text sample faults.ReplayLimit is_text refused = not_of_parts (parts_of sample profile text) faults.ReplayLimit refused refl
+unopened profile reading told text sample (faults.ReplayStuck cycle) is_text refused = not_of_parts (parts_of sample profile text) (faults.ReplayStuck cycle) refused refl
 unopened profile reading told text sample faults.ClockSpent is_text refused = not_of_parts (parts_of sample profile text) faults.ClockSpent refused refl
 unopened profile reading told text sample faults.InputTooLong is_text refused = not_of_parts (parts_of sample profile text) faults.InputTooLong refused refl
 unopened profile reading told text sample faults.InputNotUtf8 is_text refused = not_of_parts (parts_of sample profile text) faults.InputNotUtf8 refused refl
@@ -112,36 +121,42 @@ opening_fault (Some input) items text profile sample reading told fault known sa
     subst (λ i. HasReplayFault sample profile reading told i fault) known
     (unopened profile reading told items sample fault is_text (subst (λ t. IsRefused (parts_of sample profile t) fault) same refused))
 
+-- a body whose replay can go on no more
+pub stuck_of : (remaining : Option (List ℕ)) (items text profile : List ℕ) (sample : Bool) (reading : Reading) (told : Told) (config : Config) (body : List ℕ) (cycle : ℕ) → IfSome remaining (λ bytes. items ≡ bytes) → text ≡ items → IsStream items → HasParts (parts_of sample profile text) config body
+    → IsStuckBody config reading (keeps_served told) body cycle → IfSome remaining (λ input. IsStuckInput sample profile reading told input cycle)
+stuck_of None items text profile sample reading told config body cycle known same is_text opened stuck = tt
+stuck_of (Some input) items text profile sample reading told config body cycle known same is_text opened stuck =
+    subst (λ i. IsStuckInput sample profile reading told i cycle) known (record {
+      text = is_text;
+      config = config;
+      body = body;
+      opened = subst (λ t. HasParts (parts_of sample profile t) config body) same opened;
+      stuck = stuck;
+    })
+
 -- a body without a report
-pub body_fault : {X : Type 0} (view : X → List ℕ) (remaining : Option (List ℕ)) (profile : List ℕ) (sample : Bool) (reading : Reading) (told : Told) (fault : Fault) (all : Result (List ℕ) Fault) → IsSaid view (Err fault) all → ((said : Result (List ℕ) Fault) → all ≡ said → IfSome remaining (λ input. Says sample profile reading told input said))
+pub body_fault : {X : Type 0} (view : X → List ℕ) (remaining : Option (List ℕ)) (profile : List ℕ) (sample : Bool) (reading : Reading) (told : Told) (fault : Fault) (config : Config) (body : List ℕ) → IsReported view config reading told body (Err fault)
+    → ((said : Result (List ℕ) Fault) → report_of config reading told body ≡ said → IfSome remaining (λ input. Says sample profile reading told input said))
+    → ((cycle : ℕ) → IsStuckBody config reading (keeps_served told) body cycle → IfSome remaining (λ input. IsStuckInput sample profile reading told input cycle))
     → IfSome remaining (λ input. HasReplayFault sample profile reading told input fault)
-body_fault view None profile sample reading told fault all fails says = tt
-body_fault view (Some input) profile sample reading told faults.OutOfMemory all fails says = tt
-body_fault view (Some input) profile sample reading told (faults.ReplayLine line cause) all fails says = says (Err (faults.ReplayLine line cause)) fails
-body_fault view (Some input) profile sample reading told (faults.ReplayRange line) all fails says = says (Err (faults.ReplayRange line)) fails
-body_fault view (Some input) profile sample reading told faults.TraceNoSuch all fails says = says (Err faults.TraceNoSuch) fails
-body_fault view (Some input) profile sample reading told faults.ReplayLimit all fails says = says (Err faults.ReplayLimit) fails
-body_fault view (Some input) profile sample reading told faults.ClockSpent all fails says = says (Err faults.ClockSpent) fails
-body_fault view (Some input) profile sample reading told _ all fails says = absurd fails
+body_fault view None profile sample reading told fault config body fails says stuck = tt
+body_fault view (Some input) profile sample reading told faults.OutOfMemory config body fails says stuck = tt
+body_fault view (Some input) profile sample reading told (faults.ReplayLine line cause) config body fails says stuck = says (Err (faults.ReplayLine line cause)) fails
+body_fault view (Some input) profile sample reading told (faults.ReplayRange line) config body fails says stuck = says (Err (faults.ReplayRange line)) fails
+body_fault view (Some input) profile sample reading told faults.TraceNoSuch config body fails says stuck = says (Err faults.TraceNoSuch) fails
+body_fault view (Some input) profile sample reading told faults.ReplayLimit config body fails says stuck = says (Err faults.ReplayLimit) fails
+body_fault view (Some input) profile sample reading told (faults.ReplayStuck cycle) config body fails says stuck = stuck cycle fails
+body_fault view (Some input) profile sample reading told faults.ClockSpent config body fails says stuck = says (Err faults.ClockSpent) fails
+body_fault view (Some input) profile sample reading told _ config body fails says stuck = absurd fails
 
 -- it is a fault of a body, not of the device
-pub body_not_read : {X : Type 0} (view : X → List ℕ) (fault : Fault) (all : Result (List ℕ) Fault) (A : Type 0) → IsSaid view (Err fault) all → ◌≡◌ {A = Result (Unit {0}) Fault} (Err fault) (Err faults.Read) → A
-body_not_read view faults.OutOfMemory all A fails read = absurd (let impossible = read in cc)
-body_not_read view (faults.ReplayLine line cause) all A fails read = absurd (let impossible = read in cc)
-body_not_read view (faults.ReplayRange line) all A fails read = absurd (let impossible = read in cc)
-body_not_read view faults.TraceNoSuch all A fails read = absurd (let impossible = read in cc)
-body_not_read view faults.ReplayLimit all A fails read = absurd (let impossible = read in cc)
-body_not_read view faults.ClockSpent all A fails read = absurd (let impossible = read in cc)
-body_not_read view _ all A fails read = absurd fails
+pub body_not_read : {X : Type 0} (view : X → List ℕ) (fault : Fault) (config : Config) (reading : Reading) (told : Told) (body : List ℕ) (A : Type 0) → IsReported view config reading told body (Err fault) → ◌≡◌ {A = Result (Unit {0}) Fault} (Err fault) (Err faults.Read) → A
+body_not_read view faults.Read config reading told body A fails read = absurd fails
+body_not_read view _ config reading told body A fails read = absurd (let impossible = read in cc)
 
-pub body_not_write : {X : Type 0} (view : X → List ℕ) (fault : Fault) (all : Result (List ℕ) Fault) (A : Type 0) → IsSaid view (Err fault) all → ◌≡◌ {A = Result (Unit {0}) Fault} (Err fault) (Err faults.Write) → A
-body_not_write view faults.OutOfMemory all A fails read = absurd (let impossible = read in cc)
-body_not_write view (faults.ReplayLine line cause) all A fails read = absurd (let impossible = read in cc)
-body_not_write view (faults.ReplayRange line) all A fails read = absurd (let impossible = read in cc)
-body_not_write view faults.TraceNoSuch all A fails read = absurd (let impossible = read in cc)
-body_not_write view faults.ReplayLimit all A fails read = absurd (let impossible = read in cc)
-body_not_write view faults.ClockSpent all A fails read = absurd (let impossible = read in cc)
-body_not_write view _ all A fails read = absurd fails
+pub body_not_write : {X : Type 0} (view : X → List ℕ) (fault : Fault) (config : Config) (reading : Reading) (told : Told) (body : List ℕ) (A : Type 0) → IsReported view config reading told body (Err fault) → ◌≡◌ {A = Result (Unit {0}) Fault} (Err fault) (Err faults.Write) → A
+body_not_write view faults.Write config reading told body A fails read = absurd fails
+body_not_write view _ config reading told body A fails read = absurd (let impossible = read in cc)
 
 -- what was written is the text
 pub replay_written : (r : Result (Unit {0}) Fault) (remaining : Option (List ℕ)) (profile : List ℕ) (reading : Reading) (told : Told) (text : List ℕ) (sample : Bool) (old new : Option (List ℕ)) → IfSome remaining (λ input. Says sample profile reading told input (Ok text)) → OnOk r (Appends old new text) → OnOk r (IfSome remaining (λ input. IsReplayed sample profile reading told input old new))
@@ -157,7 +172,8 @@ replay_unwritten (Err fault) (Some input) profile reading told text sample true 
 replay_unwritten (Err fault) (Some input) profile reading told text sample false says refused = rw refused tt
 
 -- what is so of the run of a replay that has just begun
-pub at_begun : (P : Result Run Fault → Type 0) (config : Config) (keeps : Bool) (queues : Queues) (began : Replay) → run_of began ≡ begun config keeps queues → began.config ≡ config → P (replayed began.config (4294967295 - began.round) (run_of began)) → P (replayed config 4294967295 (begun config keeps queues))
+pub at_begun : (P : Config → Result Run Fault → Type 0) (config : Config) (keeps : Bool) (queues : Queues) (began : Replay) → run_of began ≡ begun config keeps queues → began.config ≡ config → P began.config (replayed began.config (4294967295 - began.round) (run_of began)) → P config (replayed config 4294967295 (begun config keeps queues))
 at_begun P config keeps queues began is same so =
     let none : 4294967295 - began.round ≡ 4294967295 = ap (λ (r : Run). 4294967295 - r.round) is in
-    subst P (ap (λ (k : Config). replayed k (4294967295 - began.round) (run_of began)) same ∙ ap (λ n. replayed config n (run_of began)) none ∙ ap (λ (r : Run). replayed config 4294967295 r) is) so
+    subst (P config) (ap (λ n. replayed config n (run_of began)) none ∙ ap (λ (r : Run). replayed config 4294967295 r) is)
+    (subst (λ (k : Config). P k (replayed k (4294967295 - began.round) (run_of began))) same so)

@@ -68,7 +68,7 @@ passed_on old ready new (suc k) until is busy some are waits within most state r
     ∙ ap (λ (l : Ledger). replayed old.config (MOST - new.round) (record { state = state_of new.world; queues = new.queues; ledger = l; round = new.round })) (sym ledger_is)
 
 -- the channels' part failed
-pub failed_on : (old ready : Replay) (fault : Fault) → IsReady old ready → (unserved (run_of old) == 0) ≡ false → ready.round < MOST → IsCycleFault fault (channels_served ready.config.geometry.channels (state_of ready.world)) → IsRunFault fault (replayed old.config (MOST - old.round) (run_of old))
+pub failed_on : (old ready : Replay) (fault : Fault) → IsReady old ready → (unserved (run_of old) == 0) ≡ false → ready.round < MOST → IsCycleFault fault (channels_served ready.config.geometry.channels (state_of ready.world)) → IsRunFault old.config fault (replayed old.config (MOST - old.round) (run_of old))
 failed_on old ready fault is busy some failed =
     let same = ready_round old ready is in
     let one : MOST - old.round ≡ suc (MOST - old.round - 1) = omega (arith, same, some) in
@@ -87,6 +87,6 @@ more_made a b d (Ok v) same next = omega (arith, same, next)
 more_made a b d (Err fault) same next = tt
 
 pub failed_turn : (old ready : Replay) (r : Result (Unit {0}) Fault) → IsReady old ready → (unserved (run_of old) == 0) ≡ false → ready.round < 4294967295 → IfErr r (λ fault. IsCycleFault fault (channels_served ready.config.geometry.channels (state_of ready.world)))
-    → IfErr r (λ fault. IsRunFault fault (replayed old.config (4294967295 - old.round) (run_of old)))
+    → IfErr r (λ fault. IsRunFault old.config fault (replayed old.config (4294967295 - old.round) (run_of old)))
 failed_turn old ready (Ok v) is busy some failed = tt
 failed_turn old ready (Err fault) is busy some failed = failed_on old ready fault is busy some failed

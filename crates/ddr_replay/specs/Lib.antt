@@ -6,6 +6,7 @@ pub mod Places
 pub mod Replays
 pub mod Report
 pub mod Runs
+pub mod Stuck
 pub mod ServedText
 pub mod Times
 pub mod TimesReport

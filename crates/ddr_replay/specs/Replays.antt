@@ -19,6 +19,7 @@ use Rattle.ddr_replay.specs.Numbers.{is_any_spent, requests_in}
 use Rattle.ddr_replay.specs.Report.{report_text}
 use Rattle.ddr_replay.specs.Runs.{Run, begun, replayed}
 use Rattle.ddr_replay.specs.ServedText.{served_text}
+use Rattle.ddr_replay.specs.Stuck.{IsStuckBody}
 use Rattle.ddr_stream.specs.Stream.{Queues, queues_of}
 
 -- the statistics of a run at whose end no clock is spent
@@ -71,6 +72,11 @@ IsSaid view (Err faults.ClockSpent) said = said ≡ Err faults.ClockSpent
 IsSaid view (Err faults.OutOfMemory) said = Unit {0}
 IsSaid view (Err _) said = ⊥
 
+-- what is answered, seen by the view, is what the body says, or its replay can go on no more
+abbrev pub IsReported : {X : Type 0} → (X → List ℕ) → Config → Reading → Told → List ℕ → Result X Fault → Type 0
+IsReported view config reading told body (Err (faults.ReplayStuck cycle)) = IsStuckBody config reading (keeps_served told) body cycle
+IsReported view config reading told body result = IsSaid view result (report_of config reading told body)
+
 -- the input is short enough, and a text
 pub record IsStream (input : List ℕ) : Type 0 where
   pub short : length input ≤ LONGEST_STREAM
@@ -87,6 +93,14 @@ pub record Says (sample : Bool) (profile : List ℕ) (reading : Reading) (told :
   pub body : List ℕ
   pub opened : HasParts (parts_of sample profile input) config body
   pub report : report_of config reading told body ≡ said
+
+-- an input whose replay can go on no more from this cycle on
+pub record IsStuckInput (sample : Bool) (profile : List ℕ) (reading : Reading) (told : Told) (input : List ℕ) (cycle : ℕ) : Type 0 where
+  pub text : IsStream input
+  pub config : Config
+  pub body : List ℕ
+  pub opened : HasParts (parts_of sample profile input) config body
+  pub stuck : IsStuckBody config reading (keeps_served told) body cycle
 
 -- what a replay without a fault writes
 pub record IsReplayed (sample : Bool) (profile : List ℕ) (reading : Reading) (told : Told) (input : List ℕ) (old new : Option (List ℕ)) : Type 0 where
@@ -105,6 +119,7 @@ HasReplayFault sample profile reading told input (faults.ReplayLine line cause) 
 HasReplayFault sample profile reading told input (faults.ReplayRange line) = Says sample profile reading told input (Err (faults.ReplayRange line))
 HasReplayFault sample profile reading told input faults.TraceNoSuch = Says sample profile reading told input (Err faults.TraceNoSuch)
 HasReplayFault sample profile reading told input faults.ReplayLimit = Says sample profile reading told input (Err faults.ReplayLimit)
+HasReplayFault sample profile reading told input (faults.ReplayStuck cycle) = IsStuckInput sample profile reading told input cycle
 HasReplayFault sample profile reading told input faults.ClockSpent = Says sample profile reading told input (Err faults.ClockSpent)
 HasReplayFault sample profile reading told input faults.InputTooLong = LONGEST_STREAM < length input
 HasReplayFault sample profile reading told input faults.InputNotUtf8 = IsNoStream input

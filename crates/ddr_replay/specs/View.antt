@@ -10,6 +10,7 @@ use Rattle.ddr_text.specs.declared.fault.Fault.TheVariants as faults
 use Rattle.ddr_replay.specs.declared.replaying.Replaying.TheInside.{Inside}
 use Rattle.ddr_replay.specs.Ledgers.{Ledger}
 use Rattle.ddr_replay.specs.Runs.{Run, released_by, unserved}
+use Rattle.ddr_replay.specs.Stuck.{IsStuckIn}
 use Rattle.ddr_stream.specs.Stream.{Queues}
 
 pub record Replay : Type 0 where
@@ -60,9 +61,10 @@ is_popping (Collect p) = true
 is_popping (Release p) = true
 is_popping _ = false
 
--- a fault ends the run as said, unless memory ran out
-abbrev pub IsRunFault : Fault → Result Run Fault → Type 0
-IsRunFault faults.ReplayLimit said = said ≡ Err faults.ReplayLimit
-IsRunFault faults.ClockSpent said = said ≡ Err faults.ClockSpent
-IsRunFault faults.OutOfMemory said = Unit {0}
-IsRunFault _ said = ⊥
+-- a fault ends the run as said, unless memory ran out, or where it can go on no more
+abbrev pub IsRunFault : Config → Fault → Result Run Fault → Type 0
+IsRunFault config faults.ReplayLimit said = said ≡ Err faults.ReplayLimit
+IsRunFault config faults.ClockSpent said = said ≡ Err faults.ClockSpent
+IsRunFault config (faults.ReplayStuck cycle) said = IsStuckIn config said cycle
+IsRunFault config faults.OutOfMemory said = Unit {0}
+IsRunFault config _ said = ⊥

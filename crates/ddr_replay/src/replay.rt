@@ -3,7 +3,7 @@
 //! `ddr_stream`, `replaying`, `watch`, `telling` and `ddr_text` stand below, and `ddr_tool` above.
 ghost use Rattle.std.specs.Prelude.{◌≡◌, ◌≤◌, ◌⊎◌, IfErr, IfOk, IfSome, IsErrOf, IsTrue, OnOk, length};
 ghost use Rattle.ddr_text.specs.Fault.{is_before_output};
-ghost use Rattle.ddr_replay.specs.Replays.{HasReplayFault, IsNoStream, IsReplayed, IsSaid, IsStream, keeps_served, names_no_channel, report_of};
+ghost use Rattle.ddr_replay.specs.Replays.{HasReplayFault, IsNoStream, IsReplayed, IsReported, IsStream, keeps_served, names_no_channel};
 
 use crate::numbers::requests_of;
 use crate::replaying::Replaying;
@@ -32,8 +32,10 @@ use std::str;
 ///
 /// Fails as `take_apart` does, then as `TraceNoSuch` where there is no channel of that number, then as `ReplayLine` or `ReplayRange` at
 /// the first line of the stream that is at fault, then as `ReplayLimit` where more than `MOST_ROUNDS` rounds are needed, or as
-/// `ClockSpent`. `watch` is told now and then how far the rounds have come. Nothing is written before all of it is there, so only `Write` may leave a part of it. Over bytes in memory it
-/// never fails as `Read` or as `Write`.
+/// `ClockSpent`; and as `ReplayStuck` where a refresh interval leaves no time to serve a request, requests wait, and for
+/// `STUCK_INTERVALS` of them none was accepted or served. `watch` is told now and then how far the rounds have come. Nothing is
+/// written before all of it is there, so only `Write` may leave a part of it. Over bytes in memory it never fails as `Read` or as
+/// `Write`.
 pub fn replay<R: Source, W: Sink, V: Watch>(
     alloc: Global,
     sample: bool,
@@ -70,7 +72,8 @@ fn text_of(bytes: &[u8]) -> Result<&str, Fault>
     str::from_utf8(bytes).map_err(|_| Fault::InputNotUtf8)
 }
 
-/// What is told of a body. Fails where the channel isn't there, the body is at fault, or its replay comes to no end.
+/// What is told of a body. Fails where the channel isn't there, the body is at fault, or its replay comes to no end or can go on no
+/// more.
 fn report_of<V: Watch>(
     alloc: Global,
     config: &Config,
@@ -80,7 +83,7 @@ fn report_of<V: Watch>(
     watch: &mut V,
 ) -> Result<Vec<u8>, Fault>
     requires { length body.now ≤ LONGEST_STREAM }
-    ensures { IsSaid (λ v. v.items) result (report_of config.now reading told body.now) }
+    ensures { IsReported (λ v. v.items) config.now reading told body.now result }
 {
     if names_no_channel(config, told) {
         return Err(Fault::TraceNoSuch);

@@ -1,8 +1,8 @@
 //! The core, and the requests that are still to be submitted: a replay from its first round to its last.
 //!
 //! `submitting`, `ddr_stream`, `ledger`, `watch` and `ddr_world` stand below, and `replay` above.
-ghost use Rattle.std.specs.Prelude.{◌≡◌, ◌==◌, ℕ, ◌+◌, ◌-◌, ◌<◌, ◌≤◌, false, true, IfErr, IfOk, IsTrue, OnOk, Some, None, Ok, length, sum_by};
-ghost use Rattle.ddr_sim.specs.Rounds.{channel_served, channels_served, items_of, until_refused};
+ghost use Rattle.std.specs.Prelude.{◌≡◌, ◌==◌, ℕ, ◌+◌, ◌-◌, ◌<◌, ◌≤◌, false, true, IfErr, IfOk, IfSome, IsTrue, OnOk, Some, None, Ok, length, sum_by};
+ghost use Rattle.ddr_sim.specs.Rounds.{channel_served, channels_served, items_of, outstanding, until_refused};
 ghost use Rattle.ddr_sim.specs.Simulated.{IsCycleFault, added};
 ghost use Rattle.ddr_world.specs.Answer.{IsAnswered};
 ghost use Rattle.ddr_world.specs.Events.{event_of, Release};
@@ -11,12 +11,14 @@ ghost use Rattle.ddr_world.specs.Kept.{state_of};
 ghost use Rattle.ddr_world.specs.Quiet.{passed};
 ghost use Rattle.ddr_replay.specs.Drains.{all_drained, drained, is_draining};
 ghost use Rattle.ddr_replay.specs.Runs.{begun, port_served, port_submitted, ports_served, ports_submitted, replayed, round_made, unserved};
+ghost use Rattle.ddr_replay.specs.Stuck.{CannotGoOn};
 ghost use Rattle.ddr_replay.specs.View.{IsButLedger, IsFrontReleased, IsRunFault, IsSame, is_popping, run_of};
 ghost use Rattle.ddr_replay.specs.Waits.{AreQuiet, AreWaiting, IsWaitingIn, all_full, come_of, filled};
 
 use crate::ledger::Ledger;
 use crate::submitting::submit_from;
 use crate::watch::Watch;
+use ddr_latency::clocks::leaves_time;
 use ddr_reorder::reply::{Reply, Service};
 use ddr_stream::queue::Queue;
 use ddr_stream::stream::count_all;
@@ -29,6 +31,9 @@ use std::marker::Model;
 
 /// The most rounds of a replay, this project's choice.
 pub const MOST_ROUNDS: u32 = u32::MAX;
+
+/// How many refresh intervals requests may wait without any being accepted or served, where an interval leaves no time to serve one.
+pub const STUCK_INTERVALS: u64 = 64;
 
 /// In how many turns a watcher is told once: a turn is a round, or some quiet ones that are made at once.
 const TOLD_EVERY: u32 = 4096;
@@ -46,6 +51,10 @@ pub struct Replaying {
     round: u32,
     /// How many requests are still to be submitted, or were and their replies were not released.
     unserved: u128,
+    /// How many rounds were made when it was last looked at and a request had been accepted or served.
+    went_on_at: u32,
+    /// Whether one was since.
+    went_on: bool,
 }
 
 impl Model for Replaying {
@@ -81,20 +90,27 @@ impl Replaying {
             ledger,
             round: 0,
             unserved,
+            went_on_at: 0,
+            went_on: false,
         })
     }
 
     /// Makes rounds until all requests were submitted and their replies released, and tells the watcher how far it has come.
     ///
-    /// Fails as `ReplayLimit` where one round too many is to be made, as `ClockSpent`, and as `OutOfMemory`.
+    /// Fails as `ReplayLimit` where one round too many is to be made, as `ClockSpent`, and as `OutOfMemory`; and as `ReplayStuck`, where a
+    /// refresh interval leaves no time to serve a request, once requests waited for `STUCK_INTERVALS` of them in which none was
+    /// accepted or served.
     pub fn run<V: Watch>(&mut self, watch: &mut V) -> Result<(), Fault>
         ensures ok { OnOk result (replayed self.old.config (MOST_ROUNDS - self.old.round) (run_of self.old) ≡ Ok (run_of self.new)) }
-        ensures fault { IfErr result (λ fault. IsRunFault fault (replayed self.old.config (MOST_ROUNDS - self.old.round) (run_of self.old))) }
+        ensures fault { IfErr result (λ fault. IsRunFault self.old.config fault (replayed self.old.config (MOST_ROUNDS - self.old.round) (run_of self.old))) }
         ensures config { self.new.config ≡ self.old.config }
     {
         let mut turns: u32 = 0;
         'rounds: while !self.is_over() {
             self.turn()?;
+            if let Some(cycle) = self.stuck_at() {
+                return Err(Fault::ReplayStuck { cycle });
+            }
             turns = turns.wrapping_add(1);
             self.tell(turns, watch);
         }
@@ -106,6 +122,31 @@ impl Replaying {
         if turns % TOLD_EVERY == 0 {
             watch.told(u128::from(self.ledger.total().count()), self.round);
         }
+    }
+
+    /// The cycle, no later than this one, up to which requests have waited too long with none accepted or served, where that may be so
+    /// for ever.
+    fn stuck_at(&mut self) -> Option<u64>
+        ensures same { self.new ≡ self.old }
+        ensures stuck { IfSome result (CannotGoOn self.old.config (run_of self.old)) }
+    {
+        if self.went_on {
+            self.went_on = false;
+            self.went_on_at = self.round;
+            return None;
+        }
+        let cycle = u64::from(self.went_on_at) + STUCK_INTERVALS * u64::from(self.config.timing.refi);
+        if u64::from(self.round) < cycle || !self.has_outstanding() || leaves_time(&self.config) {
+            return None;
+        }
+        Some(cycle)
+    }
+
+    /// Whether requests were submitted and their replies not released.
+    fn has_outstanding(&self) -> bool
+        ensures { result ≡ true → 0 < outstanding (run_of self.now).state }
+    {
+        count_all(self.queues.as_slice()) < self.unserved
     }
 
     /// Whether no request is to be submitted, and none waits for its reply to be released.
@@ -121,7 +162,7 @@ impl Replaying {
         ensures leads { OnOk result (replayed self.old.config (MOST_ROUNDS - self.old.round) (run_of self.old) ≡ replayed self.old.config (MOST_ROUNDS - self.new.round) (run_of self.new)) }
         ensures more { OnOk result (self.old.round < self.new.round) }
         ensures within { self.new.round ≤ MOST_ROUNDS }
-        ensures fault { IfErr result (λ fault. IsRunFault fault (replayed self.old.config (MOST_ROUNDS - self.old.round) (run_of self.old))) }
+        ensures fault { IfErr result (λ fault. IsRunFault self.old.config fault (replayed self.old.config (MOST_ROUNDS - self.old.round) (run_of self.old))) }
         ensures config { self.new.config ≡ self.old.config }
     {
         if self.round == MOST_ROUNDS {
@@ -160,13 +201,19 @@ impl Replaying {
         ensures round { self.new.round ≡ self.old.round }
         ensures count { unserved (run_of self.new) ≡ unserved (run_of self.old) }
     {
-        submit_from(
+        let queue = &mut self.queues[port as usize];
+        let left = queue.len();
+        let until = submit_from(
             &mut self.world,
-            &mut self.queues[port as usize],
+            queue,
             &mut self.ledger,
             port,
             self.round,
-        )
+        )?;
+        if self.queues[port as usize].len() != left {
+            self.went_on = true;
+        }
+        Ok(until)
     }
 
     /// How many of the next rounds, before the cycle until which the ports wait, are known to be quiet: nothing is to be
@@ -375,8 +422,10 @@ impl Replaying {
         ensures same { IsSame self.old self.new }
     {
         let outcome = self.world.step(event)?;
-        if let Outcome::Released { .. } = outcome {
-            self.unserved -= 1;
+        match outcome {
+            Outcome::Released { .. } => self.unserved -= 1,
+            Outcome::Delivered => self.went_on = true,
+            _ => {}
         }
         Ok(outcome)
     }

@@ -2,8 +2,8 @@
 use Rattle.std.proofs.Common.{ℕ, Ok, ap, Vec, Global, sym, subst, ◌∙◌}
 use Rattle.std.proofs.lemmas.Result.{err_from_is_err_and}
 use Rattle.ddr_timing.specs.declared.profile.TheConstants.{PROFILE_S}
-use Rattle.ddr_replay.specs.Replays.{IsStream, report_of}
-use Rattle.ddr_replay.proofs.ReplayLemmas.{body_fault, opening_fault, replay_unwritten, replay_written, said_of}
+use Rattle.ddr_replay.specs.Replays.{IsStream}
+use Rattle.ddr_replay.proofs.ReplayLemmas.{body_fault, opening_fault, replay_unwritten, replay_written, said_of, stuck_of}
 use Rattle.ddr_replay.proofs.replay.replay.Goals as goal
 
 pub returns-in_err-config-clause-fault : goal.returns-in_err-config-clause-fault
@@ -20,8 +20,9 @@ returns-in_err-report-clause-fault g c =
     let same = text.0 ∙ c.as_slice.ensures.value in
     let is_text = subst IsStream c.as_slice.ensures.value text.1 in
     let p = err_from_is_err_and c.from_residual-in_err-report.result c.from_residual-in_err-report.ensures.1 in
-    rw (p.1, p.2) (body_fault {X = Vec ℕ Global} (λ v. v.items) (g.R.Read.remaining c.args.reader.now) PROFILE_S.now c.args.sample c.args.reading c.args.told c.in_err-report.field-0.0 (report_of c.in_ok-config.config c.args.reading c.args.told c.in_ok-config.body.now) c.in_err-report.ensures
-    (λ said e. said_of (g.R.Read.remaining c.args.reader.now) c.in_ok-input.input.items c.in_ok-text.text.now PROFILE_S.now c.args.sample c.args.reading c.args.told c.in_ok-config.config c.in_ok-config.body.now said c.in_ok-input.ensures.all same is_text c.in_ok-config.ensures.opened e))
+    rw (p.1, p.2) (body_fault {X = Vec ℕ Global} (λ v. v.items) (g.R.Read.remaining c.args.reader.now) PROFILE_S.now c.args.sample c.args.reading c.args.told c.in_err-report.field-0.0 c.in_ok-config.config c.in_ok-config.body.now c.in_err-report.ensures
+    (λ said e. said_of (g.R.Read.remaining c.args.reader.now) c.in_ok-input.input.items c.in_ok-text.text.now PROFILE_S.now c.args.sample c.args.reading c.args.told c.in_ok-config.config c.in_ok-config.body.now said c.in_ok-input.ensures.all same is_text c.in_ok-config.ensures.opened e)
+    (λ cycle stuck. stuck_of (g.R.Read.remaining c.args.reader.now) c.in_ok-input.input.items c.in_ok-text.text.now PROFILE_S.now c.args.sample c.args.reading c.args.told c.in_ok-config.config c.in_ok-config.body.now cycle c.in_ok-input.ensures.all same is_text c.in_ok-config.ensures.opened stuck))
 
 pub returns-clause-fault : goal.returns-clause-fault
 returns-clause-fault g c =

@@ -43,3 +43,16 @@ invariant_of-self-in_default c =
       ports = c.self.invariant.ports;
       counted = omega (arith, c.self.invariant.counted, same);
     }
+
+pub invariant_of-self-in-Delivered : goal.invariant_of-self-in-Delivered
+invariant_of-self-in-Delivered c =
+    let a = c.self.inside in
+    let n = outstanding (state_of a.world) in
+    let m = outstanding (state_of c.step.new.self) in
+    let counted = made_counts (state_of a.world) (state_of c.step.new.self) (event_of c.args.event) c.in_ok-outcome.outcome c.in_ok-outcome.ensures.answer.ok in
+    let same = subst (λ (o : Outcome). Counted (event_of c.args.event) n o m) c.in-Delivered.is counted in
+    record {
+      config = c.in_ok-outcome.ensures.answer.config ∙ c.self.invariant.config;
+      ports = c.self.invariant.ports;
+      counted = omega (arith, c.self.invariant.counted, same);
+    }
