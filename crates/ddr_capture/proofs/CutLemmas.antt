@@ -1,12 +1,13 @@
 -- The fields of a line.
-use Rattle.std.proofs.Common.{◌≡◌, ◌≢◌, ℕ, ◌+◌, ◌-◌, ◌<◌, ◌≤◌, ◌==◌, Bool, true, false, List, [], ◌∷◌, ◌++◌, length, take, drop, map, filter, cond, get_or, nat_lt, None, refl, sym, ap, ap₂, ◌∙◌, eq-eqb, arith, length-drop}
-use Rattle.std.specs.List.{after_first, before_first, position_or_len, slice_split}
+use Rattle.std.proofs.Common.{◌≡◌, ◌≢◌, ℕ, ◌+◌, ◌-◌, ◌<◌, ◌≤◌, ◌==◌, Bool, true, false, List, [], ◌∷◌, ◌++◌, length, take, drop, filter, cond, get_or, nat_lt, Err, refl, sym, ap, ◌∙◌, eq-eqb, arith, length-drop}
+use Rattle.std.specs.List.{position_or_len, slice_split}
 use Rattle.std.proofs.lemmas.Bool.{lt-ltb, ne_eqb}
 use Rattle.std.proofs.lemmas.List.{length-map, length-take-le, take_all}
 use Rattle.std.proofs.lemmas.List.Elements.{filter-append}
 use Rattle.std.proofs.lemmas.List.Splits.{length-slice_split, slice_split_first, slice_split_none}
 use Rattle.std.proofs.lemmas.List.Sums.{fails_before_first, position_or_len_is}
 use Rattle.ddr_trace.proofs.FieldLemmas.{header_not_seven}
+use Rattle.ddr_text.specs.declared.fault.LineFault.TheVariants.{Fields}
 use Rattle.ddr_text.specs.Script.{fields_of}
 use Rattle.ddr_capture.specs.Fields.{cut, trimmed, trimmed_cut}
 use Rattle.ddr_capture.specs.Line.{of_eight, of_own, of_seven}
@@ -65,8 +66,8 @@ field_last text none some =
     ap (filter (λ (field : List ℕ). nat_lt 0 (length field))) (slice_split_none (λ byte. byte == 32) text (λ k d below. fails_before_first (λ byte. byte == 32) text k d (omega (arith, none))))
     ∙ field_kept text some
 
--- another number of fields says nothing
-pub not_eight : (t : tools.Tool) (fields : List (List ℕ)) → length fields ≢ 8 → of_eight t fields ≡ None
+-- another number of fields is at fault
+pub not_eight : (t : tools.Tool) (fields : List (List ℕ)) → length fields ≢ 8 → of_eight t fields ≡ Err Fields
 not_eight t [] n = refl
 not_eight t (a ∷ []) n = refl
 not_eight t (a ∷ b ∷ []) n = refl
@@ -78,8 +79,7 @@ not_eight t (a ∷ b ∷ c ∷ d ∷ e ∷ f ∷ g ∷ []) n = refl
 not_eight t (a ∷ b ∷ c ∷ d ∷ e ∷ f ∷ g ∷ h ∷ []) n = absurd (n refl)
 not_eight t (a ∷ b ∷ c ∷ d ∷ e ∷ f ∷ g ∷ h ∷ i ∷ rest) n = refl
 
-seven_not : (fields : List (List ℕ)) → length fields ≢ 7 → of_seven fields ≡ None
-unfolding of_seven
+seven_not : (fields : List (List ℕ)) → length fields ≢ 7 → of_seven fields ≡ Err Fields
 seven_not [] n = refl
 seven_not (a ∷ []) n = refl
 seven_not (a ∷ b ∷ []) n = refl
@@ -90,6 +90,6 @@ seven_not (a ∷ b ∷ c ∷ d ∷ e ∷ f ∷ []) n = refl
 seven_not (a ∷ b ∷ c ∷ d ∷ e ∷ f ∷ g ∷ []) n = absurd (n refl)
 seven_not (a ∷ b ∷ c ∷ d ∷ e ∷ f ∷ g ∷ h ∷ rest) n = refl
 
-pub not_seven : (first : Bool) (fields : List (List ℕ)) → length fields ≢ 7 → of_own first fields ≡ None
+pub not_seven : (first : Bool) (fields : List (List ℕ)) → length fields ≢ 7 → of_own first fields ≡ Err Fields
 not_seven true fields n = rw (header_not_seven fields n) (seven_not fields n)
 not_seven false fields n = seven_not fields n

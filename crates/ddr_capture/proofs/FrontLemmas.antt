@@ -1,43 +1,159 @@
 -- Going over the lines of a configuration, up to the mark.
-use Rattle.std.proofs.Common.{◌≡◌, ℕ, ◌+◌, ◌<◌, ◌≤◌, ◌==◌, Bool, true, false, List, [], ◌∷◌, ◌++◌, length, cond, codes, Option, Some, None, Result, Ok, Err, IfSome, ◌⊎◌, inl, inr, refl, sym, subst, ap, ◌∙◌, arith, append_assoc, length-append}
+use Rattle.std.proofs.Common.{◌≡◌, ℕ, ◌+◌, ◌<◌, ◌==◌, ◌||◌, Bool, true, false, List, [], ◌∷◌, ◌++◌, length, cond, codes, nat_lt, Option, Some, None, Result, Ok, Err, IfSome, ◌⊎◌, inl, inr, refl, sym, subst, ap, ◌∙◌, arith, append_assoc, append-nil, length-append}
 use Rattle.std.specs.Prelude.{IfErr, IfOk, IsSomeAnd}
-use Rattle.std.specs.List.{slice_split}
+use Rattle.std.specs.List.{join_with_byte, slice_split}
+use Rattle.std.specs.Option.{option_map_or}
 use Rattle.std.specs.Str.{IsUtf8, bytes_eq}
-use Rattle.std.specs.Io.KnownBytes.{prepend_known}
+use Rattle.std.specs.Str.Lines.{lines, lines_of_parts, strip_carriage_return}
+use Rattle.std.proofs.lemmas.Bool.{le-ltb, lt-ltb, ltb-true}
+use Rattle.std.proofs.lemmas.List.Folds.{list_any-append}
 use Rattle.std.proofs.lemmas.List.Splits.{slice_split_at, slice_split_none}
+use Rattle.std.proofs.lemmas.Slice.Eq.{bytes_eq-Decides}
 use Rattle.ddr_text.specs.declared.input.TheConstants.{LONGEST_INPUT}
 use Rattle.ddr_timing.specs.declared.config.Config.{Config}
 use Rattle.ddr_text.specs.declared.fault.Fault.{Fault}
 use Rattle.ddr_text.specs.declared.fault.Fault.TheVariants as faults
 use Rattle.ddr_text.specs.Body.{HasConfigFault, HasParts, IsConfig, IsRefused, is_mark, parts_of, split_from, split_of}
-use Rattle.ddr_text.specs.Input.{IsNoText}
-use Rattle.ddr_text.proofs.BodyLemmas.{IsLine, not_of_parts, split_mark, split_more}
-use Rattle.ddr_capture.specs.Feed.{Along, BeginsWith, HasFound, HasLongLine, IsFound, IsLast, IsTooLong}
-use Rattle.ddr_capture.specs.Front.{IsConfigRefused, IsFront, IsFrontRefused, IsFrontStep, IsLong, IsMarked, IsOpened, front_fault}
+use Rattle.ddr_text.specs.Input.{IsNoText, IsText}
+use Rattle.ddr_text.proofs.BodyLemmas.{IsLine, lines-line, lines_more, not_of_parts, split_mark, split_more, strip_mark, whole_more}
+use Rattle.ddr_capture.specs.Feed.{Along, BeginsWith, HasFound, IsLast, IsTooLong}
+use Rattle.ddr_capture.specs.Front.{IsConfigRefused, IsFront, IsFrontRefused, IsFrontStep, IsMarked, IsOpened, IsReadable, front_fault, front_of, is_any_long, is_long}
 use Rattle.ddr_capture.specs.declared.feed.Refusal.{Refusal}
 use Rattle.ddr_capture.specs.declared.feed.Refusal.TheVariants as refusals
-use Rattle.ddr_capture.specs.declared.feed.Found.{Found}
 use Rattle.ddr_capture.specs.declared.feed.Found.TheVariants as found
+use Rattle.ddr_capture.specs.declared.feed.TheConstants.{LONGEST_LINE}
+use Rattle.ddr_capture.proofs.LineLemmas.{IsLongLast, IsLongLine, last_of, long_cut}
+
+abbrev is_feed : ℕ → Bool
+is_feed byte = byte == 10
+
+-- ---- lines that are too long
+
+or_true : (a b : Bool) → b ≡ true → (a || b) ≡ true
+or_true true b e = refl
+or_true false b e = e
+
+-- one line among others is too long
+any_long : (seen : List (List ℕ)) (line : List ℕ) (more : List (List ℕ)) → LONGEST_LINE < length line → is_any_long (seen ++ (line ∷ more)) ≡ true
+any_long [] line more long = ap (λ (b : Bool). b || is_any_long more) (lt-ltb LONGEST_LINE (length line) long)
+any_long (first ∷ seen) line more long = or_true (nat_lt LONGEST_LINE (length first)) (is_any_long (seen ++ (line ∷ more))) (any_long seen line more long)
+
+-- a line more that is not
+none_long : (seen : List (List ℕ)) (line : List ℕ) → is_any_long seen ≡ false → nat_lt LONGEST_LINE (length line) ≡ false → is_any_long (seen ++ line ∷ []) ≡ false
+none_long seen line short fits =
+    list_any-append (λ (l : List ℕ). nat_lt LONGEST_LINE (length l)) seen (line ∷ [])
+    ∙ ap (λ (b : Bool). b || is_any_long (line ∷ [])) short
+    ∙ ap (λ (b : Bool). b || false) fits
+
+long_lines : (text : List ℕ) → is_any_long (lines text) ≡ true → is_long text ≡ true
+long_lines text long = or_true (nat_lt LONGEST_INPUT (length text)) (is_any_long (lines text)) long
+
+long_text : (text : List ℕ) → LONGEST_INPUT < length text → is_long text ≡ true
+long_text text long = ap (λ (b : Bool). b || is_any_long (lines text)) (lt-ltb LONGEST_INPUT (length text) long)
+
+-- ---- what stands before the mark
+
+abbrev marked_at : List ℕ → List ℕ → Option (List ℕ × List ℕ)
+marked_at front behind = Some (front, behind)
+
+abbrev unmarked : Option (List ℕ × List ℕ)
+unmarked = None
+
+-- what stands before the mark begins with what was read of it
+front_grows : (front : List ℕ) (parts : List (List ℕ)) (f b : List ℕ) → split_from front parts ≡ Some (f, b) → (z : List ℕ) × (f ≡ front ++ z)
+front_grows front [] f b e = cc
+front_grows front (last ∷ []) f b e = at_last (bytes_eq last (codes "---")) e
+  where
+    at_last : (c : Bool) → cond c (marked_at front []) unmarked ≡ Some (f, b) → (z : List ℕ) × (f ≡ front ++ z)
+    at_last true same = ([], sym (ap (λ (o : Option (List ℕ × List ℕ)). option_map_or (λ (p : List ℕ × List ℕ). p.0) o front) same) ∙ sym (append-nil front))
+    at_last false same = cc
+front_grows front (line ∷ next ∷ more) f b e = at_line (is_mark line) e (front_grows (front ++ (line ++ 10 ∷ [])) (next ∷ more) f b)
+  where
+    at_line : (c : Bool) → cond c (marked_at front (join_with_byte 10 (next ∷ more))) (split_from (front ++ (line ++ 10 ∷ [])) (next ∷ more)) ≡ Some (f, b)
+        → (split_from (front ++ (line ++ 10 ∷ [])) (next ∷ more) ≡ Some (f, b) → (z : List ℕ) × (f ≡ (front ++ (line ++ 10 ∷ [])) ++ z)) → (z : List ℕ) × (f ≡ front ++ z)
+    at_line true same later = ([], sym (ap (λ (o : Option (List ℕ × List ℕ)). option_map_or (λ (p : List ℕ × List ℕ). p.0) o front) same) ∙ sym (append-nil front))
+    at_line false same later =
+        let h = later same in
+        ((line ++ 10 ∷ []) ++ h.0, h.1 ∙ append_assoc front (line ++ 10 ∷ []) h.0)
+
+front_begins : (front input rest : List ℕ) → input ≡ front ++ rest → split_from front (slice_split is_feed rest) ≡ split_of input → (z : List ℕ) × (front_of input ≡ front ++ z)
+front_begins front input rest whole said = by_mark (split_of input) refl
+  where
+    by_mark : (o : Option (List ℕ × List ℕ)) → split_of input ≡ o → (z : List ℕ) × (option_map_or (λ (p : List ℕ × List ℕ). p.0) o input ≡ front ++ z)
+    by_mark None e = (rest, whole)
+    by_mark (Some p) e = front_grows front (slice_split is_feed rest) p.0 p.1 (said ∙ e)
+
+-- a line as the program's texts take it off
+line_of : (text line behind : List ℕ) → BeginsWith text line behind → IsLine text line behind
+line_of text line behind begins = record {
+  parts = ap (slice_split is_feed) begins.whole ∙ slice_split_at is_feed line 10 behind begins.unfed refl;
+  whole = begins.whole;
+  unfed = begins.unfed;
+}
+
+-- it goes on with a line that is not the mark
+front_line : (front input rest line behind : List ℕ) → IsFront front input rest → BeginsWith rest line behind → is_mark line ≡ false → (z : List ℕ) × (front_of input ≡ front ++ (line ++ (10 ∷ z)))
+front_line front input rest line behind so_far begins other =
+    let turn = line_of rest line behind begins in
+    let h = front_begins (front ++ (line ++ 10 ∷ [])) input behind (whole_more input front rest line behind turn so_far.whole) (split_more front rest line behind (split_of input) turn other so_far.said) in
+    (h.0, h.1 ∙ append_assoc front (line ++ 10 ∷ []) h.0 ∙ ap (λ (t : List ℕ). front ++ t) (append_assoc line (10 ∷ []) h.0))
+
+-- such a line is too long
+line_long : (front input rest line behind : List ℕ) → IsFront front input rest → BeginsWith rest line behind → is_mark line ≡ false → LONGEST_LINE < length (strip_carriage_return line) → is_long (front_of input) ≡ true
+line_long front input rest line behind so_far begins other long =
+    let h = front_line front input rest line behind so_far begins other in
+    let lined : lines (front_of input) ≡ so_far.seen ++ (strip_carriage_return line ∷ lines h.0) =
+    ap lines h.1 ∙ so_far.lined (line ++ (10 ∷ h.0)) ∙ ap (λ (l : List (List ℕ)). so_far.seen ++ l) (lines-line line h.0 begins.unfed) in
+    long_lines (front_of input) (ap is_any_long lined ∙ any_long so_far.seen (strip_carriage_return line) (lines h.0) long)
+
+-- there is no room for it
+line_full : (front input rest line behind : List ℕ) → IsFront front input rest → BeginsWith rest line behind → is_mark line ≡ false → LONGEST_INPUT < length front + (length line + 1) → is_long (front_of input) ≡ true
+line_full front input rest line behind so_far begins other long =
+    let h = front_line front input rest line behind so_far begins other in
+    long_text (front_of input) (omega (arith, long, ap length h.1, length-append front (line ++ (10 ∷ h.0)), length-append line (10 ∷ h.0)))
+
+-- a line that is so long is not the mark
+no_mark : (line : List ℕ) → LONGEST_LINE < length (strip_carriage_return line) → is_mark line ≡ false
+no_mark line long = by_mark (is_mark line) refl
+  where
+    by_mark : (b : Bool) → is_mark line ≡ b → b ≡ false
+    by_mark true e = absurd (omega (arith, long, ap length (strip_mark line e)))
+    by_mark false e = refl
+
+no_last_mark : (line : List ℕ) → LONGEST_LINE < length line → bytes_eq line (codes "---") ≡ false
+no_last_mark line long = by_mark (bytes_eq line (codes "---")) refl
+  where
+    by_mark : (b : Bool) → bytes_eq line (codes "---") ≡ b → b ≡ false
+    by_mark true e = absurd (omega (arith, long, ap length ((bytes_eq-Decides line (codes "---")).0 e)))
+    by_mark false e = refl
+
+-- what was not read yet begins with too long a line
+rest_long : (front input rest : List ℕ) → IsFront front input rest → IsTooLong rest → is_long (front_of input) ≡ true
+rest_long front input rest so_far too_long = by_cut (long_cut rest too_long)
+  where
+    by_cut : ((line : List ℕ) × (behind : List ℕ) × IsLongLine rest line behind) ⊎ IsLongLast rest → is_long (front_of input) ≡ true
+    by_cut (inl (line, behind, is)) = line_long front input rest line behind so_far is.begins (no_mark line is.long) is.long
+    by_cut (inr is) =
+        let none : split_of input ≡ None =
+        sym so_far.said ∙ ap (split_from front) (slice_split_none is_feed rest is.unfed) ∙ ap (λ (b : Bool). cond b (marked_at front []) unmarked) (no_last_mark rest is.long) in
+        let whole : front_of input ≡ input = ap (λ (o : Option (List ℕ × List ℕ)). option_map_or (λ (p : List ℕ × List ℕ). p.0) o input) none in
+        let last : lines rest ≡ rest ∷ [] = ap lines_of_parts (slice_split_none is_feed rest is.unfed) ∙ last_of rest (omega (arith, is.long)) in
+        let lined : lines (front_of input) ≡ so_far.seen ++ (rest ∷ []) =
+        ap lines (whole ∙ so_far.whole) ∙ so_far.lined rest ∙ ap (λ (l : List (List ℕ)). so_far.seen ++ l) last in
+        long_lines (front_of input) (ap is_any_long lined ∙ any_long so_far.seen rest [] is.long)
+
+-- ---- the lines one by one
 
 -- nothing was read yet
 pub front_none : (a : Option (List ℕ)) → Along (IsFront []) a a
 unfolding split_of
 front_none None = tt
-front_none (Some input) = record { whole = refl; said = refl }
+front_none (Some input) = record { whole = refl; said = refl; seen = []; lined = λ more. refl; short = refl }
 
--- a line as the program's texts take it off
-line_of : (text line behind : List ℕ) → BeginsWith text line behind → IsLine text line behind
-line_of text line behind begins = record {
-  parts = ap (slice_split (λ byte. byte == 10)) begins.whole ∙ slice_split_at (λ byte. byte == 10) line 10 behind begins.unfed refl;
-  whole = begins.whole;
-  unfed = begins.unfed;
-}
-
-shorter : (front input rest line behind : List ℕ) → input ≡ front ++ rest → rest ≡ line ++ (10 ∷ behind) → length behind ≤ length input
-shorter front input rest line behind e f = rw (e, f) (omega (arith, length-append front (line ++ (10 ∷ behind)), length-append line (10 ∷ behind)))
-
-longer : (front input rest line behind : List ℕ) → input ≡ front ++ rest → rest ≡ line ++ (10 ∷ behind) → LONGEST_INPUT < length front + (length line + 1) → LONGEST_INPUT < length input
-longer front input rest line behind e f long = rw (e, f) (omega (arith, length-append front (line ++ (10 ∷ behind)), length-append line (10 ∷ behind)))
+-- no line of the front is too long
+front_short : (front input rest : List ℕ) → IsFront front input rest → is_any_long (lines front) ≡ false
+front_short front input rest so_far =
+    ap is_any_long (ap lines (sym (append-nil front)) ∙ so_far.lined [] ∙ append-nil so_far.seen) ∙ so_far.short
 
 -- at the mark
 pub front_mark : (a b c : Option (List ℕ)) (front line : List ℕ) → Along (IsFront front) a b → HasFound found.Line line b c → is_mark line ≡ true
@@ -46,18 +162,23 @@ front_mark None b c front line so_far has mark = tt
 front_mark (Some input) None c front line so_far has mark = absurd so_far
 front_mark (Some input) (Some rest) None front line so_far has mark = absurd has
 front_mark (Some input) (Some rest) (Some behind) front line so_far has mark =
-    (split_mark front rest line behind (split_of input) (line_of rest line behind has) mark so_far.said, shorter front input rest line behind so_far.whole has.whole)
+    (split_mark front rest line behind (split_of input) (line_of rest line behind has) mark so_far.said, front_short front input rest so_far)
 
 -- at another line
-pub front_more : (a b c : Option (List ℕ)) (front line : List ℕ) → Along (IsFront front) a b → HasFound found.Line line b c → is_mark line ≡ false
+pub front_more : (a b c : Option (List ℕ)) (front line : List ℕ) → Along (IsFront front) a b → HasFound found.Line line b c → is_mark line ≡ false → nat_lt LONGEST_LINE (length (strip_carriage_return line)) ≡ false
     → Along (IsFront (front ++ (line ++ 10 ∷ []))) a c
-front_more None b c front line so_far has other = tt
-front_more (Some input) None c front line so_far has other = absurd so_far
-front_more (Some input) (Some rest) None front line so_far has other = absurd has
-front_more (Some input) (Some rest) (Some behind) front line so_far has other = record {
-  whole = so_far.whole ∙ ap (λ r. front ++ r) (has.whole ∙ sym (append_assoc line (10 ∷ []) behind)) ∙ sym (append_assoc front (line ++ 10 ∷ []) behind);
-  said = split_more front rest line behind (split_of input) (line_of rest line behind has) other so_far.said;
-}
+front_more None b c front line so_far has other fits = tt
+front_more (Some input) None c front line so_far has other fits = absurd so_far
+front_more (Some input) (Some rest) None front line so_far has other fits = absurd has
+front_more (Some input) (Some rest) (Some behind) front line so_far has other fits =
+    let turn = line_of rest line behind has in
+    record {
+      whole = whole_more input front rest line behind turn so_far.whole;
+      said = split_more front rest line behind (split_of input) turn other so_far.said;
+      seen = so_far.seen ++ strip_carriage_return line ∷ [];
+      lined = lines_more front line so_far.seen has.unfed so_far.lined;
+      short = none_long so_far.seen (strip_carriage_return line) so_far.short fits;
+    }
 
 -- at the last line
 split_end : (front rest line : List ℕ) (all : Option (List ℕ × List ℕ)) (behind : List ℕ) → IsLast rest line behind → split_from front (slice_split (λ byte. byte == 10) rest) ≡ all → all ≡ cond (bytes_eq line (codes "---")) (Some (front, [])) None
@@ -71,7 +192,7 @@ front_last (Some input) None c front line so_far has mark = absurd so_far
 front_last (Some input) (Some rest) None front line so_far has mark = absurd has
 front_last (Some input) (Some rest) (Some behind) front line so_far has mark = (
   split_end front rest line (split_of input) behind has so_far.said ∙ ap (λ (b : Bool). cond b (Some (front, [])) None) mark ∙ ap (λ r. Some (front, r)) (sym has.none),
-  rw has.none (omega arith),
+  front_short front input rest so_far,
 )
 
 pub front_unmarked : (a b c : Option (List ℕ)) (front line : List ℕ) → Along (IsFront front) a b → HasFound found.Last line b c → bytes_eq line (codes "---") ≡ false
@@ -91,28 +212,35 @@ front_end (Some input) (Some rest) (Some behind) front line so_far has =
     sym so_far.said ∙ ap (λ r. split_from front (slice_split (λ byte. byte == 10) r)) has.0
 
 -- at a line that is too long
-pub front_long : (a b : Option (List ℕ)) (front : List ℕ) → Along (IsFront front) a b → IfSome b IsTooLong → IfSome a IsLong
+pub front_wide : (a b c : Option (List ℕ)) (front line : List ℕ) → Along (IsFront front) a b → HasFound found.Line line b c → is_mark line ≡ false → nat_lt LONGEST_LINE (length (strip_carriage_return line)) ≡ true
+    → IfSome a (λ input. is_long (front_of input) ≡ true)
+front_wide None b c front line so_far has other long = tt
+front_wide (Some input) None c front line so_far has other long = absurd so_far
+front_wide (Some input) (Some rest) None front line so_far has other long = absurd has
+front_wide (Some input) (Some rest) (Some behind) front line so_far has other long = line_long front input rest line behind so_far has other (ltb-true LONGEST_LINE (length (strip_carriage_return line)) long)
+
+front_long : (a b : Option (List ℕ)) (front : List ℕ) → Along (IsFront front) a b → IfSome b IsTooLong → IfSome a (λ input. is_long (front_of input) ≡ true)
 front_long None b front so_far long = tt
 front_long (Some input) None front so_far long = absurd so_far
-front_long (Some input) (Some rest) front so_far long = inr (record { front = front; rest = rest; whole = so_far.whole; long = long })
+front_long (Some input) (Some rest) front so_far long = rest_long front input rest so_far long
 
 -- where there is no room
-pub front_full : (a b c : Option (List ℕ)) (front line : List ℕ) → Along (IsFront front) a b → HasFound found.Line line b c → LONGEST_INPUT < length front + (length line + 1) → IfSome a IsLong
-front_full None b c front line so_far has long = tt
-front_full (Some input) None c front line so_far has long = absurd so_far
-front_full (Some input) (Some rest) None front line so_far has long = absurd has
-front_full (Some input) (Some rest) (Some behind) front line so_far has long =
-    inl (longer front input rest line behind so_far.whole has.whole long)
+front_full : (a b c : Option (List ℕ)) (front line : List ℕ) → Along (IsFront front) a b → HasFound found.Line line b c → is_mark line ≡ false → LONGEST_INPUT < length front + (length line + 1)
+    → IfSome a (λ input. is_long (front_of input) ≡ true)
+front_full None b c front line so_far has other long = tt
+front_full (Some input) None c front line so_far has other long = absurd so_far
+front_full (Some input) (Some rest) None front line so_far has other long = absurd has
+front_full (Some input) (Some rest) (Some behind) front line so_far has other long = line_full front input rest line behind so_far has other long
 
 some_unit : (a : Option (List ℕ)) → IfSome a (λ input. Unit {0})
 some_unit None = tt
 some_unit (Some input) = tt
 
 -- a line that was not added
-pub front_refused : (a b c : Option (List ℕ)) (front line : List ℕ) (fault : Fault) → Along (IsFront front) a b → HasFound found.Line line b c → (fault ≡ faults.InputTooLong → LONGEST_INPUT < length front + (length line + 1))
+pub front_refused : (a b c : Option (List ℕ)) (front line : List ℕ) (fault : Fault) → Along (IsFront front) a b → HasFound found.Line line b c → is_mark line ≡ false → (fault ≡ faults.InputTooLong → LONGEST_INPUT < length front + (length line + 1))
     → (fault ≡ faults.InputTooLong) ⊎ (fault ≡ faults.OutOfMemory) → IfSome a (λ input. IsFrontRefused input fault)
-front_refused a b c front line fault so_far has long (inl e) = rw e (front_full a b c front line so_far has (long e))
-front_refused a b c front line fault so_far has long (inr e) = rw e (some_unit a)
+front_refused a b c front line fault so_far has other long (inl e) = rw e (front_full a b c front line so_far has other (long e))
+front_refused a b c front line fault so_far has other long (inr e) = rw e (some_unit a)
 
 -- the last line is the mark, or there is none
 pub last_step : (a b c : Option (List ℕ)) (front line : List ℕ) (r : Result Bool Fault) → Along (IsFront front) a b → HasFound found.Last line b c
@@ -137,7 +265,7 @@ config_refused sample profile input _ refused = refused
 
 opened_sample : (a : Option (List ℕ)) (profile : List ℕ) (config : Config) → IsConfig profile config → Along (IsOpened true profile config) a a
 opened_sample None profile config is = tt
-opened_sample (Some input) profile config is = record { parts = (is, refl); short = omega arith }
+opened_sample (Some input) profile config is = record { parts = (is, refl); front = tt }
 
 pub sample_opened : (a : Option (List ℕ)) (profile : List ℕ) (r : Result Config Fault) → IfOk r (IsConfig profile) → IfOk r (λ config. Along (IsOpened true profile config) a a)
 sample_opened a profile (Ok config) is = opened_sample a profile config is
@@ -151,17 +279,22 @@ pub sample_refused : (a : Option (List ℕ)) (profile : List ℕ) (r : Result Co
 sample_refused a profile (Ok config) has = tt
 sample_refused a profile (Err fault) has = refused_sample a profile fault has
 
-opened_behind : (a c : Option (List ℕ)) (profile front text : List ℕ) (config : Config) → Along (IsMarked front) a c → text ≡ front → IsConfig text config → Along (IsOpened false profile config) a c
-opened_behind None c profile front text config marked same is = tt
-opened_behind (Some input) None profile front text config marked same is = absurd marked
-opened_behind (Some input) (Some rest) profile front text config marked same is = record {
-  parts = subst (λ (p : Option (List ℕ × List ℕ)). HasParts p config rest) (sym marked.0) (subst (λ (t : List ℕ). IsConfig t config) same is, refl);
-  short = marked.1;
-}
+opened_behind : (a c : Option (List ℕ)) (profile front text : List ℕ) (config : Config) → Along (IsMarked front) a c → text ≡ front → IsText front → IsConfig text config → Along (IsOpened false profile config) a c
+opened_behind None c profile front text config marked same is_text is = tt
+opened_behind (Some input) None profile front text config marked same is_text is = absurd marked
+opened_behind (Some input) (Some rest) profile front text config marked same is_text is =
+    let before : front_of input ≡ front = ap (λ (o : Option (List ℕ × List ℕ)). option_map_or (λ (p : List ℕ × List ℕ). p.0) o input) marked.0 in
+    record {
+      parts = subst (λ (p : Option (List ℕ × List ℕ)). HasParts p config rest) (sym marked.0) (subst (λ (t : List ℕ). IsConfig t config) same is, refl);
+      front = subst IsReadable (sym before) (record {
+        utf8 = is_text.utf8;
+        short = ap (λ (b : Bool). b || is_any_long (lines front)) (le-ltb LONGEST_INPUT (length front) is_text.short) ∙ marked.1;
+      });
+    }
 
-pub behind_opened : (a c : Option (List ℕ)) (profile front text : List ℕ) (r : Result Config Fault) → Along (IsMarked front) a c → text ≡ front → IfOk r (IsConfig text) → IfOk r (λ config. Along (IsOpened false profile config) a c)
-behind_opened a c profile front text (Ok config) marked same is = opened_behind a c profile front text config marked same is
-behind_opened a c profile front text (Err fault) marked same is = tt
+pub behind_opened : (a c : Option (List ℕ)) (profile front text : List ℕ) (r : Result Config Fault) → Along (IsMarked front) a c → text ≡ front → IsText front → IfOk r (IsConfig text) → IfOk r (λ config. Along (IsOpened false profile config) a c)
+behind_opened a c profile front text (Ok config) marked same is_text is = opened_behind a c profile front text config marked same is_text is
+behind_opened a c profile front text (Err fault) marked same is_text is = tt
 
 refused_behind : (a c : Option (List ℕ)) (profile front text : List ℕ) (fault : Fault) → Along (IsMarked front) a c → text ≡ front → HasConfigFault text fault → IfSome a (λ input. IsConfigRefused false profile input fault)
 refused_behind None c profile front text fault marked same has = tt
@@ -178,11 +311,11 @@ pub no_text : (a c : Option (List ℕ)) (profile front bytes : List ℕ) (fault 
 no_text None c profile front bytes fault marked same none = tt
 no_text (Some input) None profile front bytes fault marked same none = absurd marked
 no_text (Some input) (Some rest) profile front bytes fault marked same none =
-    rw none.0 (subst (λ (p : Option (List ℕ × List ℕ)). IsSomeAnd p (λ q. ¬ IsUtf8 q.0)) (sym marked.0) (subst (λ (t : List ℕ). ¬ IsUtf8 t) same none.1.1))
+    rw none.0 (refl, subst (λ (p : Option (List ℕ × List ℕ)). IsSomeAnd p (λ q. ¬ IsUtf8 q.0)) (sym marked.0) (subst (λ (t : List ℕ). ¬ IsUtf8 t) same none.1.1))
 
 config_front : (profile input : List ℕ) (fault : Fault) → IsFrontRefused input fault → IsConfigRefused false profile input fault
 config_front profile input faults.InputHasNoMark refused = subst (λ (p : Option (List ℕ × List ℕ)). IsRefused p faults.InputHasNoMark) (sym refused) refl
-config_front profile input faults.InputTooLong refused = refused
+config_front profile input faults.InputTooLong refused = (refl, refused)
 config_front profile input faults.Read refused = tt
 config_front profile input faults.OutOfMemory refused = tt
 config_front profile input _ refused = absurd refused

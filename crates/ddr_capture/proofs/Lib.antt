@@ -1,4 +1,3 @@
-mod DigitLemmas
 mod CutLemmas
 mod FeedLemmas
 mod FrontLemmas

@@ -1,19 +1,20 @@
 -- The commands of a capture, or its first line at fault.
-use Rattle.std.specs.Prelude.{◌≡◌, ℕ, ◌+◌, ◌≤◌, ◌⊎◌, ◌==◌, nat_lt, nat_le, if◌then◌else◌, List, [], ◌∷◌, ◌++◌, length, Option, Some, None, is_some, unwrap_or, Result, Ok, Err}
-use Rattle.std.specs.Option.{option_map_or}
+use Rattle.std.specs.Prelude.{◌≡◌, ℕ, ◌+◌, ◌≤◌, ◌==◌, nat_lt, nat_le, if◌then◌else◌, List, [], ◌∷◌, ◌++◌, length, Option, Some, None, is_some, unwrap_or, Result, Ok, Err}
 use Rattle.std.specs.Str.Lines.{lines}
 use Rattle.ddr_timing.specs.declared.config.Config.{Config}
 use Rattle.ddr_trace.specs.declared.command.Entry.{Entry}
 use Rattle.ddr_judge.specs.Judged.{HasJudged}
 use Rattle.ddr_judge.specs.Records.{Record, end_behind}
-use Rattle.ddr_text.specs.declared.command.Format.{Format}
 use Rattle.ddr_text.specs.declared.fault.Fault.{Fault}
-use Rattle.ddr_text.specs.declared.fault.Fault.TheVariants.{CaptureLine, CaptureOrder}
-use Rattle.ddr_text.specs.declared.fault.LineFault.TheVariants.{Fields, NoSuch, TooLong}
+use Rattle.ddr_text.specs.declared.fault.Fault.TheVariants.{CaptureLine, CaptureOrder, TraceNoSuch}
+use Rattle.ddr_text.specs.declared.fault.LineFault.{LineFault}
+use Rattle.ddr_text.specs.declared.fault.LineFault.TheVariants.{TooLong}
 use Rattle.ddr_text.specs.Instructions.{◌>>>◌}
 use Rattle.ddr_text.specs.Script.{is_skipped}
+use Rattle.ddr_capture.specs.Form.{channel_of, is_missing}
 use Rattle.ddr_capture.specs.Line.{said_of}
 use Rattle.ddr_capture.specs.declared.feed.TheConstants.{LONGEST_LINE}
+use Rattle.ddr_capture.specs.declared.form.Form.{Form}
 use Rattle.ddr_capture.specs.declared.line.Said.{Said}
 use Rattle.ddr_capture.specs.declared.line.Said.TheVariants as says
 use Rattle.ddr_capture.specs.declared.reading.Reading.{Reading}
@@ -26,14 +27,22 @@ pub record Read : Type 0 where
 abbrev pub nothing : Read
 nothing = record { records = []; end = None }
 
--- a command of a channel that is there, behind the others
-abbrev pub with_command : ℕ → ℕ → Read → ℕ → Entry → Result Read Fault
-with_command channels line read channel entry =
-    if nat_lt channel channels then Ok (record {
-      records = read.records ++ record { channel = channel; entry = entry; line = line } ∷ [];
-      end = read.end;
-    })
-    else Err (CaptureLine line NoSuch)
+-- what a line of this number says, or the body's fault
+abbrev pub at_line : {X : Type 0} → ℕ → Result X LineFault → Result X Fault
+at_line line (Ok x) = Ok x
+at_line line (Err cause) = Err (CaptureLine line cause)
+
+-- a command behind the others
+abbrev pub with_record : ℕ → Read → Entry → ℕ → Read
+with_record line read entry channel = record {
+  records = read.records ++ record { channel = channel; entry = entry; line = line } ∷ [];
+  end = read.end;
+}
+
+-- a command of the channel that its line names, if that is one of so many
+abbrev pub with_command : Form → ℕ → ℕ → Read → Option ℕ → Entry → Result Read Fault
+with_command form channels line read named entry =
+    at_line line (channel_of form channels named) >>> λ channel. Ok (with_record line read entry channel)
 
 -- END, which stands behind all commands
 abbrev pub with_end : ℕ → ℕ → Read → ℕ → Result Read Fault
@@ -41,38 +50,40 @@ with_end start line read cycle =
     if nat_le (end_behind start read.records) cycle then Ok (record { records = read.records; end = Some cycle })
     else Err (CaptureOrder line)
 
-abbrev pub with_said : ℕ → ℕ → ℕ → Read → Said → Result Read Fault
-with_said channels start line read says.Nothing = Ok read
-with_said channels start line read (says.Command channel entry) = with_command channels line read channel entry
-with_said channels start line read (says.End cycle) = with_end start line read cycle
+abbrev pub with_said : Form → ℕ → ℕ → ℕ → Read → Said → Result Read Fault
+with_said form channels start line read says.Nothing = Ok read
+with_said form channels start line read (says.Command named entry) = with_command form channels line read named entry
+with_said form channels start line read (says.End cycle) = with_end start line read cycle
 
 -- a line that END does not stand before
-abbrev pub with_open : Format → ℕ → ℕ → ℕ → Read → List ℕ → Result Read Fault
-with_open format channels start line read text =
-    option_map_or (with_said channels start line read) (said_of format (line == 1) text) (Err (CaptureLine line Fields))
+abbrev pub with_open : Form → ℕ → ℕ → ℕ → Read → List ℕ → Result Read Fault
+with_open form channels start line read text =
+    at_line line (said_of form.format (line == 1) text) >>> with_said form channels start line read
 
 -- a line that END stands before
 abbrev pub with_closed : ℕ → Read → List ℕ → Result Read Fault
 with_closed line read text = if is_skipped text then Ok read else Err (CaptureOrder line)
 
 -- one line more, which has this number
-abbrev pub with_line : Format → ℕ → ℕ → ℕ → Read → List ℕ → Result Read Fault
-with_line format channels start line read text =
+abbrev pub with_line : Form → ℕ → ℕ → ℕ → Read → List ℕ → Result Read Fault
+with_line form channels start line read text =
     if nat_lt LONGEST_LINE (length text) then Err (CaptureLine line TooLong)
     else if is_some read.end then with_closed line read text
-    else with_open format channels start line read text
+    else with_open form channels start line read text
 
 -- the lines behind so many, of which this was read
-abbrev pub read_from : Format → ℕ → ℕ → ℕ → Read → List (List ℕ) → Result Read Fault
-read_from format channels start count read [] = Ok read
-read_from format channels start count read (text ∷ more) =
-    with_line format channels start (count + 1) read text >>> λ next. read_from format channels start (count + 1) next more
+abbrev pub read_from : Form → ℕ → ℕ → ℕ → Read → List (List ℕ) → Result Read Fault
+read_from form channels start count read [] = Ok read
+read_from form channels start count read (text ∷ more) =
+    with_line form channels start (count + 1) read text >>> λ next. read_from form channels start (count + 1) next more
 
--- what a body says in this form, or the first fault: `CaptureLine` at a line of no form, one that is too long or one of a
--- channel that is not there, `CaptureOrder` at an END that is not behind all commands or at what stands behind END; lines
--- count from 1
-unfoldable pub captured : Format → Config → ℕ → List ℕ → Result Read Fault
-captured format config start body = read_from format config.geometry.channels start 0 nothing (lines body)
+-- What a body says in this form, or the first fault: that the one channel whose it is isn't there; `CaptureLine` at a line of no
+-- form, one that is too long or one of a channel that is not there, `CaptureOrder` at an END that is not behind all commands or at
+-- what stands behind END. Lines count from 1.
+unfoldable pub captured : Form → Config → ℕ → List ℕ → Result Read Fault
+captured form config start body =
+    if is_missing form config.geometry.channels then Err TraceNoSuch
+    else read_from form config.geometry.channels start 0 nothing (lines body)
 
 -- the trace's end: END's cycle, or else the first cycle from the start on that is behind every command
 abbrev pub end_in : ℕ → Read → ℕ

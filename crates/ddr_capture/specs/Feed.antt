@@ -70,10 +70,3 @@ abbrev pub Along : (List ℕ → List ℕ → Type 0) → Option (List ℕ) → 
 Along P None new = Unit {0}
 Along P (Some text) None = ⊥
 Along P (Some text) (Some rest) = P text rest
-
--- some line of the text is longer than any that is read
-pub record HasLongLine (text : List ℕ) : Type 0 where
-  pub front : List ℕ
-  pub rest : List ℕ
-  pub whole : text ≡ front ++ rest
-  pub long : IsTooLong rest

@@ -2,6 +2,7 @@ pub mod Capture
 pub mod Captured
 pub mod Feed
 pub mod Fields
+pub mod Form
 pub mod Front
 pub mod Line
 pub mod Lines

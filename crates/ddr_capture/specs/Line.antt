@@ -1,12 +1,13 @@
 -- A line of a captured trace, in this project's own form or in another simulator's.
-use Rattle.std.specs.Prelude.{ℕ, ◌≤◌, ◌^◌, Bool, ◌&&◌, if◌then◌else◌, List, [], ◌∷◌, codes, Option, Some, None}
-use Rattle.std.specs.Option.{unwrap_or}
+use Rattle.std.specs.Prelude.{ℕ, ◌≤◌, ◌^◌, Bool, ◌&&◌, ◌||◌, if◌then◌else◌, List, [], ◌∷◌, codes, Option, Some, None, Result, Ok, Err}
+use Rattle.std.specs.Option.{ok_or, option_map_or}
 use Rattle.std.specs.Str.{bytes_eq}
-use Rattle.ddr_trace.specs.declared.command.Entry.{Entry}
 use Rattle.ddr_trace.specs.Parse as trace
 use Rattle.ddr_trace.specs.Parse.{◌>>=◌, are_empty, cycle_of, is_empty, is_header}
 use Rattle.ddr_text.specs.declared.command.Format.{Format}
 use Rattle.ddr_text.specs.declared.command.Format.TheVariants.{Own, Dramsim3, Ramulator2}
+use Rattle.ddr_text.specs.declared.fault.LineFault.{LineFault}
+use Rattle.ddr_text.specs.declared.fault.LineFault.TheVariants.{Fields, Word, Number}
 use Rattle.ddr_text.specs.Script.{fields_of, is_skipped}
 use Rattle.ddr_capture.specs.Fields.{cut, decimal_of, hexadecimal_of, trimmed_cut}
 use Rattle.ddr_capture.specs.Place.{command_of}
@@ -27,19 +28,31 @@ end_at cycle rank group bank row column =
 unfoldable pub entry_at : ℕ → List ℕ → List ℕ → List ℕ → List ℕ → List ℕ → List ℕ → Option Said
 entry_at cycle name rank group bank row column = do
   command ← trace.command_of name rank group bank row column
-  Some (says.Command 0 (record { cycle = cycle; command = command }))
+  Some (says.Command (Some 0) (record { cycle = cycle; command = command }))
 
 unfoldable pub said_at : ℕ → List ℕ → List ℕ → List ℕ → List ℕ → List ℕ → List ℕ → Option Said
 said_at cycle name rank group bank row column =
     if bytes_eq name (codes "END") then end_at cycle rank group bank row column
     else entry_at cycle name rank group bank row column
 
--- what the fields of a record of a trace's text say
-unfoldable pub of_seven : List (List ℕ) → Option Said
-of_seven (cycle ∷ name ∷ rank ∷ group ∷ bank ∷ row ∷ column ∷ []) = do
+-- what the fields of a record of a trace's text say, if each is as the name wants it
+unfoldable pub record_at : List ℕ → List ℕ → List ℕ → List ℕ → List ℕ → List ℕ → List ℕ → Option Said
+record_at cycle name rank group bank row column = do
   at ← cycle_of cycle
   said_at at name rank group bank row column
-of_seven _ = None
+
+-- a command of a trace, or END
+abbrev pub is_name : List ℕ → Bool
+is_name name =
+    bytes_eq name (codes "ACT") || bytes_eq name (codes "RD") || bytes_eq name (codes "WR") || bytes_eq name (codes "RDA")
+    || bytes_eq name (codes "WRA") || bytes_eq name (codes "PRE") || bytes_eq name (codes "PREA") || bytes_eq name (codes "REF")
+    || bytes_eq name (codes "END")
+
+-- a record of a trace's text
+abbrev pub of_seven : List (List ℕ) → Result Said LineFault
+of_seven (cycle ∷ name ∷ rank ∷ group ∷ bank ∷ row ∷ column ∷ []) =
+    if is_name name then ok_or (record_at cycle name rank group bank row column) Number else Err Word
+of_seven _ = Err Fields
 
 abbrev pub kind_of_dramsim3 : List ℕ → Option Kind
 kind_of_dramsim3 name =
@@ -83,33 +96,34 @@ place_of t rank group bank row column = do
   l ← wide_of t column
   Some (record { rank = k; group = g; bank = b; row = w; line = l })
 
--- `CYCLE NAME CHANNEL RANK GROUP BANK ROW COLUMN`; where no channel is given, it is channel 0
-unfoldable pub command_at : tools.Tool → List ℕ → List ℕ → List ℕ → List ℕ → List ℕ → List ℕ → List ℕ → List ℕ → Option Said
-command_at t cycle name channel rank group bank row column = do
+-- a command of this kind, at this cycle and place, if each field is as the kind wants it
+unfoldable pub command_at : tools.Tool → Kind → List ℕ → List ℕ → List ℕ → List ℕ → List ℕ → List ℕ → List ℕ → Option Said
+command_at t kind cycle channel rank group bank row column = do
   at ← cycle_of cycle
-  kind ← kind_of t name
   c ← decimal_of channel
   place ← place_of t rank group bank row column
   command ← command_of kind place
-  Some (says.Command (unwrap_or c 0) (record { cycle = at; command = command }))
+  Some (says.Command c (record { cycle = at; command = command }))
 
-abbrev pub of_eight : tools.Tool → List (List ℕ) → Option Said
-of_eight t (cycle ∷ name ∷ channel ∷ rank ∷ group ∷ bank ∷ row ∷ column ∷ []) = command_at t cycle name channel rank group bank row column
-of_eight t _ = None
+-- `CYCLE NAME CHANNEL RANK GROUP BANK ROW COLUMN`
+abbrev pub of_eight : tools.Tool → List (List ℕ) → Result Said LineFault
+of_eight t (cycle ∷ name ∷ channel ∷ rank ∷ group ∷ bank ∷ row ∷ column ∷ []) =
+    option_map_or (λ kind. ok_or (command_at t kind cycle channel rank group bank row column) Number) (kind_of t name) (Err Word)
+of_eight t _ = Err Fields
 
 -- a line of this project's form is a record of a trace's text, or where it is the first one its header
-abbrev pub of_own : Bool → List (List ℕ) → Option Said
-of_own first fields = if first && is_header fields then Some says.Nothing else of_seven fields
+abbrev pub of_own : Bool → List (List ℕ) → Result Said LineFault
+of_own first fields = if first && is_header fields then Ok says.Nothing else of_seven fields
 
 -- what a line says that is not skipped
-abbrev pub of_form : Format → Bool → List ℕ → Option Said
+abbrev pub of_form : Format → Bool → List ℕ → Result Said LineFault
 of_form Own first line = of_own first (cut line)
 of_form Dramsim3 first line = of_eight tool.Dramsim3 (fields_of line)
 of_form Ramulator2 first line = of_eight tool.Ramulator2 (trimmed_cut line)
 
--- what a line says, if it is of this form; `first` tells the first line of the trace
-unfoldable pub said_of : Format → Bool → List ℕ → Option Said
-said_of format first line = if is_skipped line then Some says.Nothing else of_form format first line
+-- what a line says, or what is wrong with it; `first` tells the first line of the trace
+unfoldable pub said_of : Format → Bool → List ℕ → Result Said LineFault
+said_of format first line = if is_skipped line then Ok says.Nothing else of_form format first line
 
 -- a cycle at which a clock has not stopped
 abbrev pub IsEarly : Said → Type 0

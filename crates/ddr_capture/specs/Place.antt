@@ -1,5 +1,5 @@
 -- Where a captured command goes, as other simulators write it: numbers, of which some are not used.
-use Rattle.std.specs.Prelude.{ℕ, Option, Some, None}
+use Rattle.std.specs.Prelude.{Option, Some}
 use Rattle.ddr_trace.specs.declared.command.Command.{Command}
 use Rattle.ddr_trace.specs.declared.command.Command.TheVariants as commands
 use Rattle.ddr_trace.specs.Parse.{◌>>=◌}

@@ -1,5 +1,5 @@
 -- What is told of a capture: a verdict on each channel.
-use Rattle.std.specs.Prelude.{◌≡◌, ℕ, ◌+◌, ◌<◌, ◌∷◌, ◌++◌, Bool, List, [], length, codes, Option, Some, None, is_none, slice_index_or}
+use Rattle.std.specs.Prelude.{◌≡◌, ℕ, ◌+◌, ◌<◌, ◌∷◌, ◌++◌, Bool, if◌then◌else◌, List, [], length, codes, Option, Some, None, is_none, is_some, slice_index_or, unwrap_or}
 use Rattle.std.specs.Fmt.{decimal}
 use Rattle.std.specs.List.{list_all}
 use Rattle.ddr_timing.specs.declared.config.Config.{Config}
@@ -9,12 +9,21 @@ use Rattle.ddr_judge.specs.Records.{Record, lane}
 use Rattle.ddr_judge.specs.Verdict.{IsVerdict}
 use Rattle.ddr_text.specs.declared.command.Format.{Format}
 use Rattle.ddr_text.specs.declared.command.Format.TheVariants.{Own, Dramsim3, Ramulator2}
+use Rattle.ddr_capture.specs.declared.form.Form.{Form}
 
--- how many channels are told: this project's own form has one
-abbrev pub told_channels : Format → ℕ → ℕ
-told_channels Own channels = 1
-told_channels Dramsim3 channels = channels
-told_channels Ramulator2 channels = channels
+-- how many channels a capture of all is of: one in this project's own form
+abbrev pub channels_in : Format → ℕ → ℕ
+channels_in Own channels = 1
+channels_in Dramsim3 channels = channels
+channels_in Ramulator2 channels = channels
+
+-- the first channel that is told
+abbrev pub first_told : Form → ℕ
+first_told form = unwrap_or form.channel 0
+
+-- how many are told, of so many
+abbrev pub told_channels : Form → ℕ → ℕ
+told_channels form channels = if is_some form.channel then 1 else channels_in form.format channels
 
 -- this project's own form: `legal`, or `fault PLACE RULE`
 unfoldable pub own_text : Option judged.Fault → List ℕ
@@ -42,13 +51,13 @@ abbrev pub lines_from : Format → ℕ → List (Option judged.Fault) → List �
 lines_from format channel [] = []
 lines_from format channel (verdict ∷ more) = verdict_line format channel verdict ++ lines_from format (channel + 1) more
 
-abbrev pub report : Format → List (Option judged.Fault) → List ℕ
-report format verdicts = lines_from format 0 verdicts
+abbrev pub report : Form → List (Option judged.Fault) → List ℕ
+report form verdicts = lines_from form.format (first_told form) verdicts
 
--- of each channel from 0 on its verdict, so many
-pub record AreVerdicts (config : Config) (start end : ℕ) (records : List Record) (channels : ℕ) (verdicts : List (Option judged.Fault)) : Type 0 where
+-- of each channel from this one on its verdict, so many
+pub record AreVerdicts (config : Config) (start end : ℕ) (records : List Record) (first channels : ℕ) (verdicts : List (Option judged.Fault)) : Type 0 where
   pub count : length verdicts ≡ channels
-  pub each : (channel : ℕ) → channel < length verdicts → IsVerdict config start end (lane channel records) (slice_index_or verdicts channel None)
+  pub each : (at : ℕ) → at < length verdicts → IsVerdict config start end (lane (first + at) records) (slice_index_or verdicts at None)
 
 abbrev pub are_legal : List (Option judged.Fault) → Bool
 are_legal verdicts = list_all is_none verdicts

@@ -6,6 +6,7 @@ ghost use Rattle.std.specs.Prelude.{◌≡◌, ◌≤◌, ◌+◌, ◌<◌, ◌=
 ghost use Rattle.std.specs.Io.{ReadsAtMost};
 ghost use Rattle.std.specs.Io.KnownBytes.{Consumes, IsAtEnd, Keeps, ReadConsumes};
 ghost use Rattle.std.specs.List.{position_or_len};
+ghost use Rattle.std.specs.Str.Lines.{strip_carriage_return};
 ghost use Rattle.ddr_capture.specs.declared.feed.Refusal.TheVariants.{OutOfMemory};
 ghost use Rattle.ddr_capture.specs.Feed.{BeginsWith, HasFound, IsFound, IsRead, IsTooLong, IsWell, left, line_in, waiting};
 
@@ -203,4 +204,14 @@ fn feed_place(text: &[u8]) -> Option<usize>
     ensures none { IfNone result (position_or_len (λ byte. byte == 10) text.now ≡ length text.now) }
 {
     memchr(b'\n', text)
+}
+
+/// A line without the carriage return at its end, if it has one.
+pub(crate) fn without_return(line: &[u8]) -> &[u8]
+    ensures { result.now ≡ strip_carriage_return line.now }
+{
+    if !line.is_empty() && line[line.len() - 1] == b'\r' {
+        return &line[..line.len() - 1];
+    }
+    line
 }

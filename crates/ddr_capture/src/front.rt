@@ -1,13 +1,14 @@
 //! The configuration in front of a capture.
 //!
 //! `feed` and `ddr_text` stand below, and `capture` above.
-ghost use Rattle.std.specs.Prelude.{◌≡◌, ◌+◌, ◌<◌, ◌≤◌, ◌⊎◌, ◌++◌, ◌∷◌, [], IfErr, IfOk, IfSome, IsErrOf, IsTrue, List, OnOk, Option, false, length, true, vec_len, ℕ};
+ghost use Rattle.std.specs.Prelude.{◌≡◌, ◌+◌, ◌<◌, ◌≤◌, ◌⊎◌, ◌++◌, ◌∷◌, [], IfErr, IfOk, IfSome, IsErrOf, IsTrue, List, OnOk, Option, false, length, nat_lt, true, vec_len, ℕ};
 ghost use Rattle.std.specs.Str.{bytes_eq};
+ghost use Rattle.std.specs.Str.Lines.{strip_carriage_return};
 ghost use Rattle.ddr_text.specs.Body.{HasConfigFault, IsConfig, is_mark};
 ghost use Rattle.ddr_capture.specs.Feed.{Along, HasFound, IsWell, left};
 ghost use Rattle.ddr_capture.specs.Front.{IsConfigRefused, IsFront, IsFrontRefused, IsFrontStep, IsMarked, IsOpened, front_fault};
 
-use crate::feed::{Feed, Found, Refusal};
+use crate::feed::{Feed, Found, LONGEST_LINE, Refusal, without_return};
 use ddr_text::fault::Fault;
 use ddr_text::input::{LONGEST_INPUT, text_of};
 use ddr_text::source::Source;
@@ -133,6 +134,9 @@ fn take_line(line: &[u8], front: &mut Vec<u8>) -> Result<bool, Fault>
     if is_mark(line) {
         return Ok(true);
     }
+    if is_wide(line) {
+        return Err(Fault::InputTooLong);
+    }
     match push_line(front, line) {
         Ok(()) => Ok(false),
         Err(fault) => Err(fault),
@@ -166,6 +170,13 @@ fn is_mark(line: &[u8]) -> bool
     ensures { result ≡ is_mark line.now }
 {
     line == b"---".as_slice() || line == b"---\r".as_slice()
+}
+
+/// Whether a line is longer than one that is read.
+fn is_wide(line: &[u8]) -> bool
+    ensures { result ≡ nat_lt LONGEST_LINE (length (strip_carriage_return line.now)) }
+{
+    without_return(line).len() > LONGEST_LINE
 }
 
 /// Adds a line and its line feed, where the configuration does not grow too long.

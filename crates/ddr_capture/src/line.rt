@@ -1,13 +1,14 @@
 //! A line of a captured trace.
 //!
 //! `own` and `tool` stand below, which read the lines that are not skipped.
-ghost use Rattle.std.specs.Prelude.{◌≡◌, IfSome};
+ghost use Rattle.std.specs.Prelude.{◌≡◌, IfOk};
 ghost use Rattle.ddr_text.specs.Script.{is_skipped};
 ghost use Rattle.ddr_capture.specs.Line.{IsEarly, of_form, said_of};
 
 use crate::own::read_own;
 use crate::tool::{read_cut, read_spaced};
 use ddr_text::command::Format;
+use ddr_text::fault::LineFault;
 use ddr_trace::command::Entry;
 
 /// What a line says.
@@ -15,29 +16,30 @@ use ddr_trace::command::Entry;
 pub enum Said {
     /// Nothing: the line is empty, a comment, which begins with `#`, or the header.
     Nothing,
-    /// A command of a channel.
-    Command { channel: u32, entry: Entry },
+    /// A command, of the channel that the line names, if it names one.
+    Command { channel: Option<u32>, entry: Entry },
     /// The trace's end.
     End(u64),
 }
 
-/// What a line says, which has no end of its own; none where it is not of the form. The header of this project's form may stand
-/// in the first line alone.
+/// What a line says, which has no end of its own. The header of this project's form may stand in the first line alone. Fails as
+/// `Fields` where there are not as many fields as the form has, else as `Word` where the name is of no command of the form, and
+/// else as `Number` where a field is not as the command wants it.
 #[tactic(auto, unfolding(crate::specs::Line::said_of))]
-pub fn read_line(format: Format, first: bool, line: &[u8]) -> Option<Said>
+pub fn read_line(format: Format, first: bool, line: &[u8]) -> Result<Said, LineFault>
     ensures exact { result ≡ said_of format first line.now }
-    ensures early { IfSome result IsEarly }
+    ensures early { IfOk result IsEarly }
 {
     if is_skipped(line) {
-        return Some(Said::Nothing);
+        return Ok(Said::Nothing);
     }
     read_form(format, first, line)
 }
 
 /// What a line says that is not skipped.
-fn read_form(format: Format, first: bool, line: &[u8]) -> Option<Said>
+fn read_form(format: Format, first: bool, line: &[u8]) -> Result<Said, LineFault>
     ensures exact { result ≡ of_form format first line.now }
-    ensures early { IfSome result IsEarly }
+    ensures early { IfOk result IsEarly }
 {
     match format {
         Format::Own => read_own(first, line),

@@ -1,14 +1,15 @@
 //! A line of this project's own form: a record of a trace's text, whose fields have no quotation marks.
 //!
 //! `cuts` and `number` stand below, and `line` above. `ddr_trace` says what a record is.
-ghost use Rattle.std.specs.Prelude.{◌≡◌, ◌≢◌, ◌&&◌, ◌∷◌, [], IfNone, IfSome, length};
+ghost use Rattle.std.specs.Prelude.{◌≡◌, ◌≢◌, ◌&&◌, ◌∷◌, [], IfNone, IfOk, IfSome, length};
 ghost use Rattle.ddr_trace.specs.Parse.{act_of, are_empty, command_of, is_empty, is_header, pre_of, prea_of, rd_of, rda_of, ref_of, wr_of, wra_of};
 ghost use Rattle.ddr_capture.specs.Fields.{cut};
-ghost use Rattle.ddr_capture.specs.Line.{IsEarly, of_own, of_seven};
+ghost use Rattle.ddr_capture.specs.Line.{IsEarly, is_name, of_own, record_at};
 
 use crate::cuts::{four_cut, last_cuts};
 use crate::line::Said;
 use crate::number::{cycle_of, index_of, line_of};
+use ddr_text::fault::LineFault;
 use ddr_trace::command::{Command, Entry};
 
 /// The seven fields of a record.
@@ -31,15 +32,44 @@ struct Address<'a> {
 
 /// What a line says.
 #[tactic(auto, using(crate::proofs::CutLemmas::not_seven))]
-pub(crate) fn read_own(first: bool, line: &[u8]) -> Option<Said>
+pub(crate) fn read_own(first: bool, line: &[u8]) -> Result<Said, LineFault>
     ensures exact { result ≡ of_own first (cut line.now) }
-    ensures early { IfSome result IsEarly }
+    ensures early { IfOk result IsEarly }
 {
-    let record = record_in(line)?;
-    if first && record.is_header() {
-        return Some(Said::Nothing);
+    match record_in(line) {
+        Some(record) => read_record(first, &record),
+        None => Err(LineFault::Fields),
     }
-    record.said()
+}
+
+/// What seven fields say.
+fn read_record(first: bool, fields: &Record<'_>) -> Result<Said, LineFault>
+    ensures exact { result ≡ of_own first (fields.now.cycle.now ∷ fields.now.name.now ∷ fields.now.address.rank.now
+        ∷ fields.now.address.group.now ∷ fields.now.address.bank.now ∷ fields.now.address.row.now ∷ fields.now.address.column.now ∷ []) }
+    ensures early { IfOk result IsEarly }
+{
+    if first && fields.is_header() {
+        return Ok(Said::Nothing);
+    }
+    if !is_name(fields.name) {
+        return Err(LineFault::Word);
+    }
+    fields.said().ok_or(LineFault::Number)
+}
+
+/// Whether this is the name of a command, or END.
+fn is_name(name: &[u8]) -> bool
+    ensures { result ≡ is_name name.now }
+{
+    name == b"ACT".as_slice()
+        || name == b"RD".as_slice()
+        || name == b"WR".as_slice()
+        || name == b"RDA".as_slice()
+        || name == b"WRA".as_slice()
+        || name == b"PRE".as_slice()
+        || name == b"PREA".as_slice()
+        || name == b"REF".as_slice()
+        || name == b"END".as_slice()
 }
 
 /// The seven fields of a line; none where it has another number of them.
@@ -80,11 +110,11 @@ impl Record<'_> {
             && self.address.column == b"col".as_slice()
     }
 
-    /// What the record says.
-    #[tactic(auto, unfolding(crate::specs::Line::of_seven, crate::specs::Line::said_at, crate::specs::Line::entry_at, crate::specs::Line::end_at))]
+    /// What the record says; none where a field is not as the name wants it.
+    #[tactic(auto, unfolding(crate::specs::Line::record_at, crate::specs::Line::said_at, crate::specs::Line::entry_at, crate::specs::Line::end_at))]
     fn said(&self) -> Option<Said>
-        ensures exact { result ≡ of_seven (self.now.cycle.now ∷ self.now.name.now ∷ self.now.address.rank.now
-            ∷ self.now.address.group.now ∷ self.now.address.bank.now ∷ self.now.address.row.now ∷ self.now.address.column.now ∷ []) }
+        ensures exact { result ≡ record_at self.now.cycle.now self.now.name.now self.now.address.rank.now
+            self.now.address.group.now self.now.address.bank.now self.now.address.row.now self.now.address.column.now }
         ensures early { IfSome result IsEarly }
     {
         let cycle = cycle_of(self.cycle)?;
@@ -93,7 +123,7 @@ impl Record<'_> {
         }
         let command = self.address.command(self.name)?;
         Some(Said::Command {
-            channel: 0,
+            channel: Some(0),
             entry: Entry { cycle, command },
         })
     }

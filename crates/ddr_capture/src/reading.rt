@@ -1,17 +1,18 @@
 //! What is kept of a capture while its lines are read.
 //!
-//! `line` stands below, and `ddr_judge`, which judges the commands; `capture` stands above.
-ghost use Rattle.std.specs.Prelude.{◌≡◌, ℕ, ◌+◌, ◌<◌, ◌≤◌, ◌==◌, ◌^◌, IfErr, IfOk, None};
+//! `line` and `form` stand below, and `ddr_judge`, which judges the commands; `capture` stands above.
+ghost use Rattle.std.specs.Prelude.{◌≡◌, ℕ, ◌+◌, ◌<◌, ◌≤◌, ◌==◌, ◌^◌, IfErr, IfOk, None, false};
 ghost use Rattle.ddr_timing.specs.declared.config.Config.{Config};
 ghost use Rattle.ddr_judge.specs.Judged.{channels_of, commands_of};
 ghost use Rattle.ddr_text.specs.Script.{is_skipped};
 ghost use Rattle.ddr_capture.specs.Captured.{HasRead, IsLineFault, IsStep, Read, end_in, nothing, with_closed, with_command, with_end, with_line, with_open, with_said};
+ghost use Rattle.ddr_capture.specs.Form.{is_missing};
 ghost use Rattle.ddr_capture.specs.Line.{IsEarly};
 
 use crate::feed::LONGEST_LINE;
+use crate::form::Form;
 use crate::line::{Said, is_skipped, read_line};
 use ddr_judge::judge::Judge;
-use ddr_text::command::Format;
 use ddr_text::fault::{Fault, LineFault};
 use ddr_timing::config::Config;
 use ddr_trace::command::Entry;
@@ -20,7 +21,7 @@ use std::alloc::{AllocError, Global};
 /// What is kept of the lines so far. Contracts speak of every `Read` for which it stands.
 #[derive(Drop)]
 pub(crate) struct Reading {
-    pub format: Format,
+    pub form: Form,
     /// How many channels there are.
     pub channels: u32,
     pub judge: Judge,
@@ -33,16 +34,16 @@ impl Reading {
     pub(crate) fn new(
         alloc: Global,
         config: &Config,
-        format: Format,
+        form: Form,
         start: u64,
     ) -> Result<Reading, AllocError>
-        ensures form { IfOk result (λ r. r.format ≡ format) }
+        ensures form { IfOk result (λ r. r.form ≡ form) }
         ensures channels { IfOk result (λ r. r.channels ≡ config.now.geometry.channels) }
         ensures there { IfOk result (λ r. channels_of r.judge ≡ r.channels) }
         ensures read { IfOk result (λ r. HasRead r config.now start nothing) }
     {
         Ok(Reading {
-            format,
+            form,
             channels: config.geometry.channels,
             judge: Judge::open(alloc, config, start)?,
             end: None,
@@ -61,14 +62,15 @@ impl Reading {
 
     /// Takes the line of this number. Fails as `CaptureLine` and as `CaptureOrder`.
     pub(crate) fn take_line(&mut self, line: u64, text: &[u8]) -> Result<(), Fault>
+        requires known { is_missing self.old.form self.old.channels ≡ false }
         requires there { channels_of self.old.judge ≡ self.old.channels }
         requires countable { (channel : ℕ) → channel < channels_of self.old.judge → commands_of self.old.judge channel + 1 < 2 ^ 64 }
-        ensures format { self.new.format ≡ self.old.format }
+        ensures form { self.new.form ≡ self.old.form }
         ensures channels { self.new.channels ≡ self.old.channels }
         ensures there { channels_of self.new.judge ≡ self.new.channels }
         ensures refused { IfErr result (IsLineFault line) }
         ensures said { (config : Config) (start : ℕ) (read : Read) → HasRead self.old config start read
-            → IsStep self.new config start read result (with_line self.old.format self.old.channels start line read text.now) }
+            → IsStep self.new config start read result (with_line self.old.form self.old.channels start line read text.now) }
     {
         if text.len() > LONGEST_LINE {
             return Err(Fault::CaptureLine {
@@ -97,36 +99,35 @@ impl Reading {
     /// Takes a line that END does not stand before.
     fn take_open(&mut self, line: u64, text: &[u8]) -> Result<(), Fault>
         requires open { self.old.end ≡ None }
+        requires known { is_missing self.old.form self.old.channels ≡ false }
         requires there { channels_of self.old.judge ≡ self.old.channels }
         requires countable { (channel : ℕ) → channel < channels_of self.old.judge → commands_of self.old.judge channel + 1 < 2 ^ 64 }
-        ensures format { self.new.format ≡ self.old.format }
+        ensures form { self.new.form ≡ self.old.form }
         ensures channels { self.new.channels ≡ self.old.channels }
         ensures there { channels_of self.new.judge ≡ self.new.channels }
         ensures refused { IfErr result (IsLineFault line) }
         ensures said { (config : Config) (start : ℕ) (read : Read) → HasRead self.old config start read
-            → IsStep self.new config start read result (with_open self.old.format self.old.channels start line read text.now) }
+            → IsStep self.new config start read result (with_open self.old.form self.old.channels start line read text.now) }
     {
-        match read_line(self.format, line == 1, text) {
-            Some(said) => self.take_said(line, said),
-            None => Err(Fault::CaptureLine {
-                line,
-                cause: LineFault::Fields,
-            }),
+        match read_line(self.form.format, line == 1, text) {
+            Ok(said) => self.take_said(line, said),
+            Err(cause) => Err(Fault::CaptureLine { line, cause }),
         }
     }
 
     /// Takes what a line says.
     fn take_said(&mut self, line: u64, said: Said) -> Result<(), Fault>
         requires open { self.old.end ≡ None }
+        requires known { is_missing self.old.form self.old.channels ≡ false }
         requires there { channels_of self.old.judge ≡ self.old.channels }
         requires countable { (channel : ℕ) → channel < channels_of self.old.judge → commands_of self.old.judge channel + 1 < 2 ^ 64 }
         requires early { IsEarly said }
-        ensures format { self.new.format ≡ self.old.format }
+        ensures form { self.new.form ≡ self.old.form }
         ensures channels { self.new.channels ≡ self.old.channels }
         ensures there { channels_of self.new.judge ≡ self.new.channels }
         ensures refused { IfErr result (IsLineFault line) }
         ensures said { (config : Config) (start : ℕ) (read : Read) → HasRead self.old config start read
-            → IsStep self.new config start read result (with_said self.old.channels start line read said) }
+            → IsStep self.new config start read result (with_said self.old.form self.old.channels start line read said) }
     {
         match said {
             Said::Nothing => Ok(()),
@@ -135,34 +136,34 @@ impl Reading {
         }
     }
 
-    /// Takes a command, where its channel is there.
-    fn take_command(&mut self, line: u64, channel: u32, entry: &Entry) -> Result<(), Fault>
+    /// Takes a command, where the channel that its line names is there.
+    fn take_command(&mut self, line: u64, named: Option<u32>, entry: &Entry) -> Result<(), Fault>
         requires open { self.old.end ≡ None }
+        requires known { is_missing self.old.form self.old.channels ≡ false }
         requires there { channels_of self.old.judge ≡ self.old.channels }
         requires countable { (channel : ℕ) → channel < channels_of self.old.judge → commands_of self.old.judge channel + 1 < 2 ^ 64 }
         requires early { entry.now.cycle ≤ 2 ^ 62 }
-        ensures format { self.new.format ≡ self.old.format }
+        ensures form { self.new.form ≡ self.old.form }
         ensures channels { self.new.channels ≡ self.old.channels }
         ensures there { channels_of self.new.judge ≡ self.new.channels }
         ensures refused { IfErr result (IsLineFault line) }
         ensures said { (config : Config) (start : ℕ) (read : Read) → HasRead self.old config start read
-            → IsStep self.new config start read result (with_command self.old.channels line read channel entry.now) }
+            → IsStep self.new config start read result (with_command self.old.form self.old.channels line read named entry.now) }
     {
-        if channel >= self.channels {
-            return Err(Fault::CaptureLine {
-                line,
-                cause: LineFault::NoSuch,
-            });
+        match self.form.channel_of(self.channels, named) {
+            Ok(channel) => {
+                self.judge.pass(channel, entry, line);
+                Ok(())
+            }
+            Err(cause) => Err(Fault::CaptureLine { line, cause }),
         }
-        self.judge.pass(channel, entry, line);
-        Ok(())
     }
 
     /// Takes END, where it stands behind all commands.
     fn take_end(&mut self, line: u64, cycle: u64) -> Result<(), Fault>
         requires open { self.old.end ≡ None }
         requires there { channels_of self.old.judge ≡ self.old.channels }
-        ensures format { self.new.format ≡ self.old.format }
+        ensures form { self.new.form ≡ self.old.form }
         ensures channels { self.new.channels ≡ self.old.channels }
         ensures there { channels_of self.new.judge ≡ self.new.channels }
         ensures refused { IfErr result (IsLineFault line) }

@@ -1,7 +1,7 @@
 //! A line of another simulator's command trace.
 //!
 //! `cuts`, `place`, `number` and `hexadecimal` stand below, and `line` above.
-ghost use Rattle.std.specs.Prelude.{◌≡◌, IfSome};
+ghost use Rattle.std.specs.Prelude.{◌≡◌, ◌∷◌, [], IfOk, IfSome};
 ghost use Rattle.ddr_text.specs.Script.{fields_of};
 ghost use Rattle.ddr_capture.specs.Fields.{decimal_of, hexadecimal_of, trimmed_cut};
 ghost use Rattle.ddr_capture.specs.Line.{IsEarly, command_at, kind_of, kind_of_dramsim3, kind_of_ramulator2, of_eight, place_of, wide_of};
@@ -12,6 +12,7 @@ use crate::hexadecimal::hex_index_of;
 use crate::line::Said;
 use crate::number::{cycle_of, index_of};
 use crate::place::{Kind, Place};
+use ddr_text::fault::LineFault;
 use ddr_trace::command::Entry;
 
 /// The simulator that a line is of.
@@ -23,38 +24,53 @@ pub enum Tool {
 
 /// What a line of DRAMSim3 says.
 #[tactic(auto, using(crate::proofs::CutLemmas::not_eight))]
-pub(crate) fn read_spaced(line: &[u8]) -> Option<Said>
+pub(crate) fn read_spaced(line: &[u8]) -> Result<Said, LineFault>
     ensures exact { result ≡ of_eight tool.Dramsim3 (fields_of line.now) }
-    ensures early { IfSome result IsEarly }
+    ensures early { IfOk result IsEarly }
 {
-    let (front, back) = eight_spaced(line)?;
-    read_eight(Tool::Dramsim3, &front, &back)
+    match eight_spaced(line) {
+        Some((front, back)) => read_eight(Tool::Dramsim3, &front, &back),
+        None => Err(LineFault::Fields),
+    }
 }
 
 /// What a line of Ramulator 2 says.
 #[tactic(auto, using(crate::proofs::CutLemmas::not_eight))]
-pub(crate) fn read_cut(line: &[u8]) -> Option<Said>
+pub(crate) fn read_cut(line: &[u8]) -> Result<Said, LineFault>
     ensures exact { result ≡ of_eight tool.Ramulator2 (trimmed_cut line.now) }
-    ensures early { IfSome result IsEarly }
+    ensures early { IfOk result IsEarly }
 {
-    let (front, back) = eight_trimmed(line)?;
-    read_eight(Tool::Ramulator2, &front, &back)
+    match eight_trimmed(line) {
+        Some((front, back)) => read_eight(Tool::Ramulator2, &front, &back),
+        None => Err(LineFault::Fields),
+    }
 }
 
 /// What eight fields say.
+fn read_eight(tool: Tool, front: &Four<'_>, back: &Four<'_>) -> Result<Said, LineFault>
+    ensures exact { result ≡ of_eight tool (front.now.first.now ∷ front.now.second.now ∷ front.now.third.now ∷ front.now.fourth.now
+        ∷ back.now.first.now ∷ back.now.second.now ∷ back.now.third.now ∷ back.now.fourth.now ∷ []) }
+    ensures early { IfOk result IsEarly }
+{
+    match kind_of(tool, front.second) {
+        Some(kind) => command_at(tool, kind, front, back).ok_or(LineFault::Number),
+        None => Err(LineFault::Word),
+    }
+}
+
+/// A command of this kind; none where a field is not as the kind wants it.
 #[tactic(auto, unfolding(crate::specs::Line::command_at))]
-fn read_eight(tool: Tool, front: &Four<'_>, back: &Four<'_>) -> Option<Said>
-    ensures exact { result ≡ command_at tool front.now.first.now front.now.second.now front.now.third.now front.now.fourth.now
+fn command_at(tool: Tool, kind: Kind, front: &Four<'_>, back: &Four<'_>) -> Option<Said>
+    ensures exact { result ≡ command_at tool kind front.now.first.now front.now.third.now front.now.fourth.now
         back.now.first.now back.now.second.now back.now.third.now back.now.fourth.now }
     ensures early { IfSome result IsEarly }
 {
     let cycle = cycle_of(front.first)?;
-    let kind = kind_of(tool, front.second)?;
     let channel = decimal_of(front.third)?;
     let place = place_of(tool, front.fourth, back)?;
     let command = place.command(kind)?;
     Some(Said::Command {
-        channel: channel.unwrap_or(0),
+        channel,
         entry: Entry { cycle, command },
     })
 }

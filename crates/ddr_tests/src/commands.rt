@@ -12,6 +12,8 @@ mod stopping;
 mod threaded;
 mod version_2;
 
+use ddr_capture::capture::capture;
+use ddr_capture::form::Form;
 use ddr_sim::sim::sim;
 use ddr_text::check::check;
 use ddr_text::fault::Fault;
@@ -44,6 +46,8 @@ enum Command {
     /// `sim` with the trace of a channel.
     Trace(u32),
     Check,
+    /// `check` of captured commands in this form, from cycle 0 on.
+    Capture(Form),
     Map,
 }
 
@@ -59,6 +63,7 @@ fn end_of<R: Source, W: Sink>(
         Command::Sim => sim(alloc, sample, None, reader, writer),
         Command::Trace(channel) => sim(alloc, sample, Some(channel), reader, writer),
         Command::Check => return check(alloc, sample, reader, writer),
+        Command::Capture(form) => return capture(alloc, sample, form, 0, reader, writer),
         Command::Map => map(alloc, sample, reader, writer),
     };
     match end {

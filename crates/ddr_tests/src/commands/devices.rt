@@ -1,7 +1,9 @@
 //! Readers and writers over memory: one that never ends, and ones that fail at a call.
 use super::{Command, REPLIES, TRACE, WRITE_THEN_READ, end_of, is_so};
+use ddr_capture::form::Form;
 use ddr_run::run::run;
-use ddr_text::fault::Fault;
+use ddr_text::command::Format;
+use ddr_text::fault::{Fault, LineFault};
 use ddr_text::source::Device;
 use std::alloc::{AllocError, Global};
 use std::io;
@@ -63,6 +65,18 @@ fn end_in(calls: u32, needed: u32, text: &str) -> (Result<bool, Fault>, &str) {
     }
 }
 
+/// Captured commands in this project's own form.
+const OWN: Command = Command::Capture(Form {
+    format: Format::Own,
+    channel: None,
+});
+
+/// Those of channel 1 in DRAMSim3's.
+const OF_CHANNEL_1: Command = Command::Capture(Form {
+    format: Format::Dramsim3,
+    channel: Some(1),
+});
+
 /// Commands, with what they read and what they write, and in how many calls each.
 const CALLS: &[(Command, &str, &str, u32, u32)] = &[
     // 30 bytes are read in 4 calls, and their end by one more. The replies are two lines of 12 and 20 bytes, written in
@@ -88,6 +102,17 @@ const CALLS: &[(Command, &str, &str, u32, u32)] = &[
     ),
     // 92 bytes are read in 12 calls, and 6 written in 2.
     (Command::Check, TRACE, "legal\n", 13, 3),
+    // The same, line by line.
+    (OWN, TRACE, "legal\n", 13, 3),
+    // 32 bytes are read in 4 calls, and their end by one more, and once more behind the line, which lacks its own. 16 are written
+    // in 4.
+    (
+        OF_CHANNEL_1,
+        "200 refresh -1 0 -1 -1 -0x1 -0x1",
+        "channel 1 legal\n",
+        6,
+        5,
+    ),
 ];
 
 /// That a command fails where one of the calls that it needs to read its input does.
@@ -170,6 +195,12 @@ impl Read for Comments {
     }
 }
 
+/// The line of the comments is longer than one that is read of captured commands.
+const TOO_LONG: Fault = Fault::CaptureLine {
+    line: 1,
+    cause: LineFault::TooLong,
+};
+
 /// Commands, how many bytes of comments each is given, and how it ends.
 const COMMENTS: &[(Command, u64, Result<bool, Fault>)] = &[
     (Command::Sim, 16_777_216, Ok(true)),
@@ -178,6 +209,7 @@ const COMMENTS: &[(Command, u64, Result<bool, Fault>)] = &[
     (Command::Trace(0), u64::MAX, Err(Fault::InputTooLong)),
     (Command::Check, 16_777_217, Err(Fault::InputTooLong)),
     (Command::Check, u64::MAX, Err(Fault::InputTooLong)),
+    (OWN, u64::MAX, Err(TOO_LONG)),
     (Command::Map, 16_777_217, Err(Fault::InputTooLong)),
     (Command::Map, u64::MAX, Err(Fault::InputTooLong)),
 ];

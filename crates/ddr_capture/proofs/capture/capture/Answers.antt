@@ -7,4 +7,4 @@ use Rattle.ddr_capture.proofs.capture.capture.Goals as goal
 pub returns-in_err-write_whole-clause-fault : goal.returns-in_err-write_whole-clause-fault
 returns-in_err-write_whole-clause-fault g c =
     let p = err_from_is_err_and c.from_residual-in_err-write_whole.result c.from_residual-in_err-write_whole.ensures.1 in
-    rw p.1 (verdicts_unwritten c.args.sample PROFILE_S.now c.args.format c.args.start (g.R.Read.remaining c.args.reader.now) c.in_ok-verdicts.verdicts.items g.W.Sink.may_fail p.0 (p.2 ∙ c.in_err-write_whole.ensures.refused) c.in_ok-verdicts.ensures.judged)
+    rw p.1 (verdicts_unwritten c.args.sample PROFILE_S.now c.args.form c.args.start (g.R.Read.remaining c.args.reader.now) c.in_ok-verdicts.verdicts.items g.W.Sink.may_fail p.0 (p.2 ∙ c.in_err-write_whole.ensures.refused) c.in_ok-verdicts.ensures.judged)

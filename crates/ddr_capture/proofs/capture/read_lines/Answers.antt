@@ -1,22 +1,21 @@
-use Rattle.std.proofs.Common.{◌≡◌, ◌+◌, ◌<◌, ◌≤◌, refl, sym, subst, ◌∙◌, arith, rules}
-use Rattle.std.proofs.lemmas.Result.{err_from_is_err_and}
+use Rattle.std.proofs.Common.{◌∙◌, arith}
 use Rattle.ddr_judge.proofs.JudgedLemmas.{commands_within}
 use Rattle.ddr_capture.specs.Captured.{nothing}
-use Rattle.ddr_capture.specs.Feed.{Along, left}
-use Rattle.ddr_capture.specs.Lines.{StandsAt}
-use Rattle.ddr_capture.proofs.LineLemmas.{stands_first, stands_past}
+use Rattle.ddr_capture.specs.Feed.{left}
+use Rattle.ddr_capture.proofs.LineLemmas.{stands_first}
 use Rattle.ddr_capture.proofs.capture.read_lines.Goals as goal
 
 pub loop-count-init : goal.loop-count-init
 loop-count-init g c = record {
-  well = c.requires;
+  well = c.requires.well;
   form = c.in_ok-reading.ensures.form;
   channels = c.in_ok-reading.ensures.channels;
   there = c.in_ok-reading.ensures.there;
+  known = rw (c.in_ok-reading.ensures.form, c.in_ok-reading.ensures.channels) c.requires.known;
   read = nothing;
   has = c.in_ok-reading.ensures.read;
   few = omega arith;
-  stands = stands_first c.args.format c.args.config.now c.args.start (left c.args.feed.now (g.R.Read.remaining c.args.reader.now));
+  stands = stands_first c.args.form c.args.config.now c.args.start (left c.args.feed.now (g.R.Read.remaining c.args.reader.now)) c.requires.known;
 }
 
 pub loop-count-preserved : goal.loop-count-preserved
@@ -29,6 +28,7 @@ loop-count-preserved g c =
       form = c.in_ok-ended.ensures.form ∙ kept.form;
       channels = c.in_ok-ended.ensures.channels ∙ kept.channels;
       there = c.in_ok-ended.ensures.there;
+      known = rw (c.in_ok-ended.ensures.form, c.in_ok-ended.ensures.channels) kept.known;
       read = next.0;
       has = next.1;
       few = omega (arith, next.2, kept.few);

@@ -13,4 +13,4 @@ returns-in-Last-clause-said c = λ config start read a b d same has so_far is.
 
 pub returns-in-End-clause-said : goal.returns-in-End-clause-said
 returns-in-End-clause-said c = λ config start read a b d same has so_far is.
-    (has, stands_last c.args.reading.now.format config start c.args.count read a b d c.args.line.now so_far (rw c.in-End.is at is))
+    (has, stands_last c.args.reading.now.form config start c.args.count read a b d c.args.line.now so_far (rw c.in-End.is at is))

@@ -9,4 +9,4 @@ returns-in-Ok-clause-said g c = λ config start read a same has so_far.
 
 pub returns-in-Err-clause-said : goal.returns-in-Err-clause-said
 returns-in-Err-clause-said g c = λ config start read a same has so_far.
-    rw c.line_fault.ensures (refusal_next c.args.reading.now.format config start c.args.count read a (left c.args.feed.now (g.R.Read.remaining c.args.reader.now)) c.in-Err.refusal so_far (λ e. c.in-Err.ensures.long (ap Err e)))
+    rw c.line_fault.ensures (refusal_next c.args.reading.now.form config start c.args.count read a (left c.args.feed.now (g.R.Read.remaining c.args.reader.now)) c.in-Err.refusal so_far (λ e. c.in-Err.ensures.long (ap Err e)))

@@ -7,9 +7,9 @@ returns-in-Ok-clause-said c = λ config start read a b d f line same has so_far 
       step.0,
       step.1,
       step.3,
-      stands_more c.args.reading.now.format config start c.args.count read a b d f line step.0 so_far found other (rw (same, is) at step.2),
+      stands_more c.args.reading.now.form config start c.args.count read a b d f line step.0 so_far found other (rw (same, is) at step.2),
     )
 
 pub returns-in-Err-clause-said : goal.returns-in-Err-clause-said
 returns-in-Err-clause-said c = λ config start read a b d f line same has so_far found other is.
-    stands_fault c.args.reading.now.format config start c.args.count read a b d f line c.in-Err.fault so_far found other (rw (same, is) at (c.in-Err.ensures.said config start read has)) c.in-Err.ensures.refused
+    stands_fault c.args.reading.now.form config start c.args.count read a b d f line c.in-Err.fault so_far found other (rw (same, is) at (c.in-Err.ensures.said config start read has)) c.in-Err.ensures.refused

@@ -1,7 +1,6 @@
-use Rattle.std.proofs.Common.{List, ℕ, length, arith, rules, subst, sym, vec_len, ◌≤◌}
+use Rattle.std.proofs.Common.{rules, vec_len, ◌≤◌}
 use Rattle.std.proofs.lemmas.Result.{err_from_is_err_and}
-use Rattle.ddr_capture.specs.Feed.{Along, left}
-use Rattle.ddr_capture.specs.Front.{IsFront}
+use Rattle.ddr_capture.specs.Feed.{left}
 use Rattle.ddr_capture.proofs.FrontLemmas.{front_none}
 use Rattle.ddr_capture.proofs.front.fill_front.Goals as goal
 

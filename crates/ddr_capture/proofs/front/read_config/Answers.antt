@@ -1,6 +1,7 @@
-use Rattle.std.proofs.Common.{sym, ◌∙◌}
+use Rattle.std.proofs.Common.{subst, ◌∙◌}
 use Rattle.std.proofs.lemmas.Result.{err_from_is_err_and}
 use Rattle.ddr_timing.specs.declared.profile.TheConstants.{PROFILE_S}
+use Rattle.ddr_text.specs.Input.{IsText}
 use Rattle.ddr_capture.specs.Feed.{left}
 use Rattle.ddr_capture.proofs.FrontLemmas.{behind_opened, behind_refused, front_config, no_text, sample_opened, sample_refused}
 use Rattle.ddr_capture.proofs.front.read_config.Goals as goal
@@ -16,7 +17,7 @@ returns-then-sample-clause-refused g c =
 pub returns-clause-opened : goal.returns-clause-opened
 returns-clause-opened g c =
     rw c.if-sample.false (behind_opened (left c.args.feed.now (g.R.Read.remaining c.args.reader.now)) (left c.read_front.new.feed (g.R.Read.remaining c.read_front.new.reader)) PROFILE_S.now c.in_ok-front.front.items c.in_ok-text.text.now c.configuration-2.result
-    c.in_ok-front.ensures.front (c.in_ok-text.ensures.text.0 ∙ c.as_slice.ensures.value) c.configuration-2.ensures.read)
+    c.in_ok-front.ensures.front (c.in_ok-text.ensures.text.0 ∙ c.as_slice.ensures.value) (subst IsText c.as_slice.ensures.value c.in_ok-text.ensures.text.1) c.configuration-2.ensures.read)
 
 pub returns-clause-refused : goal.returns-clause-refused
 returns-clause-refused g c =
