@@ -1,6 +1,5 @@
 -- A whole stream: the requests that it has for each port, or its first line at fault.
 use Rattle.std.specs.Prelude.{◌≡◌, ℕ, ◌+◌, ◌%◌, if◌then◌else◌, List, [], ◌∷◌, ◌++◌, length, replicate, slice_set, slice_index_or, sum_by, is_none, Result, Ok, Err}
-use Rattle.std.specs.Option.{option_map_or}
 use Rattle.std.specs.Str.Lines.{lines}
 use Rattle.ddr_timing.specs.declared.config.Config.{Config}
 use Rattle.ddr_timing.specs.declared.geometry.Geometry.{Geometry}
@@ -8,12 +7,11 @@ use Rattle.ddr_address_map.specs.Map.{capacity_of, place_of}
 use Rattle.ddr_text.specs.declared.command.Reading.{Reading}
 use Rattle.ddr_text.specs.declared.fault.Fault.{Fault}
 use Rattle.ddr_text.specs.declared.fault.Fault.TheVariants.{ReplayLine, ReplayRange, OutOfMemory}
-use Rattle.ddr_text.specs.declared.fault.LineFault.TheVariants.{Fields}
+use Rattle.ddr_text.specs.declared.fault.LineFault.{LineFault}
 use Rattle.ddr_text.specs.Instructions.{◌>>>◌}
-use Rattle.ddr_text.specs.Script.{is_skipped}
 use Rattle.ddr_stream.specs.declared.ask.Ask.{Ask}
 use Rattle.ddr_stream.specs.declared.line.Sent.{Sent}
-use Rattle.ddr_stream.specs.Line.{sent_of}
+use Rattle.ddr_stream.specs.Line.{is_skipped, sent_of}
 
 -- of each port its requests, in order
 abbrev pub Queues : Type 0
@@ -43,6 +41,11 @@ with_ask geometry port queues ask =
 abbrev pub with_sent : Geometry → Reading → ℕ → Queues → Sent → Result Queues Fault
 with_sent geometry reading line queues sent = with_ask geometry sent.port queues (ask_of geometry reading line sent)
 
+-- what the line of this number asks for, or what is wrong with it
+abbrev pub with_said : Geometry → Reading → ℕ → Queues → Result Sent LineFault → Result Queues Fault
+with_said geometry reading line queues (Ok sent) = with_sent geometry reading line queues sent
+with_said geometry reading line queues (Err cause) = Err (ReplayLine line cause)
+
 -- the port of the next request that names none: the first, or where requests go round the ports the next in turn
 abbrev pub next_port : Reading → ℕ → Queues → ℕ
 next_port reading ports queues = if reading.spread then sum_by length queues % ports else 0
@@ -50,8 +53,8 @@ next_port reading ports queues = if reading.spread then sum_by length queues % p
 -- one line more, which has this number
 abbrev pub with_line : Geometry → Reading → ℕ → ℕ → Queues → List ℕ → Result Queues Fault
 with_line geometry reading ports line queues text =
-    if is_skipped text then Ok queues
-    else option_map_or (with_sent geometry reading line queues) (sent_of reading.format ports (next_port reading ports queues) text) (Err (ReplayLine line Fields))
+    if is_skipped reading.format text then Ok queues
+    else with_said geometry reading line queues (sent_of reading.format ports (next_port reading ports queues) text)
 
 -- the lines behind so many, which were read to these queues
 abbrev pub queues_from : Geometry → Reading → ℕ → ℕ → Queues → List (List ℕ) → Result Queues Fault

@@ -2,16 +2,15 @@
 //!
 //! `line`, `capacity` and `queue` stand below, and `ddr_replay` above.
 ghost use Rattle.std.specs.Prelude.{◌≡◌, ◌<◌, ◌≤◌, [], IfOk, length, replicate, sum_by};
-ghost use Rattle.ddr_stream.specs.Stream.{IsRead, AreRead, ask_of, meant, next_port, queues_of, with_ask, with_line, with_sent};
+ghost use Rattle.ddr_stream.specs.Stream.{IsRead, AreRead, ask_of, meant, next_port, queues_of, with_ask, with_line, with_said, with_sent};
 
 use crate::ask::Ask;
 use crate::capacity::capacity;
-use crate::line::{Sent, parse_line};
+use crate::line::{Sent, is_skipped, parse_line};
 use crate::queue::Queue;
 use ddr_address_map::map::Map;
 use ddr_text::command::Reading;
-use ddr_text::fault::{Fault, LineFault};
-use ddr_text::script::{LineError, is_skipped};
+use ddr_text::fault::Fault;
 use ddr_timing::config::Config;
 use std::alloc::{AllocError, Global};
 
@@ -66,17 +65,13 @@ fn read_line(
     ensures said { IsRead queues.new.items result (with_line map.now.geometry reading ports line queues.old.items written.now) }
     ensures ports { length queues.new.items ≡ length queues.old.items }
 {
-    if is_skipped(written) {
+    if is_skipped(reading.format, written) {
         return Ok(());
     }
     let next = next_port(reading, ports, queues.as_slice());
     match parse_line(reading.format, ports, next, written) {
         Ok(sent) => push_sent(map, reading, line, queues, sent),
-        Err(LineError::AtFault) => Err(Fault::ReplayLine {
-            line,
-            cause: LineFault::Fields,
-        }),
-        Err(LineError::OutOfMemory) => Err(Fault::OutOfMemory),
+        Err(cause) => Err(Fault::ReplayLine { line, cause }),
     }
 }
 

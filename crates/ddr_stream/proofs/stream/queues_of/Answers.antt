@@ -1,4 +1,4 @@
-use Rattle.std.proofs.Common.{Ok, List, [], Vec, Global, length, replicate, refl, ap, sym, arith, ◌∙◌}
+use Rattle.std.proofs.Common.{List, [], Vec, Global, length, replicate, refl, ap, arith, ◌∙◌}
 use Rattle.std.specs.Str.Lines.{lines}
 use Rattle.std.proofs.lemmas.List.{length_push, length-replicate}
 use Rattle.std.proofs.lemmas.Iterator.Consumers.{YieldsList-turn, YieldsList-end}
