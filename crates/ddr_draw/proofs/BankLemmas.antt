@@ -1,7 +1,8 @@
 -- Something of each number below another.
-use Rattle.std.proofs.Common.{◌≡◌, ℕ, zero, suc, ◌+◌, List, ◌++◌, sym, ap, ◌∙◌, append_assoc, add-zero, zero-add, add-one, arith}
+use Rattle.std.proofs.Common.{◌≡◌, ℕ, zero, suc, ◌+◌, List, [], ◌∷◌, ◌++◌, refl, sym, ap, ◌∙◌, append_assoc, add-zero, zero-add, add-one, arith}
 use Rattle.std.specs.Prelude.{flat_map}
-use Rattle.std.specs.List.{range_with_len}
+use Rattle.std.specs.List.{fold, range_with_len}
+use Rattle.std.proofs.lemmas.List.Sums.{fold-append}
 use Rattle.std.proofs.lemmas.List.{append-nil}
 use Rattle.ddr_timing.specs.declared.geometry.Geometry.{Geometry}
 use Rattle.ddr_draw.specs.Names.{bank_numbered}
@@ -30,3 +31,18 @@ bank_more f g n old new name line added is named so_far =
 pub text_more : (f : ℕ → List ℕ) (n : ℕ) (old new line : List ℕ) → new ≡ old ++ line → line ≡ f n → old ≡ flat_map f (range_with_len 0 n) → new ≡ flat_map f (range_with_len 0 (n + 1))
 text_more f n old new line added is so_far =
     added ∙ ap (λ xs. xs ++ line) so_far ∙ ap (λ l. flat_map f (range_with_len 0 n) ++ l) is ∙ sym (number_more f n)
+
+range-more : (a n : ℕ) → range_with_len a (n + 1) ≡ range_with_len a n ++ (a + n) ∷ []
+range-more a n = ap (range_with_len a) (add-one n) ∙ go a n
+  where
+    go : (b k : ℕ) → range_with_len b (suc k) ≡ range_with_len b k ++ (b + k) ∷ []
+    go b zero = rw add-zero refl
+    go b (suc k) =
+        let next : b + 1 + k ≡ b + suc k = omega arith in
+        ap (λ xs. b ∷ xs) (go (b + 1) k ∙ ap (λ m. range_with_len (b + 1) k ++ m ∷ []) next)
+
+-- one number more
+pub fold-range : {X : Type 0} (f : X → ℕ → X) (x : X) (n : ℕ) → fold f x (range_with_len 0 (n + 1)) ≡ f (fold f x (range_with_len 0 n)) n
+fold-range f x n =
+    ap (fold f x) (range-more 0 n) ∙ fold-append f x (range_with_len 0 n) ((0 + n) ∷ [])
+    ∙ ap (f (fold f x (range_with_len 0 n))) (zero-add n)

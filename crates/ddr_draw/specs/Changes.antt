@@ -63,6 +63,14 @@ is_followed t e (Some next) = nat_lt (burst_start t e) (burst_start t next) && n
 abbrev pub next_column : List Entry → Option Entry
 next_column later = find (λ e. is_column e.command) later
 
+-- a burst is on the bus until its end, or until that of the next read or write begins
+abbrev pub burst_until_of : Timing → Entry → Option Entry → ℕ
+burst_until_of t e None = burst_end t e
+burst_until_of t e (Some next) = if is_followed t e (Some next) then burst_start t next else burst_end t e
+
+abbrev pub burst_until : Timing → Entry → List Entry → ℕ
+burst_until t e later = burst_until_of t e (next_column later)
+
 -- the data bus: a burst until its end, or until that of the next read or write begins
 unfoldable pub data_changes : Timing → Entry → List Entry → List Change
 data_changes t e later =

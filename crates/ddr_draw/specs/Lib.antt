@@ -5,7 +5,10 @@ pub mod Rows
 pub mod Waves
 pub mod Scale
 pub mod Shapes
+pub mod Colours
+pub mod Legend
 pub mod Drawn
 pub mod Held
+pub mod Told
 pub mod Waits
 pub mod Lanes

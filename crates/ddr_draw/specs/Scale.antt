@@ -4,7 +4,7 @@ use Rattle.std.specs.Option.{unwrap_or}
 use Rattle.ddr_timing.specs.declared.geometry.Geometry.{Geometry}
 use Rattle.ddr_timing.specs.Banks.{bank_count, bank_number}
 use Rattle.ddr_draw.specs.declared.view.View.{View}
-use Rattle.ddr_draw.specs.declared.scale.TheConstants.{CLOCK_WIDTH, LANE_HEIGHT, LEFT, TOP}
+use Rattle.ddr_draw.specs.declared.scale.TheConstants.{BOTTOM, CLOCK_WIDTH, FIRST_BANK_LANE, LANE_HEIGHT, LEFT, LEGEND_WIDTH, RIGHT, TOP}
 use Rattle.ddr_draw.specs.declared.view.TheConstants.{MOST_CLOCKS}
 use Rattle.ddr_draw.specs.Names.{after}
 
@@ -27,16 +27,16 @@ width_of v first last = x_of v last - x_of v first
 abbrev pub is_seen : View → ℕ → ℕ → Bool
 is_seen v first last = nat_lt (x_of v first) (x_of v last)
 
--- the top of a lane: that of the data bus is the first, and behind it come the banks
+-- the top of a lane: those of the two buses come first, and behind them the banks
 abbrev pub lane_top : ℕ → ℕ
 lane_top lane = TOP + LANE_HEIGHT * lane
 
 abbrev pub bank_top : Geometry → ℕ → ℕ → ℕ → ℕ
-bank_top g rank group bank = lane_top (bank_number g rank group bank + 1)
+bank_top g rank group bank = lane_top (bank_number g rank group bank + FIRST_BANK_LANE)
 
--- the whole picture
+-- the whole picture, which is as wide as its legend at least
 abbrev pub picture_width : View → ℕ
-picture_width v = x_of v v.to + LEFT
+picture_width v = max (x_of v v.to + RIGHT) LEGEND_WIDTH
 
 abbrev pub picture_height : Geometry → ℕ
-picture_height g = lane_top (bank_count g + 1) + TOP
+picture_height g = lane_top (bank_count g + FIRST_BANK_LANE) + BOTTOM

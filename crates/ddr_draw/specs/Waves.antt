@@ -1,4 +1,5 @@
--- The changes of a trace as a value change dump (IEEE 1364, "Value change dump (VCD) files").
+-- The changes of a trace as a value change dump (IEEE 1364, "Value change dump (VCD) files"), with strings as values, which are GTKWave's
+-- extension of it.
 use Rattle.std.specs.Prelude.{ℕ, nat_lt, max, if◌then◌else◌, List, [], ◌∷◌, ◌++◌, flat_map, codes}
 use Rattle.std.specs.List.{range_with_len}
 use Rattle.std.specs.Fmt.{decimal}

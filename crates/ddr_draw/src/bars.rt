@@ -1,14 +1,15 @@
 //! The bars of a picture of lanes: open rows in the lanes of their banks, and bursts in that of the data bus.
 //!
-//! `period`, `scale` and `shapes` stand below, and `lanes` above.
+//! `period`, `scale`, `colours` and `shapes` stand below, and `lanes` above.
 ghost use Rattle.std.specs.Prelude.{◌≡◌, ◌<◌, ◌^◌, IfOk, string_bytes, true};
 ghost use Rattle.ddr_trace.specs.Rules.{is_in};
-ghost use Rattle.ddr_draw.specs.Lanes.{bars, burst, burst_shape, burst_title, fill_of, open_row, row_bar, row_name, row_shape, row_title, way};
+ghost use Rattle.ddr_draw.specs.Lanes.{bars, burst, burst_shape, burst_title, open_row, row_bar, row_name, row_shape, row_title, way};
 
-use crate::names::{fill_of, is_activate, is_column, is_read, name_of_bank, row_of};
-use crate::period::{burst_end, burst_start, closed_at};
-use crate::scale::{LANE_HEIGHT, lane_top, top_of};
-use crate::shapes::{area, rectangle, words_at};
+use crate::colours::{OPEN_ROW, fill_of};
+use crate::names::{is_activate, is_column, is_read, name_of_bank, row_of};
+use crate::period::{burst_start, burst_until, closed_at};
+use crate::scale::{DATA_LANE, LANE_HEIGHT, lane_top, top_of};
+use crate::shapes::{area, label, rectangle};
 use crate::view::View;
 use ddr_timing::config::Config;
 use ddr_timing::timing::Timing;
@@ -29,7 +30,7 @@ pub(crate) fn bars(
     'entries: while let Some((entry, later)) = rest.split_first() {
         let row = open_row(alloc, config, view, entry, later)?;
         text.push_str(row.as_str())?;
-        let burst = burst(alloc, &config.timing, view, entry)?;
+        let burst = burst(alloc, &config.timing, view, entry, later)?;
         text.push_str(burst.as_str())?;
         rest = later;
     }
@@ -75,7 +76,7 @@ fn row_bar(
     row_shape(alloc, x, y, width, &entry.command)
 }
 
-/// The shape of that bar, with its row's name.
+/// The shape of that bar, with its row's name where it has room for that, below the boxes of the bank's commands.
 #[tactic(auto, unfolding(crate::specs::Lanes::row_shape))]
 fn row_shape(
     alloc: Global,
@@ -90,9 +91,9 @@ fn row_shape(
 {
     let area = area(alloc, x, y + 2, width, LANE_HEIGHT - 4)?;
     let title = row_title(alloc, command)?;
-    let bar = rectangle(alloc, area.as_str(), "#e3edf7", title.as_str())?;
+    let bar = rectangle(alloc, area.as_str(), OPEN_ROW, title.as_str())?;
     let name = row_name(alloc, command)?;
-    let words = words_at(alloc, x + 2, y + 25, name.as_str())?;
+    let words = label(alloc, x + 1, y + 25, width, name.as_str())?;
     format!(in alloc; "{bar}{words}")
 }
 
@@ -115,13 +116,19 @@ fn row_title(alloc: Global, command: &Command) -> Result<String, AllocError>
     format!(in alloc; "{row} of {bank}")
 }
 
-/// The burst of a read or a write, as far as it is in the view.
+/// The burst of a read or a write, as far as it is in the view, and up to where the next one begins.
 #[tactic(auto, unfolding(crate::specs::Lanes::burst))]
-fn burst(alloc: Global, timing: &Timing, view: &View, entry: &Entry) -> Result<String, AllocError>
-    ensures { IfOk result (λ text. string_bytes text ≡ burst timing.now view.now entry.now) }
+fn burst(
+    alloc: Global,
+    timing: &Timing,
+    view: &View,
+    entry: &Entry,
+    later: &[Entry],
+) -> Result<String, AllocError>
+    ensures { IfOk result (λ text. string_bytes text ≡ burst timing.now view.now entry.now later.now) }
 {
     let start = burst_start(timing, entry);
-    let end = burst_end(timing, entry);
+    let end = burst_until(timing, entry, later);
     if !(is_column(&entry.command) && view.is_seen(start, end)) {
         return Ok(String::new(alloc));
     }
@@ -133,19 +140,19 @@ fn burst(alloc: Global, timing: &Timing, view: &View, entry: &Entry) -> Result<S
     )
 }
 
-/// The shape of a burst, with which way the data go, and the bank.
+/// The shape of a burst, with which way the data go, and the bank, as far as it has room for them.
 #[tactic(auto, unfolding(crate::specs::Lanes::burst_shape))]
 fn burst_shape(alloc: Global, x: u64, width: u64, command: &Command) -> Result<String, AllocError>
     requires { x < 2 ^ 40 }
     ensures { IfOk result (λ text. string_bytes text ≡ burst_shape x width command.now) }
 {
-    let y = lane_top(0);
+    let y = lane_top(DATA_LANE);
     let area = area(alloc, x, y + 2, width, LANE_HEIGHT - 4)?;
     let title = burst_title(alloc, command)?;
     let bar = rectangle(alloc, area.as_str(), fill_of(command), title.as_str())?;
-    let way = words_at(alloc, x + 2, y + 12, way(command))?;
+    let way = label(alloc, x + 1, y + 12, width, way(command))?;
     let bank = name_of_bank(alloc, command)?;
-    let bank = words_at(alloc, x + 2, y + 25, bank.as_str())?;
+    let bank = label(alloc, x + 1, y + 25, width, bank.as_str())?;
     format!(in alloc; "{bar}{way}{bank}")
 }
 

@@ -1,14 +1,20 @@
-//! The commands in a picture of lanes: a box for each, in the lane of its bank or over all those of its rank.
+//! The commands in a picture of lanes: a box for each on the command bus, and one in the lane of its bank or over all those of its
+//! rank.
 //!
-//! `held`, `scale` and `shapes` stand below, and `lanes` above.
-ghost use Rattle.std.specs.Prelude.{◌≡◌, ◌<◌, ◌^◌, IfOk, string_bytes};
-ghost use Rattle.ddr_draw.specs.Lanes.{box_height, column_text, command_at, command_box, commands, is_drawn, is_of_rank, place_text, title};
+//! `waited`, `told`, `scale`, `colours` and `shapes` stand below, and `lanes` above.
+ghost use Rattle.std.specs.Prelude.{◌≡◌, ◌<◌, ◌^◌, ◌&&◌, IfOk, string_bytes};
+ghost use Rattle.ddr_trace.specs.Rules.{is_in};
+ghost use Rattle.ddr_draw.specs.Lanes.{bank_box, bank_shape, box_height, bus_box, bus_shape, busy_until, column_text, command_at, commands, is_of_rank, lasts, place_text, title};
+ghost use Rattle.ddr_draw.specs.Names.{after};
+ghost use Rattle.ddr_draw.specs.Scale.{is_seen};
 
-use crate::held::{at_text, held_by, held_text};
-use crate::names::{bank_name, command_name, fill_of};
-use crate::scale::{CLOCK_WIDTH, LANE_HEIGHT, top_of};
-use crate::shapes::{area, rectangle, words_at};
+use crate::colours::fill_of;
+use crate::names::{after, bank_name, command_name};
+use crate::scale::{CLOCK_WIDTH, COMMAND_LANE, LANE_HEIGHT, lane_top, top_of};
+use crate::shapes::{area, label, rectangle};
+use crate::told::{at_text, held_text};
 use crate::view::View;
+use crate::waited::held_by;
 use ddr_timing::config::Config;
 use ddr_timing::geometry::Geometry;
 use ddr_timing::timing::Timing;
@@ -35,8 +41,9 @@ pub(crate) fn commands(
     Ok(text)
 }
 
-/// The box of the command at that place of the trace, if it is in the view.
-#[tactic(auto, unfolding(crate::specs::Lanes::command_at))]
+/// The boxes of the command at that place of the trace, as far as they are in the view: one on the command bus, and one in the lane
+/// of its bank or over those of its rank.
+#[tactic(auto, unfolding(crate::specs::Lanes::command_at, crate::specs::Lanes::bus_box, crate::specs::Lanes::bank_box))]
 fn command_at(
     alloc: Global,
     config: &Config,
@@ -47,42 +54,113 @@ fn command_at(
 ) -> Result<String, AllocError>
     ensures { IfOk result (λ text. string_bytes text ≡ command_at config.now view.now history.now place entry.now) }
 {
-    let geometry = &config.geometry;
-    if !is_drawn(geometry, view, entry) {
+    if !is_on_bus(view, entry) && !is_in_bank(config, view, entry) {
         return Ok(String::new(alloc));
     }
+    let title = title(alloc, config, history, place, entry)?;
+    let bus = bus_box(alloc, view, entry, title.as_str())?;
+    let bank = bank_box(alloc, config, view, entry, title.as_str())?;
+    format!(in alloc; "{bus}{bank}")
+}
+
+/// Whether the command's cycle is in the view.
+fn is_on_bus(view: &View, entry: &Entry) -> bool
+    ensures { result ≡ is_seen view.now entry.now.cycle (after entry.now.cycle 1) }
+{
+    view.is_seen(entry.cycle, after(entry.cycle, 1))
+}
+
+/// Whether the command is of this memory, and its bank or its rank is busy with it in the view.
+fn is_in_bank(config: &Config, view: &View, entry: &Entry) -> bool
+    ensures { result ≡ (is_in config.now.geometry entry.now.command && is_seen view.now entry.now.cycle (busy_until config.now.timing entry.now)) }
+{
+    entry.command.is_in(&config.geometry)
+        && view.is_seen(entry.cycle, busy_until(&config.timing, entry))
+}
+
+/// The box of a command on the command bus, if it is in the view.
+#[tactic(auto, unfolding(crate::specs::Lanes::bus_box))]
+fn bus_box(alloc: Global, view: &View, entry: &Entry, title: &str) -> Result<String, AllocError>
+    ensures { IfOk result (λ text. string_bytes text ≡ bus_box view.now entry.now title.now) }
+{
+    if !is_on_bus(view, entry) {
+        return Ok(String::new(alloc));
+    }
+    bus_shape(alloc, view.x_of(entry.cycle), &entry.command, title)
+}
+
+/// The shape of that box, with the command's name.
+#[tactic(auto, unfolding(crate::specs::Lanes::bus_shape))]
+fn bus_shape(alloc: Global, x: u64, command: &Command, title: &str) -> Result<String, AllocError>
+    requires { x < 2 ^ 40 }
+    ensures { IfOk result (λ text. string_bytes text ≡ bus_shape x command.now title.now) }
+{
+    let y = lane_top(COMMAND_LANE);
+    let area = area(alloc, x, y + 2, CLOCK_WIDTH, LANE_HEIGHT - 4)?;
+    let shape = rectangle(alloc, area.as_str(), fill_of(command), title)?;
+    let words = label(alloc, x + 1, y + 18, CLOCK_WIDTH, command_name(command))?;
+    format!(in alloc; "{shape}{words}")
+}
+
+/// The box of a command in the lane of its bank or over those of its rank, if it is in the view.
+#[tactic(auto, unfolding(crate::specs::Lanes::bank_box))]
+fn bank_box(
+    alloc: Global,
+    config: &Config,
+    view: &View,
+    entry: &Entry,
+    title: &str,
+) -> Result<String, AllocError>
+    ensures { IfOk result (λ text. string_bytes text ≡ bank_box config.now view.now entry.now title.now) }
+{
+    if !is_in_bank(config, view, entry) {
+        return Ok(String::new(alloc));
+    }
+    let geometry = &config.geometry;
     let x = view.x_of(entry.cycle);
     let y = top_of(geometry, &entry.command);
+    let width = view.width_of(entry.cycle, busy_until(&config.timing, entry));
     let height = box_height(geometry, &entry.command);
-    let title = title(alloc, &config.timing, history, place, entry)?;
-    command_box(alloc, x, y, height, &entry.command, title.as_str())
+    bank_shape(alloc, x, y, width, height, &entry.command, title)
 }
 
-/// Whether the command is of this memory, and its cycle in the view.
-fn is_drawn(geometry: &Geometry, view: &View, entry: &Entry) -> bool
-    ensures { result ≡ is_drawn geometry.now view.now entry.now }
-{
-    entry.command.is_in(geometry) && view.from <= entry.cycle && entry.cycle < view.to
-}
-
-/// The box of a command, with its name.
-#[tactic(auto, unfolding(crate::specs::Lanes::command_box))]
-fn command_box(
+/// The shape of that box, with the command's name where it has room for it.
+#[tactic(auto, unfolding(crate::specs::Lanes::bank_shape))]
+fn bank_shape(
     alloc: Global,
     x: u64,
     y: u64,
+    width: u64,
     height: u64,
     command: &Command,
     title: &str,
 ) -> Result<String, AllocError>
     requires right { x < 2 ^ 40 }
     requires low { y < 2 ^ 40 }
-    ensures { IfOk result (λ text. string_bytes text ≡ command_box x y height command.now title.now) }
+    ensures { IfOk result (λ text. string_bytes text ≡ bank_shape x y width height command.now title.now) }
 {
-    let area = area(alloc, x, y + 2, CLOCK_WIDTH, height)?;
+    let area = area(alloc, x, y + 2, width, height)?;
     let shape = rectangle(alloc, area.as_str(), fill_of(command), title)?;
-    let words = words_at(alloc, x + 1, y + 12, command_name(command))?;
+    let words = label(alloc, x + 1, y + 12, width, command_name(command))?;
     format!(in alloc; "{shape}{words}")
+}
+
+/// The first cycle in which the command's bank or its rank isn't busy with it any more.
+fn busy_until(timing: &Timing, entry: &Entry) -> u64
+    ensures { result ≡ busy_until timing.now entry.now }
+{
+    after(entry.cycle, lasts(timing, &entry.command))
+}
+
+/// The clocks for which a bank or a rank is busy with a command: RP with a precharge, RFC with a refresh.
+fn lasts(timing: &Timing, command: &Command) -> u32
+    ensures { result ≡ lasts timing.now command.now }
+{
+    match command {
+        Command::Pre { .. } | Command::PreAll { .. } => timing.rp,
+        Command::Refresh { .. } => timing.rfc,
+        _ => 1,
+    }
 }
 
 /// The height of a command's box: all the lanes of the rank for PREA and REF.
@@ -107,16 +185,16 @@ fn is_of_rank(command: &Command) -> bool
 #[tactic(auto, unfolding(crate::specs::Lanes::title))]
 fn title(
     alloc: Global,
-    timing: &Timing,
+    config: &Config,
     history: &[Entry],
     place: usize,
     entry: &Entry,
 ) -> Result<String, AllocError>
-    ensures { IfOk result (λ text. string_bytes text ≡ title timing.now history.now place entry.now) }
+    ensures { IfOk result (λ text. string_bytes text ≡ title config.now history.now place entry.now) }
 {
     let command = at_text(alloc, place, entry)?;
     let words = place_text(alloc, &entry.command)?;
-    let held = held_text(alloc, entry, held_by(timing, history, entry))?;
+    let held = held_text(alloc, entry, held_by(config, history, entry))?;
     format!(in alloc; "{command}: {words}{held}")
 }
 

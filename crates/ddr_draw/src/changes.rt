@@ -2,11 +2,11 @@
 //!
 //! `period` and `change` stand below, and `waves` above.
 ghost use Rattle.std.specs.Prelude.{◌≡◌, ◌++◌, IfOk, OnOk};
-ghost use Rattle.ddr_draw.specs.Changes.{all_changes, bank_changes, bus_changes, changes_of, data_changes, entry_changes, is_followed, is_next_at};
+ghost use Rattle.ddr_draw.specs.Changes.{all_changes, bank_changes, bus_changes, changes_of, data_changes, entry_changes, is_next_at};
 
 use crate::change::{Change, Shown};
 use crate::names::{after, is_activate, is_column};
-use crate::period::{burst_end, burst_start, closed_at, next_column};
+use crate::period::{burst_end, burst_start, closed_at, is_followed, next_column};
 use ddr_timing::config::Config;
 use ddr_timing::timing::Timing;
 use ddr_trace::command::Entry;
@@ -117,19 +117,6 @@ fn add_data(
         shown: Shown::Free,
     })?;
     Ok(())
-}
-
-/// Whether the next read's or write's burst begins before that one ends, or right then.
-fn is_followed(timing: &Timing, entry: &Entry, next: Option<Entry>) -> bool
-    ensures { result ≡ is_followed timing.now entry.now next }
-{
-    match next {
-        Some(next) => {
-            let start = burst_start(timing, &next);
-            burst_start(timing, entry) < start && start <= burst_end(timing, entry)
-        }
-        None => false,
-    }
 }
 
 /// Adds that the bank of an ACT opens, and that it is idle once its row is closed. A bank that the memory lacks is not shown.

@@ -21,9 +21,9 @@ use ddr_timing::profile::PROFILE_S;
 use ddr_trace::trace::Trace;
 use std::alloc::{AllocError, Global};
 
-/// Reads a trace, and writes it as a value change dump (IEEE 1364, "Value change dump (VCD) files"), in which one unit of time
-/// is one clock. Its variables are the command bus, the data bus and each bank of a channel; a command of a bank that the memory
-/// lacks stands on the command bus alone.
+/// Reads a trace, and writes it as a value change dump (IEEE 1364, "Value change dump (VCD) files"; strings as values are GTKWave's
+/// extension), in which one unit of time is one clock. Its variables are the command bus, the data bus and each bank of a channel; a
+/// command of a bank that the memory lacks stands on the command bus, and its burst on the data bus.
 ///
 /// A bank is open from its ACT on, and idle from its precharge on or from the start of its auto-precharge. The data bus has the
 /// burst of a read or a write for its four clocks. A trace that breaks rules is shown too: a burst then ends where the next read's
@@ -70,10 +70,10 @@ fn dump_of(alloc: Global, config: &Config, trace: &Trace) -> Result<String, Allo
 /// Reads a trace, and writes a picture of it as scalable vector graphics (SVG 1.1): its cycles from `from` on, up to `to` and
 /// without it, at most `MOST_CLOCKS` of them; those of the whole trace where none are named.
 ///
-/// There is a lane for the data bus with the bursts of reads and writes, and one for each bank with its commands and with its
-/// open rows; PREA and REF go over all lanes of their rank. Where the pointer rests on a command, its cycle, its line in the
-/// trace's text and its place are told, and what it waited for: of the rules on two commands the one that allowed it last, by
-/// one of the `MOST_BACK` commands before it. A command of a place that the memory lacks isn't drawn.
+/// There is a lane for the command bus, one for the data bus with the bursts of reads and writes, and one for each bank with its
+/// commands and with its open rows; PREA and REF go over all lanes of their rank. Where the pointer rests on a command, its cycle, its
+/// line in the trace's text and its place are told, and what it waited for: of the rules on distances the one that allowed it last, by
+/// the `MOST_BACK` commands before it. A command of a place that the memory lacks stands on the buses alone.
 ///
 /// The input is that of `check`, and it fails as `check` does. Nothing is written before the whole text is there, so only
 /// `Write` may leave a part of it.

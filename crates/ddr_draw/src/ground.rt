@@ -1,11 +1,14 @@
-//! The ground of a picture of lanes: its size, the lines of the cycles, and the lanes.
+//! The ground of a picture of lanes: its size, its legend, the lines of the cycles, and the lanes.
 //!
-//! `scale`, `shapes` and `names` stand below, and `lanes` above.
+//! `scale`, `shapes`, `legend` and `names` stand below, and `lanes` above.
 ghost use Rattle.std.specs.Prelude.{◌≡◌, ◌<◌, ◌^◌, IfOk, string_bytes};
 ghost use Rattle.ddr_draw.specs.Lanes.{bank_lanes, ground, head, lane, tick, ticks};
 
+use crate::legend::legend;
 use crate::names::bank_numbered;
-use crate::scale::{TICK_CLOCKS, TOP, lane_top, picture_height};
+use crate::scale::{
+    BOTTOM, COMMAND_LANE, DATA_LANE, FIRST_BANK_LANE, TICK_CLOCKS, TOP, lane_top, picture_height,
+};
 use crate::shapes::{line_down, line_right, words_at};
 use crate::view::View;
 use ddr_timing::geometry::Geometry;
@@ -17,10 +20,12 @@ pub(crate) fn ground(alloc: Global, geometry: &Geometry, view: &View) -> Result<
     ensures { IfOk result (λ text. string_bytes text ≡ ground geometry.now view.now) }
 {
     let head = head(alloc, view.picture_width(), picture_height(geometry))?;
+    let legend = legend(alloc)?;
     let ticks = ticks(alloc, geometry, view)?;
-    let data = lane(alloc, view, 0, "data")?;
+    let commands = lane(alloc, view, COMMAND_LANE, "command")?;
+    let data = lane(alloc, view, DATA_LANE, "data")?;
     let banks = bank_lanes(alloc, geometry, view)?;
-    format!(in alloc; "{head}{ticks}{data}{banks}")
+    format!(in alloc; "{head}{legend}{ticks}{commands}{data}{banks}")
 }
 
 /// The picture's size, and its white sheet.
@@ -29,7 +34,7 @@ fn head(alloc: Global, width: u64, height: u64) -> Result<String, AllocError>
     ensures { IfOk result (λ text. string_bytes text ≡ head width height) }
 {
     format!(in alloc;
-        "<svg xmlns='http://www.w3.org/2000/svg' width='{width}' height='{height}' font-family='sans-serif' font-size='10'>\n<rect width='{width}' height='{height}' fill='white'/>\n"
+        "<svg xmlns='http://www.w3.org/2000/svg' width='{width}' height='{height}' font-family='monospace' font-size='9'>\n<rect width='{width}' height='{height}' fill='white'/>\n"
     )
 }
 
@@ -52,7 +57,7 @@ fn tick(alloc: Global, geometry: &Geometry, view: &View, cycle: u64) -> Result<S
     ensures { IfOk result (λ text. string_bytes text ≡ tick geometry.now view.now cycle) }
 {
     let x = view.x_of(cycle);
-    let line = line_down(alloc, x, TOP - 8, picture_height(geometry) - TOP)?;
+    let line = line_down(alloc, x, TOP - 8, picture_height(geometry) - BOTTOM)?;
     let number = format!(in alloc; "{cycle}")?;
     let words = words_at(alloc, x, TOP - 12, number.as_str())?;
     format!(in alloc; "{line}{words}")
@@ -65,7 +70,7 @@ fn bank_lanes(alloc: Global, geometry: &Geometry, view: &View) -> Result<String,
     let mut text = String::new(alloc);
     for number in 0..geometry.banks() {
         let name = bank_numbered(alloc, geometry, number)?;
-        let line = lane(alloc, view, number + 1, name.as_str())?;
+        let line = lane(alloc, view, number + FIRST_BANK_LANE, name.as_str())?;
         text.push_str(line.as_str())?;
     }
     Ok(text)

@@ -3,7 +3,6 @@
 //! `ddr_trace` stands below, and `period`, `changes` and `waves` above.
 ghost use Rattle.std.specs.Prelude.{◌≡◌, IfOk, string_bytes};
 ghost use Rattle.ddr_trace.specs.Commands.{bank_of, group_of, is_activate, is_auto, is_column, is_precharge, is_read, is_same_bank, row_of};
-ghost use Rattle.ddr_draw.specs.Lanes.{fill_of};
 ghost use Rattle.ddr_draw.specs.Names.{after, bank_name, bank_numbered, command_name, name_of_bank};
 
 use ddr_timing::geometry::Geometry;
@@ -158,17 +157,4 @@ pub(crate) fn after(cycle: u64, clocks: u32) -> u64
     ensures { result ≡ after cycle clocks }
 {
     cycle.saturating_add(u64::from(clocks))
-}
-
-/// The colour of a kind of command.
-pub(crate) fn fill_of(command: &Command) -> &'static str
-    ensures { result.now ≡ fill_of command.now }
-{
-    match command {
-        Command::Act { .. } => "#9ecae1",
-        Command::Rd { .. } | Command::RdAuto { .. } => "#a1d99b",
-        Command::Wr { .. } | Command::WrAuto { .. } => "#fdbe85",
-        Command::Pre { .. } | Command::PreAll { .. } => "#dab8e0",
-        Command::Refresh { .. } => "#cccccc",
-    }
 }

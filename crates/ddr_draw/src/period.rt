@@ -1,9 +1,9 @@
 //! When the row of an ACT is closed, and when the data of a read or a write are on the bus.
 //!
-//! `names` stands below, and `changes` above.
+//! `names` stands below, and `changes`, `bars` and `starts` above.
 ghost use Rattle.std.specs.Prelude.{◌≡◌};
 ghost use Rattle.ddr_trace.specs.Banks.{recovery};
-ghost use Rattle.ddr_draw.specs.Changes.{burst_end, burst_start, closed_at, closed_by, is_closing, next_closing, next_column};
+ghost use Rattle.ddr_draw.specs.Changes.{burst_end, burst_start, burst_until, closed_at, closed_by, is_closing, is_followed, next_closing, next_column};
 
 use crate::names::{after, is_activate, is_auto, is_column, is_precharge, is_read, is_same_bank};
 use ddr_timing::timing::Timing;
@@ -51,7 +51,7 @@ fn closed_by(timing: &Timing, act: &Entry, entry: &Entry) -> u64
 }
 
 /// The clocks from a read or a write to a precharge of its bank.
-fn recovery(timing: &Timing, command: &Command) -> u32
+pub(crate) fn recovery(timing: &Timing, command: &Command) -> u32
     ensures { result ≡ recovery timing.now command.now }
 {
     if is_read(command) {
@@ -78,6 +78,30 @@ pub(crate) fn burst_end(timing: &Timing, entry: &Entry) -> u64
     ensures { result ≡ burst_end timing.now entry.now }
 {
     after(burst_start(timing, entry), BURST_CLOCKS)
+}
+
+/// The cycle up to which the burst of a read or a write is on the bus, by the entries behind it: its end, or where the next one begins
+/// before.
+pub(crate) fn burst_until(timing: &Timing, entry: &Entry, later: &[Entry]) -> u64
+    ensures { result ≡ burst_until timing.now entry.now later.now }
+{
+    match next_column(later) {
+        Some(next) if is_followed(timing, entry, Some(next)) => burst_start(timing, &next),
+        _ => burst_end(timing, entry),
+    }
+}
+
+/// Whether the next read's or write's burst begins before that one ends, or right then.
+pub(crate) fn is_followed(timing: &Timing, entry: &Entry, next: Option<Entry>) -> bool
+    ensures { result ≡ is_followed timing.now entry.now next }
+{
+    match next {
+        Some(next) => {
+            let start = burst_start(timing, &next);
+            burst_start(timing, entry) < start && start <= burst_end(timing, entry)
+        }
+        None => false,
+    }
 }
 
 /// The next read or write.

@@ -12,17 +12,41 @@ use ddr_timing::bank::BankId;
 use ddr_timing::geometry::Geometry;
 use ddr_trace::command::Command;
 
-/// The width of a clock.
-pub const CLOCK_WIDTH: u64 = 12;
+/// The width of a clock: enough for the longest name of a command, `PREA`.
+pub const CLOCK_WIDTH: u64 = 24;
+
+/// The width that a letter is given. One of the font at its size takes less.
+pub const LETTER_WIDTH: u64 = 6;
 
 /// The height of a lane.
 pub const LANE_HEIGHT: u64 = 30;
 
-/// The margin at the left, with the lanes' names, and at the right.
+/// The lane of the command bus.
+pub const COMMAND_LANE: u32 = 0;
+
+/// The lane of the data bus.
+pub const DATA_LANE: u32 = 1;
+
+/// The lane of the first bank.
+pub const FIRST_BANK_LANE: u32 = 2;
+
+/// The margin at the left, with the lanes' names.
 pub const LEFT: u64 = 60;
 
-/// The margin above, with the cycles' numbers, and below.
-pub const TOP: u64 = 30;
+/// The margin at the right, in which the last cycle's number ends.
+pub const RIGHT: u64 = 120;
+
+/// The margin above, with the legend and the cycles' numbers.
+pub const TOP: u64 = 50;
+
+/// The margin below.
+pub const BOTTOM: u64 = 10;
+
+/// The width of a part of the legend.
+pub const LEGEND_PART: u64 = 90;
+
+/// The width of the whole legend.
+pub const LEGEND_WIDTH: u64 = 560;
 
 /// The clocks from one line down to the next.
 pub const TICK_CLOCKS: u64 = 10;
@@ -64,7 +88,7 @@ impl View {
     pub(crate) fn picture_width(&self) -> u64
         ensures { result ≡ picture_width self.now }
     {
-        self.x_of(self.to) + LEFT
+        (self.x_of(self.to) + RIGHT).max(LEGEND_WIDTH)
     }
 }
 
@@ -87,12 +111,12 @@ pub(crate) fn top_of(geometry: &Geometry, command: &Command) -> u64
         group: group_of(command),
         bank: bank_of(command),
     };
-    lane_top(id.number(geometry) + 1)
+    lane_top(id.number(geometry) + FIRST_BANK_LANE)
 }
 
 /// The height of the whole picture.
 pub(crate) fn picture_height(geometry: &Geometry) -> u64
     ensures { result ≡ picture_height geometry.now }
 {
-    lane_top(geometry.banks() + 1) + TOP
+    lane_top(geometry.banks() + FIRST_BANK_LANE) + BOTTOM
 }

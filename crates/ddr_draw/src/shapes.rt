@@ -1,9 +1,10 @@
 //! Shapes of a picture (SVG 1.1, "Basic Shapes", "Paths", "Text").
 //!
-//! Nothing of the crate stands below; `ground`, `bars` and `boxes` stand above.
+//! `scale` stands below, and `ground`, `legend`, `bars` and `boxes` above.
 ghost use Rattle.std.specs.Prelude.{◌≡◌, IfOk, string_bytes};
-ghost use Rattle.ddr_draw.specs.Shapes.{area, line_down, line_right, rectangle, words_at};
+ghost use Rattle.ddr_draw.specs.Shapes.{area, label, line_down, line_right, patch, rectangle, words_at};
 
+use crate::scale::LETTER_WIDTH;
 use std::alloc::{AllocError, Global};
 
 /// Where a rectangle lies.
@@ -33,12 +34,38 @@ pub(crate) fn rectangle(
     format!(in alloc; "<rect {area} fill='{fill}' stroke='white'><title>{title}</title></rect>\n")
 }
 
-/// Words that begin there.
+/// A rectangle that tells nothing.
+#[tactic(auto, unfolding(crate::specs::Shapes::patch))]
+pub(crate) fn patch(alloc: Global, area: &str, fill: &str) -> Result<String, AllocError>
+    ensures { IfOk result (λ text. string_bytes text ≡ patch area.now fill.now) }
+{
+    format!(in alloc; "<rect {area} fill='{fill}'/>\n")
+}
+
+/// Words that begin there. The pointer goes through them to the shape below.
 #[tactic(auto, unfolding(crate::specs::Shapes::words_at))]
 pub(crate) fn words_at(alloc: Global, x: u64, y: u64, words: &str) -> Result<String, AllocError>
     ensures { IfOk result (λ text. string_bytes text ≡ words_at x y words.now) }
 {
-    format!(in alloc; "<text x='{x}' y='{y}'>{words}</text>\n")
+    format!(in alloc; "<text x='{x}' y='{y}' pointer-events='none'>{words}</text>\n")
+}
+
+/// Words in a shape of that width; none where it has no room for them.
+#[tactic(auto, unfolding(crate::specs::Shapes::label))]
+pub(crate) fn label(
+    alloc: Global,
+    x: u64,
+    y: u64,
+    width: u64,
+    words: &str,
+) -> Result<String, AllocError>
+    ensures { IfOk result (λ text. string_bytes text ≡ label x y width words.now) }
+{
+    if words.len() as u64 <= width / LETTER_WIDTH {
+        words_at(alloc, x, y, words)
+    } else {
+        Ok(String::new(alloc))
+    }
 }
 
 /// A line down from a height to another.

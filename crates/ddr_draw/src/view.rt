@@ -5,7 +5,7 @@ ghost use Rattle.std.specs.Prelude.{◌≤◌, ◌+◌};
 ghost use Rattle.ddr_draw.specs.declared.view.TheConstants.{MOST_CLOCKS};
 
 /// The most clocks that one picture shows: it is then below 32,767 pixels wide, which is the most that some viewers draw.
-pub const MOST_CLOCKS: u32 = 2_500;
+pub const MOST_CLOCKS: u32 = 1_300;
 
 /// The cycles that a picture shows, from the one up to the other.
 #[derive(Clone, Copy, Debug)]

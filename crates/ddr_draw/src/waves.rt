@@ -1,4 +1,4 @@
-//! The changes of a trace as a value change dump.
+//! The changes of a trace as a value change dump, with strings as values, which are GTKWave's extension.
 //!
 //! `changes`, `order` and `names` stand below, and `draw` above.
 ghost use Rattle.std.specs.Prelude.{◌≡◌, ◌<◌, IfOk, string_bytes};

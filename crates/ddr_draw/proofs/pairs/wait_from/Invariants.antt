@@ -1,6 +1,6 @@
 use Rattle.std.proofs.Common.{◌≡◌, ◌+◌, None, length}
 use Rattle.ddr_draw.specs.Held.{wait_from}
-use Rattle.ddr_draw.proofs.held.wait_from.Given as goal
+use Rattle.ddr_draw.proofs.pairs.wait_from.Given as goal
 
 -- the rest is still to be asked
 abbrev pub invariant-entries : goal.invariant-entries
