@@ -29,8 +29,22 @@ clock_keys = Refi ∷ Cl ∷ Cwl ∷ Rcd ∷ Rp ∷ Ras ∷ Rc ∷ RrdL ∷ Faw 
 -- the numbers at these keys, with this switch between ranks
 abbrev pub clocks_in : (Key → ℕ) → ℕ → Clocks
 clocks_in n switch = record {
-  cl = n Cl; cwl = n Cwl; rcd = n Rcd; rp = n Rp; ras = n Ras; rc = n Rc; rrd_l = n RrdL; faw = n Faw; ccd_l = n CcdL;
-  wtr_s = n WtrS; wtr_l = n WtrL; wr = n Wr; rtp = n Rtp; rtw = n Rtw; rfc = n Rfc; switch = switch;
+  cl = n Cl;
+  cwl = n Cwl;
+  rcd = n Rcd;
+  rp = n Rp;
+  ras = n Ras;
+  rc = n Rc;
+  rrd_l = n RrdL;
+  faw = n Faw;
+  ccd_l = n CcdL;
+  wtr_s = n WtrS;
+  wtr_l = n WtrL;
+  wr = n Wr;
+  rtp = n Rtp;
+  rtw = n Rtw;
+  rfc = n Rfc;
+  switch = switch;
 }
 
 -- the comparison of each oddity: the keys that it speaks of, its left side and its right side

@@ -27,8 +27,21 @@ alone t = max (max (refresh t + t.rfc) (row t) + t.rcd) (column t)
 -- the distances of a configuration
 abbrev pub clocks_of : Config → Clocks
 clocks_of c = let t = c.timing in record {
-  cl = t.cl; cwl = t.cwl; rcd = t.rcd; rp = t.rp; ras = t.ras; rc = t.rc; rrd_l = t.rrd_l; faw = t.faw; ccd_l = t.ccd_l;
-  wtr_s = t.wtr_s; wtr_l = t.wtr_l; wr = t.wr; rtp = t.rtp; rtw = t.rtw; rfc = t.rfc;
+  cl = t.cl;
+  cwl = t.cwl;
+  rcd = t.rcd;
+  rp = t.rp;
+  ras = t.ras;
+  rc = t.rc;
+  rrd_l = t.rrd_l;
+  faw = t.faw;
+  ccd_l = t.ccd_l;
+  wtr_s = t.wtr_s;
+  wtr_l = t.wtr_l;
+  wr = t.wr;
+  rtp = t.rtp;
+  rtw = t.rtw;
+  rfc = t.rfc;
   switch = if c.geometry.ranks == 2 then t.rtrs else 1;
 }
 

@@ -292,11 +292,7 @@ const TIMINGS: &[Case] = &[
 warning: refi = 44 is below a refresh and a request = 45: a request may wait for ever, since each refresh may close its row before it is read
 ",
     ),
-    (
-        &[("cwl = 3", "cwl = 5")],
-        Verdict::Clean,
-        "",
-    ),
+    (&[("cwl = 3", "cwl = 5")], Verdict::Clean, ""),
     (
         &[
             ("rcd = 4", "rcd = 181"),

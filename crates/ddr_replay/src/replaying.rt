@@ -135,7 +135,8 @@ impl Replaying {
             self.went_on_at = self.round;
             return None;
         }
-        let cycle = u64::from(self.went_on_at) + STUCK_INTERVALS * u64::from(self.config.timing.refi);
+        let cycle = u64::from(self.went_on_at)
+            + STUCK_INTERVALS * u64::from(self.config.timing.refi);
         if u64::from(self.round) < cycle || !self.has_outstanding() || leaves_time(&self.config) {
             return None;
         }
@@ -203,13 +204,7 @@ impl Replaying {
     {
         let queue = &mut self.queues[port as usize];
         let left = queue.len();
-        let until = submit_from(
-            &mut self.world,
-            queue,
-            &mut self.ledger,
-            port,
-            self.round,
-        )?;
+        let until = submit_from(&mut self.world, queue, &mut self.ledger, port, self.round)?;
         if self.queues[port as usize].len() != left {
             self.went_on = true;
         }

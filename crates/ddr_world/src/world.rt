@@ -305,7 +305,11 @@ impl World {
         ensures channels { length self.now.channels ≡ self.now.config.geometry.channels }
     {
         let cycles = self.still();
-        if cycles > 0 && self.rests() { cycles } else { 0 }
+        if cycles > 0 && self.rests() {
+            cycles
+        } else {
+            0
+        }
     }
 
     /// Whether each channel is known to have a quiet cycle next, with no rank that has to be refreshed.

@@ -26,5 +26,5 @@ returns c sound =
       c.clock-12.ensures (all 12 key.Wr (omega arith)),
       c.clock-13.ensures (all 13 key.Rtp (omega arith)),
       c.clock-14.ensures (all 14 key.Rtw (omega arith)),
-      c.clock-15.ensures (all 15 key.Rfc (omega arith))
+      c.clock-15.ensures (all 15 key.Rfc (omega arith)),
     ) refl
