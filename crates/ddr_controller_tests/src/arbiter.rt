@@ -2,9 +2,8 @@
 //! the cap are the profile's, where a test says nothing else.
 //!
 //! `ranks` has those on two ranks. `chance` compares the choices of many states with `reference`, a plain program.
-ghost use Rattle.std.specs.Prelude.{◌≡◌, ◌≤◌, nat_le, All, IfOk, IsTrue};
+ghost use Rattle.std.specs.Prelude.{IfOk};
 ghost use Rattle.ddr_hazards.specs.PendingList.{IsInRank};
-ghost use Rattle.ddr_arbiter.specs.Choice.{passes_at};
 
 use crate::refresh::tick_times;
 use Step::{Act, Admit, Cap, Chooses, Drain, Pre, PreAll, Rd, Refresh, Remove, Room, Stands};
@@ -15,6 +14,7 @@ use ddr_arbiter::commands::command_of;
 use ddr_arbiter::policy::Policy;
 use ddr_hazards::pending::Pending;
 use ddr_legality::legality::Legality;
+use ddr_old_sleep::admitted::are_admitted;
 use ddr_refresh::debt::Debt;
 use ddr_timing::config::Config;
 use ddr_timing::profile::PROFILE_S;
@@ -119,27 +119,6 @@ impl Scene {
             self.drain,
             self.room,
         ))
-    }
-}
-
-/// Whether no request was admitted after the cycle.
-fn are_admitted(pending: &Pending, now: u64) -> bool
-    ensures { IsTrue result → All (λ w. w.admitted ≤ now) pending.now.waiting }
-{
-    for place in 0..pending.len() {
-        if !is_admitted(pending, place, now) {
-            return false;
-        }
-    }
-    true
-}
-
-fn is_admitted(pending: &Pending, place: usize, now: u64) -> bool
-    ensures { result ≡ passes_at (λ w. nat_le w.admitted now) pending.now.waiting place }
-{
-    match pending.get(place) {
-        Some((_, admitted)) => admitted <= now,
-        None => false,
     }
 }
 

@@ -2,7 +2,8 @@
 //! through a list of its own.
 //!
 //! A state is what legal commands by chance and admissions leave of a bus and of the pending requests; the refreshes that
-//! ranks owe, the marks of the age cap, the drain of writes and the room are by chance too.
+//! ranks owe, the marks of the age cap, the drain of writes and the room are by chance too. `quiet` asks in such states until
+//! when nothing is chosen.
 ghost use Rattle.std.specs.Prelude.{◌≤◌, length};
 ghost use Rattle.ddr_hazards.specs.declared.pending.TheConstants.{RANKS};
 
@@ -12,6 +13,8 @@ use super::*;
 use ddr_samples::chance::Chance;
 use ddr_samples::sample::with_lines;
 use ddr_timing::profile::PROFILE_S2;
+
+mod quiet;
 
 /// How often a run admits requests, chooses and issues a command.
 const TURNS: u32 = 300;
@@ -221,16 +224,21 @@ impl Run {
         Ok(())
     }
 
-    /// The cap that the oldest request has just reached, the next one, or one far off.
-    fn cap(&mut self) -> u32 {
+    /// How old the oldest request is, up to 1000 clocks.
+    fn age(&self) -> u32 {
         let age = match self.waiting.first() {
             Some(oldest) => self.bus.now().saturating_sub(oldest.admitted),
             None => 0,
         };
-        let age = if age < 1000 { age as u32 } else { 1000 };
+        if age < 1000 { age as u32 } else { 1000 }
+    }
+
+    /// The cap that the oldest request has just reached, the next one, or one far off.
+    fn cap(&mut self) -> u32 {
+        let age = self.age();
         match self.chance.below(6) {
             0 => age,
-            1 => age + 1,
+            1 => age.wrapping_add(1),
             _ => 100_000,
         }
     }
@@ -393,9 +401,13 @@ impl Run {
             _ => self.chance.below(4),
         };
         for _ in 0..clocks {
-            if self.bus.now() < CLOCK_STOP {
-                self.bus.tick();
-            }
+            self.tick();
+        }
+    }
+
+    fn tick(&mut self) {
+        if self.bus.now() < CLOCK_STOP {
+            self.bus.tick();
         }
     }
 

@@ -1,7 +1,0 @@
--- One more request that was admitted by then.
-use Rattle.std.proofs.Common.{sym, ◌∙◌}
-use Rattle.ddr_controller_tests.proofs.AdmittedLemmas.{admitted_more}
-use Rattle.ddr_controller_tests.proofs.arbiter.are_admitted.Goals as goal
-
-pub loop-place-preserved : goal.loop-place-preserved
-loop-place-preserved c = admitted_more c.args.pending.now.waiting c.loop-place.place c.args.now (sym c.if-not-is_admitted.ensures) c.loop-place.invariant
