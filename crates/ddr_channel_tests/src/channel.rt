@@ -1,6 +1,6 @@
 //! Runs of a channel. Those of `rows`, `closed`, `ranks`, `refreshes`, `drain`, `refusals`, `quiet` and `told` are worked out by
 //! hand, their cycles and their bytes, and what each cycle tells; those of `chance` are compared with a flat map of
-//! bytes and with the checkers of a whole trace.
+//! bytes and with the checkers of a whole trace, and those of `sleep` with a channel that sleeps as the first one did.
 ghost use Rattle.std.specs.Prelude.{◌≡◌, ◌≤◌, IfOk};
 ghost use Rattle.ddr_timing.specs.declared.units.TheConstants.{CLOCK_STOP};
 ghost use Rattle.ddr_channel.specs.Sound.{IsServed};
@@ -27,6 +27,7 @@ mod ranks;
 mod refreshes;
 mod refusals;
 mod rows;
+mod sleep;
 mod told;
 
 /// The bytes of a line that was never written.

@@ -295,7 +295,7 @@ fn calls_by_chance_in_profile_s(rt: HostRuntime) -> Result<(), Fail> {
     runs_well(&rt, rt.alloc(), &[])
 }
 
-const SMALLEST: &[(&str, &str)] = &[
+pub const SMALLEST: &[(&str, &str)] = &[
     ("reads", "reads = 1"),
     ("writes", "writes = 1"),
     ("done", "done = 1"),
@@ -308,7 +308,7 @@ fn calls_by_chance_in_the_smallest_queues(rt: HostRuntime) -> Result<(), Fail> {
     runs_well(&rt, rt.alloc(), SMALLEST)
 }
 
-const DEEP: &[(&str, &str)] = &[
+pub const DEEP: &[(&str, &str)] = &[
     ("reads", "reads = 32"),
     ("writes", "writes = 32"),
     ("done", "done = 64"),
@@ -328,21 +328,21 @@ fn calls_by_chance_with_marks_next_to_each_other(rt: HostRuntime) -> Result<(), 
     runs_well(&rt, rt.alloc(), NEXT_TO_EACH_OTHER)
 }
 
-const CAP_OF_ONE: &[(&str, &str)] = &[("cap", "cap = 1")];
+pub const CAP_OF_ONE: &[(&str, &str)] = &[("cap", "cap = 1")];
 
 #[test]
 fn calls_by_chance_with_a_cap_of_one(rt: HostRuntime) -> Result<(), Fail> {
     runs_well(&rt, rt.alloc(), CAP_OF_ONE)
 }
 
-const NONE_POSTPONED: &[(&str, &str)] = &[("postpone", "postpone = 0")];
+pub const NONE_POSTPONED: &[(&str, &str)] = &[("postpone", "postpone = 0")];
 
 #[test]
 fn calls_by_chance_with_no_refresh_postponed(rt: HostRuntime) -> Result<(), Fail> {
     runs_well(&rt, rt.alloc(), NONE_POSTPONED)
 }
 
-const SEVEN_POSTPONED: &[(&str, &str)] = &[("postpone", "postpone = 7")];
+pub const SEVEN_POSTPONED: &[(&str, &str)] = &[("postpone", "postpone = 7")];
 
 #[test]
 fn calls_by_chance_with_seven_refreshes_postponed(rt: HostRuntime) -> Result<(), Fail> {
@@ -357,7 +357,7 @@ fn calls_by_chance_in_two_groups(rt: HostRuntime) -> Result<(), Fail> {
 }
 
 /// Two ranks: the 16 lines are two in each of two rows of two banks of two ranks.
-const TWO_RANKS: &[(&str, &str)] = &[
+pub const TWO_RANKS: &[(&str, &str)] = &[
     (
         "version",
         "version = 2\nranks = 2\nrtrs = 2\nclosed = false",
@@ -370,7 +370,7 @@ fn calls_by_chance_on_two_ranks(rt: HostRuntime) -> Result<(), Fail> {
     runs_well(&rt, rt.alloc(), TWO_RANKS)
 }
 
-const CLOSED_ROWS: &[(&str, &str)] = &[
+pub const CLOSED_ROWS: &[(&str, &str)] = &[
     ("version", "version = 2\nranks = 1\nrtrs = 1\nclosed = true"),
     ("map", "map = \"column group bank row channel rank\""),
 ];
@@ -380,7 +380,7 @@ fn calls_by_chance_with_closed_rows(rt: HostRuntime) -> Result<(), Fail> {
     runs_well(&rt, rt.alloc(), CLOSED_ROWS)
 }
 
-const CLOSED_ROWS_OF_TWO_RANKS: &[(&str, &str)] = &[
+pub const CLOSED_ROWS_OF_TWO_RANKS: &[(&str, &str)] = &[
     ("version", "version = 2\nranks = 2\nrtrs = 2\nclosed = true"),
     ("map", "map = \"column rank bank row group channel\""),
 ];
