@@ -12,6 +12,7 @@ use std::process::Abort;
 use std::test::Fail;
 
 mod chance;
+mod quiet;
 mod replies;
 mod told;
 
