@@ -4,8 +4,6 @@ use Rattle.std.specs.Str.Lines.{lines}
 use Rattle.ddr_timing.specs.declared.config.Config.{Config}
 use Rattle.ddr_text.specs.declared.fault.Fault.{Fault}
 use Rattle.ddr_text.specs.declared.fault.Fault.TheVariants as faults
-use Rattle.ddr_run.specs.declared.flag.Stop.{Stop}
-use Rattle.ddr_run.specs.declared.flag.Stop.TheVariants as stops
 use Rattle.ddr_text.specs.Body.{HasParts, IsRefused, parts_of}
 use Rattle.ddr_text.specs.Input.{IsText}
 use Rattle.ddr_text.specs.Instructions.{AreRead, form_of, instructions_of}
@@ -13,7 +11,7 @@ use Rattle.ddr_text.specs.Requests.{IsTaken, first_fault}
 use Rattle.ddr_text.specs.Script.{Instruction}
 use Rattle.ddr_text.specs.Sink.{write_fault}
 use Rattle.ddr_text.proofs.BodyLemmas.{not_of_parts}
-use Rattle.ddr_run.specs.Started.{AreChecked, HasChecked, HasRunFault, SaysRequests, stop_fault}
+use Rattle.ddr_run.specs.Started.{AreChecked, HasChecked, HasRunFault, IsRunStop, SaysRequests}
 
 -- what holds of the text that was read holds of the input, where that is known
 pub of_input : (remaining : Option (List ℕ)) (items text : List ℕ) (P : List ℕ → Type 0) → IfSome remaining (λ bytes. items ≡ bytes) → text ≡ items → P text → IfSome remaining P
@@ -84,13 +82,14 @@ not_taken text profile sample config body instructions (faults.RequestLine line 
     (config, instructions, checked text profile sample config body instructions (Some (faults.RequestLine line cause)) is_text opened script is)
 not_taken text profile sample config body instructions _ is_text opened script is = absurd is
 
--- a thread that stopped
-pub stopped : (text profile : List ℕ) (sample : Bool) (stop : Stop) → HasChecked sample profile text None → HasRunFault sample profile text (stop_fault stop)
-stopped text profile sample stops.Told checked = checked
-stopped text profile sample stops.OutOfMemory checked = tt
-stopped text profile sample stops.ClockSpent checked = checked
-stopped text profile sample stops.PortBroken checked = checked
-stopped text profile sample stops.ThreadsRefused checked = checked
+-- a run that stopped
+pub stopped : (text profile : List ℕ) (sample : Bool) (config : Config) (instructions : List Instruction) (fault : Fault) → AreChecked sample profile text config instructions None → IsRunStop config fault → HasRunFault sample profile text fault
+stopped text profile sample config instructions (faults.RunStuck cycle) checked is = (config, instructions, checked, is)
+stopped text profile sample config instructions faults.OutOfMemory checked is = tt
+stopped text profile sample config instructions faults.ClockSpent checked is = (config, instructions, checked)
+stopped text profile sample config instructions faults.PortBroken checked is = (config, instructions, checked)
+stopped text profile sample config instructions faults.ThreadsRefused checked is = (config, instructions, checked)
+stopped text profile sample config instructions _ checked is = absurd is
 
 -- a text that was not written
 pub unwritten : (text profile : List ℕ) (sample may_fail : Bool) (fault : Fault) → fault ≡ write_fault may_fail → HasChecked sample profile text None → HasRunFault sample profile text fault

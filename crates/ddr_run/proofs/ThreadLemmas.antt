@@ -1,5 +1,5 @@
 -- The seats of a run's threads, before and afterwards.
-use Rattle.std.proofs.Common.{◌≡◌, ℕ, zero, suc, ◌+◌, ◌<◌, List, [], ◌∷◌, ◌++◌, length, take, get_or, Option, None, Some, Result, Ok, Err, IfOk, slice_get, refl, sym, ap, subst, ◌∙◌, slice_index_or, string_bytes, arith}
+use Rattle.std.proofs.Common.{◌≡◌, ℕ, zero, suc, ◌+◌, ◌<◌, List, [], ◌∷◌, ◌++◌, length, take, get_or, Option, None, Some, Result, Ok, Err, IfErr, IfOk, true, slice_get, refl, sym, ap, subst, ◌∙◌, slice_index_or, string_bytes, arith}
 use Rattle.std.specs.List.{cons_option, filter_map, fold}
 use Rattle.std.specs.Option.{option_to_list}
 use Rattle.std.proofs.Math.Seq.{take-append_seam}
@@ -9,7 +9,12 @@ use Rattle.std.proofs.lemmas.List.Sums.{fold-append}
 use Rattle.ddr_workers.specs.Closing.{AreMatched}
 use Rattle.ddr_workers.specs.Port.{PortState, IsEndOfPort}
 use Rattle.ddr_workers.specs.declared.worker.Stopped.{Stopped}
-use Rattle.ddr_workers.specs.Worker.{WorkerState, WorkerEnded, IsEndOf}
+use Rattle.ddr_timing.specs.declared.units.TheConstants.{CLOCK_STOP}
+use Rattle.std.proofs.lemmas.Bool.{false≢true}
+use Rattle.ddr_workers.specs.declared.worker.Cause.{Cause}
+use Rattle.ddr_workers.specs.declared.worker.Cause.TheVariants as causes
+use Rattle.ddr_run.specs.Started.{comes_from_start}
+use Rattle.ddr_workers.specs.Worker.{WorkerState, WorkerEnded, IsEndOf, IsSameWorker}
 use Rattle.ddr_run.specs.declared.flag.Stop.{Stop}
 use Rattle.ddr_run.specs.declared.flag.Stop.TheVariants as stops
 use Rattle.ddr_run.specs.declared.hosting.Hosted.{Hosted}
@@ -17,7 +22,7 @@ use Rattle.ddr_run.specs.declared.threads.Seat.{Seat}
 use Rattle.ddr_run.specs.declared.threads.Seat.TheVariants as seats
 use Rattle.ddr_run.specs.Hosting.{AreAsked, IsNewPort, asks_of, replies_text}
 use Rattle.ddr_text.specs.Script.{Instruction}
-use Rattle.ddr_run.specs.Threads.{AreNewPorts, IsHostedFrom, IsNewSeat, Serves, cause_after, ended_in, first_cause, hosted_in, port_seats, seat_after, seats_of, stop_in}
+use Rattle.ddr_run.specs.Threads.{AreNewPorts, HasLeft, IsHostedFrom, IsNewSeat, Serves, cause_after, ended_in, first_cause, hosted_in, port_seats, seat_after, seats_of, stop_in, stop_of}
 
 pub hosted_from : (instructions : List Instruction) (number : ℕ) (port : PortState) (h : Hosted) → port.core.port ≡ number → IsEndOfPort port h.end → AreAsked port.core.geometry number (asks_of number instructions) h.end
     → string_bytes h.text ≡ replies_text number h.end.completions.took h.end.taken → IsHostedFrom instructions port h
@@ -29,17 +34,31 @@ hosted_from instructions number port h numbered end asked text =
     }
 
 -- a thread that never served its seat
-pub not_served : (instructions : List Instruction) (seat : Seat) (stop : Stop) → IsNewSeat seat → Serves instructions seat (seats.Stopped stop)
-not_served instructions (seats.Port number port) stop new = tt
-not_served instructions (seats.Worker worker) stop new = tt
-not_served instructions (seats.PortEnd hosted) stop new = absurd new
-not_served instructions (seats.WorkerEnd end) stop new = absurd new
-not_served instructions (seats.Stopped cause) stop new = absurd new
+none_left : (worker : WorkerState) (stop : Stop) → comes_from_start stop ≡ true → HasLeft worker stop
+none_left worker stops.Told start = tt
+none_left worker stops.OutOfMemory start = tt
+none_left worker stops.ClockSpent start = absurd (false≢true start)
+none_left worker stops.PortBroken start = tt
+none_left worker stops.ThreadsRefused start = tt
+
+pub not_served : (instructions : List Instruction) (seat : Seat) (stop : Stop) → comes_from_start stop ≡ true → IsNewSeat seat → Serves instructions seat (seats.Stopped stop)
+not_served instructions (seats.Port number port) stop start new = tt
+not_served instructions (seats.Worker worker) stop start new = none_left worker stop start
+not_served instructions (seats.PortEnd hosted) stop start new = absurd new
+not_served instructions (seats.WorkerEnd end) stop start new = absurd new
+not_served instructions (seats.Stopped cause) stop start new = absurd new
 
 -- what a worker's thread leaves
-pub worker_served : (instructions : List Instruction) (worker : WorkerState) (worked : Result WorkerEnded Stopped) (after : Seat) → after ≡ seat_after worked → IfOk worked (IsEndOf worker) → Serves instructions (seats.Worker worker) after
-worker_served instructions worker (Ok end) after is ended = subst (Serves instructions (seats.Worker worker)) (sym is) ended
-worker_served instructions worker (Err left) after is ended = subst (Serves instructions (seats.Worker worker)) (sym is) tt
+pub worker_served : (instructions : List Instruction) (worker : WorkerState) (worked : Result WorkerEnded Stopped) (after : Seat) → after ≡ seat_after worked → IfOk worked (IsEndOf worker)
+    → IfErr worked (λ s. IsSameWorker worker s.worker) → IfErr worked (λ s. s.cause ≡ causes.ClockSpent → s.worker.channel.now ≡ CLOCK_STOP) → Serves instructions (seats.Worker worker) after
+worker_served instructions worker (Ok end) after is ended same spent = subst (Serves instructions (seats.Worker worker)) (sym is) ended
+worker_served instructions worker (Err left) after is ended same spent =
+    subst (Serves instructions (seats.Worker worker)) (sym is) (by_cause left.cause spent)
+  where
+    by_cause : (cause : Cause) → (cause ≡ causes.ClockSpent → left.worker.channel.now ≡ CLOCK_STOP) → HasLeft worker (stop_of cause)
+    by_cause causes.OutOfMemory clock = tt
+    by_cause causes.ClockSpent clock = (left.worker, same, clock refl)
+    by_cause causes.Told clock = tt
 
 -- ---- before
 

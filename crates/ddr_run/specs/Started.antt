@@ -3,6 +3,7 @@ use Rattle.std.specs.Prelude.{◌≡◌, ℕ, Bool, true, false, List, ◌++◌,
 use Rattle.std.specs.Io.KnownBytes.{Appends}
 use Rattle.std.specs.Str.Lines.{lines}
 use Rattle.ddr_timing.specs.declared.config.Config.{Config}
+use Rattle.ddr_latency.specs.Latency.{leaves_time}
 use Rattle.ddr_workers.specs.Closing.{AreMatched, IsClosed, Left}
 use Rattle.ddr_workers.specs.Open.{IsOpened as IsSystem}
 use Rattle.ddr_workers.specs.Port.{PortState}
@@ -55,12 +56,27 @@ pub record AreChecked (sample : Bool) (profile : List ℕ) (input : List ℕ) (c
 abbrev pub HasChecked : Bool → List ℕ → List ℕ → Option Fault → Type 0
 HasChecked sample profile input fault = (config : Config) × (instructions : List Instruction) × AreChecked sample profile input config instructions fault
 
+-- the script is one that ports take, and a refresh interval leaves no time to serve a request
+abbrev pub IsStuck : Bool → List ℕ → List ℕ → Type 0
+IsStuck sample profile input =
+    (config : Config) × (instructions : List Instruction) × AreChecked sample profile input config instructions None × (leaves_time config ≡ false)
+
+-- a fault by which a run ends whose script is one that ports take
+abbrev pub IsRunStop : Config → Fault → Type 0
+IsRunStop config (faults.RunStuck cycle) = leaves_time config ≡ false
+IsRunStop config faults.OutOfMemory = Unit {0}
+IsRunStop config faults.ClockSpent = Unit {0}
+IsRunStop config faults.PortBroken = Unit {0}
+IsRunStop config faults.ThreadsRefused = Unit {0}
+IsRunStop config fault = ⊥
+
 -- The input has the fault that a run in threads ends by. Where a thread stopped before its end, or writing failed, the
 -- script is one that ports take; reading and memory fail by themselves.
 abbrev pub HasRunFault : Bool → List ℕ → List ℕ → Fault → Type 0
 HasRunFault sample profile input (faults.ScriptLine line) = IsNoRequests sample profile input (faults.ScriptLine line)
 HasRunFault sample profile input faults.ScriptLimit = IsNoRequests sample profile input faults.ScriptLimit
 HasRunFault sample profile input (faults.RequestLine line cause) = HasChecked sample profile input (Some (faults.RequestLine line cause))
+HasRunFault sample profile input (faults.RunStuck cycle) = IsStuck sample profile input
 HasRunFault sample profile input faults.ClockSpent = HasChecked sample profile input None
 HasRunFault sample profile input faults.PortBroken = HasChecked sample profile input None
 HasRunFault sample profile input faults.ThreadsRefused = HasChecked sample profile input None

@@ -6,7 +6,8 @@ use Rattle.ddr_workers.specs.declared.worker.Cause.TheVariants as causes
 use Rattle.ddr_workers.specs.declared.worker.Stopped.{Stopped}
 use Rattle.ddr_workers.specs.Closing.{AreMatched}
 use Rattle.ddr_workers.specs.Port.{PortState, IsEndOfPort}
-use Rattle.ddr_workers.specs.Worker.{WorkerState, WorkerEnded, IsEndOf}
+use Rattle.ddr_timing.specs.declared.units.TheConstants.{CLOCK_STOP}
+use Rattle.ddr_workers.specs.Worker.{WorkerState, WorkerEnded, IsEndOf, IsSameWorker}
 use Rattle.ddr_run.specs.declared.flag.Stop.{Stop}
 use Rattle.ddr_run.specs.declared.flag.Stop.TheVariants as stops
 use Rattle.ddr_run.specs.declared.hosting.Hosted.{Hosted}
@@ -43,12 +44,17 @@ pub record IsHostedFrom (instructions : List Instruction) (port : PortState) (h 
   pub asked : AreAsked port.core.geometry h.end.port (asks_of h.end.port instructions) h.end
   pub text : string_bytes h.text ≡ replies_text h.end.port h.end.completions.took h.end.taken
 
+-- why a worker's thread stopped: the clock of its channel is spent where that is said
+abbrev pub HasLeft : WorkerState → Stop → Type 0
+HasLeft worker stops.ClockSpent = (left : WorkerState) × IsSameWorker worker left × (left.channel.now ≡ CLOCK_STOP)
+HasLeft worker stop = Unit {0}
+
 -- what a thread leaves of its seat: the end of the port or of the worker that it held, unless it stopped before
 abbrev pub Serves : List Instruction → Seat → Seat → Type 0
 Serves instructions (seats.Port number port) (seats.PortEnd hosted) = IsHostedFrom instructions port hosted
 Serves instructions (seats.Port number port) (seats.Stopped stop) = Unit {0}
 Serves instructions (seats.Worker worker) (seats.WorkerEnd end) = IsEndOf worker end
-Serves instructions (seats.Worker worker) (seats.Stopped stop) = Unit {0}
+Serves instructions (seats.Worker worker) (seats.Stopped stop) = HasLeft worker stop
 Serves instructions before after = ⊥
 
 -- why a worker's thread stopped

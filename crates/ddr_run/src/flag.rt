@@ -6,7 +6,9 @@ ghost use Rattle.std.specs.Prelude.{◌≡◌, IfErr, true};
 ghost use Rattle.ddr_run.specs.declared.flag.Stop.TheVariants.{OutOfMemory};
 ghost use Rattle.ddr_run.specs.Started.{comes_from_start};
 
+use ddr_latency::clocks::leaves_time;
 use ddr_text::fault::Fault;
+use ddr_timing::config::Config;
 use ddr_workers::OpenError;
 use ddr_workers::gate::{Gate, Turn};
 use std::alloc::{AllocError, AllocFailed};
@@ -17,23 +19,56 @@ use std::thread;
 /// How many turns a worker makes before it lets other threads go on.
 const TURNS_AT_A_TIME: u64 = 64;
 
+/// How many refresh intervals the requests of a channel may wait without any being served, where an interval leaves no time to serve
+/// one.
+const STUCK_INTERVALS: u64 = 64;
+
 /// How often a thread that has begun looks for the others before it lets other threads go on.
 const LOOKS: u64 = 100_000;
 
 /// How often it does so. Few, since each time takes long where the machine is busy.
 const ROUNDS: u64 = 10_000;
 
-/// Raised once a thread of a run has stopped before its end, so that all of them stop.
+/// Raised once a thread of a run has stopped before its end, or once a channel goes on no more, so that all of them stop.
 #[derive(Drop)]
 pub struct Flag {
     raised: AtomicU64,
+    /// How many cycles a channel with requests makes before it counts as one that goes on no more, where it may be one.
+    patience: Option<u64>,
+    /// The cycle behind which a channel went on no more; 0 where none has.
+    stuck_in: AtomicU64,
 }
 
 impl Flag {
-    /// A flag that isn't raised.
+    /// A flag that isn't raised, and isn't for want of progress.
     pub fn new() -> Flag {
         Flag {
             raised: AtomicU64::new(0),
+            patience: None,
+            stuck_in: AtomicU64::new(0),
+        }
+    }
+
+    /// A flag that isn't raised, of a run on this configuration.
+    pub fn of_run(config: &Config) -> Flag {
+        Flag {
+            raised: AtomicU64::new(0),
+            patience: patience(config),
+            stuck_in: AtomicU64::new(0),
+        }
+    }
+
+    /// Raises the flag, since a channel has gone on no more up to this cycle, which isn't 0.
+    fn raise_stuck(&self, cycle: u64) {
+        self.stuck_in.store(cycle, Ordering::SeqCst);
+        self.raise();
+    }
+
+    /// The cycle up to which a channel had gone on no more, if the flag was raised for one.
+    pub fn stuck_in(&self) -> Option<u64> {
+        match self.stuck_in.load(Ordering::SeqCst) {
+            0 => None,
+            cycle => Some(cycle),
         }
     }
 
@@ -44,6 +79,15 @@ impl Flag {
     pub fn is_raised(&self) -> bool {
         self.raised.load(Ordering::SeqCst) != 0
     }
+}
+
+/// How many cycles in which none of its requests completes a channel makes before it counts as one that goes on no more: none, where
+/// each refresh interval leaves time to serve a request.
+fn patience(config: &Config) -> Option<u64> {
+    if leaves_time(config) {
+        return None;
+    }
+    Some(STUCK_INTERVALS * u64::from(config.timing.refi))
 }
 
 /// Where the threads of a run wait for one another before any of them serves its seat. Without it, where the system
@@ -78,6 +122,9 @@ impl Start {
                 return Err(Stop::Told);
             }
             thread::yield_now();
+        }
+        if self.have_all_begun() {
+            return Ok(());
         }
         Err(Stop::ThreadsRefused)
     }
@@ -147,11 +194,14 @@ impl<T: Drop> From<AllocFailed<T>> for Stop {
     }
 }
 
-/// The gate of one worker: it stops the worker where the flag is raised, and now and then lets other threads go on.
+/// The gate of one worker: it stops the worker where the flag is raised, and now and then lets other threads go on. Where a refresh
+/// interval may leave no time to serve a request it raises the flag once the channel goes on no more.
 #[derive(Drop)]
 pub struct Watch<'a> {
     flag: &'a Flag,
     turns: AtomicU64,
+    /// How many cycles the channel has made since a completion was done.
+    waited: AtomicU64,
 }
 
 impl<'a> Watch<'a> {
@@ -160,6 +210,7 @@ impl<'a> Watch<'a> {
         Watch {
             flag,
             turns: AtomicU64::new(0),
+            waited: AtomicU64::new(0),
         }
     }
 }
@@ -177,5 +228,16 @@ impl Gate for Watch<'_> {
             thread::yield_now();
         }
         Turn::Go
+    }
+
+    fn made(&self, _channel: u32, next: u64, has_done: bool) {
+        let Some(patience) = self.flag.patience else {
+            return;
+        };
+        if has_done {
+            self.waited.store(0, Ordering::SeqCst);
+        } else if self.waited.fetch_add(1, Ordering::SeqCst) >= patience {
+            self.flag.raise_stuck(next);
+        }
     }
 }

@@ -16,10 +16,10 @@ use ddr_text::reply::reply_text;
 use ddr_text::script::Instruction;
 use ddr_workers::port::{PollAnswer, Port, PortEnd};
 use ddr_workers::refusal::{FinishError, SubmitError};
+use ddr_workers::rest::Rest;
 use std::alloc::{AllocError, Global};
 use std::marker::Model;
 use std::sync::Wait;
-use std::thread;
 
 /// A port with the text of the replies that it gave up. Contracts see the port.
 #[derive(Drop)]
@@ -27,6 +27,8 @@ struct Host {
     number: u32,
     port: Port,
     text: String,
+    // Between polls that found nothing.
+    rest: Rest,
 }
 
 impl Model for Host {
@@ -61,6 +63,7 @@ impl Host {
             number,
             port,
             text: String::new(alloc),
+            rest: Rest::new(),
         }
     }
 
@@ -141,7 +144,7 @@ impl Host {
         unreachable!()
     }
 
-    /// Polls once. Where a completion came the replies that are ready are given up, and else other threads go on.
+    /// Polls once. Where a completion came the replies that are ready are given up, and else the thread rests.
     fn serve<R: Wait>(&mut self, rt: &R, alloc: Global, flag: &Flag) -> Result<(), Stop>
         ensures { HasAsked self.old self.new [] }
     {
@@ -149,9 +152,10 @@ impl Host {
             return Err(Stop::Told);
         }
         if self.poll(rt)? {
+            self.rest.after(rt, true);
             self.give_up_ready(alloc)?;
         } else {
-            thread::yield_now();
+            self.rest.after(rt, false);
         }
         Ok(())
     }
@@ -199,6 +203,7 @@ impl Host {
             number: _,
             mut port,
             text,
+            mut rest,
         } = self;
         for _ in rt.forever() {
             match port.finish(rt) {
@@ -209,7 +214,7 @@ impl Host {
             if flag.is_raised() {
                 return Err(Stop::Told);
             }
-            thread::yield_now();
+            rest.after(rt, false);
         }
         unreachable!()
     }

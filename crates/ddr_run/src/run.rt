@@ -5,25 +5,26 @@ ghost use Rattle.std.specs.Prelude.{◌≡◌, ◌≢◌, IfErr, IfOk, IfSome, I
 ghost use Rattle.ddr_text.specs.Input.{IsText};
 ghost use Rattle.ddr_text.specs.Script.{view};
 ghost use Rattle.ddr_run.specs.declared.flag.Stop.TheVariants.{OutOfMemory};
-ghost use Rattle.ddr_run.specs.Started.{AreChecked, HasRunFault, IsRan, IsStopped, IsThreaded};
+ghost use Rattle.ddr_run.specs.Started.{AreChecked, HasRunFault, IsRan, IsRunStop, IsStopped, IsThreaded};
 
-use crate::flag::Stop;
+use crate::flag::{Flag, Stop};
 use crate::outcome::{replies_of, verdicts_of};
 use crate::threads::run_all;
+use ddr_latency::clocks::leaves_time;
 use ddr_text::body::take_apart;
 use ddr_text::fault::Fault;
-use ddr_text::input::{read_input, text_of};
+use ddr_text::input::{read_source, text_of};
 use ddr_text::instructions::{Form, instructions_of};
 use ddr_text::requests::check_requests;
 use ddr_text::script::Instruction;
 use ddr_text::sink::Sink;
+use ddr_text::source::Source;
 use ddr_text::writing::write_whole;
 use ddr_timing::config::Config;
 use ddr_timing::profile::PROFILE_S;
 use ddr_workers::closing::{CloseError, all_ends_of_one_open};
 use ddr_workers::{close, open as open_system};
 use std::alloc::Global;
-use std::io::Read;
 use std::sync::Wait;
 use std::thread::Threads;
 
@@ -41,9 +42,10 @@ const RUN: u64 = 0;
 /// Fails as `take_apart` does, then as `ScriptLine` at the first line of the script that is at fault, of which `cycle` is
 /// one, or as `ScriptLimit` at the first request too many, and then as `RequestLine` at the first request that no port
 /// takes. Where a thread stops before its end it fails as `OutOfMemory`, `ClockSpent` or `PortBroken`, and where the system
-/// gives too few threads as `ThreadsRefused`. Nothing is written before all threads ended. Over bytes in memory it never fails
-/// as `Write`.
-pub fn run<H: Threads + Wait + Sync, R: Read, W: Sink>(
+/// gives too few threads as `ThreadsRefused`; and as `RunStuck` where a refresh interval leaves no time to serve a request, and for 64 of
+/// them a channel had requests and served none. Nothing is written before all threads ended. Over bytes in memory it never fails
+/// as `Read` or as `Write`.
+pub fn run<H: Threads + Wait + Sync, R: Source, W: Sink>(
     rt: &H,
     alloc: Global,
     sample: bool,
@@ -51,6 +53,7 @@ pub fn run<H: Threads + Wait + Sync, R: Read, W: Sink>(
     writer: &mut W,
 ) -> Result<bool, Fault>
     ensures untouched { IfErr result (λ fault. fault ≢ Fault.Write → fault ≢ Fault.OutOfMemory → writer.new ≡ writer.old) }
+    ensures sure { IsErrOf result Fault.Read → IsTrue R.may_fail }
     ensures taken { IsErrOf result Fault.Write → IsTrue W.may_fail }
     ensures spared { IsErrOf result Fault.OutOfMemory → W.contents writer.new ≡ W.contents writer.old }
     ensures unmoved { IsErrOf result Fault.OutOfMemory → IsTrue W.may_fail → writer.new ≡ writer.old }
@@ -59,16 +62,43 @@ pub fn run<H: Threads + Wait + Sync, R: Read, W: Sink>(
     ensures written { IfOk result (λ legal. IfSome (R.remaining reader.old) (λ input.
         IsRan sample PROFILE_S.now input legal (W.contents writer.old) (W.contents writer.new))) }
 {
-    let input = read_input(alloc, reader)?;
+    let input = read_source(alloc, reader)?;
     let text = text_of(input.as_slice())?;
     let (config, instructions) = read_requests(alloc, sample, text)?;
-    let (text, legal) = run_threads(rt, alloc, &config, instructions.as_slice())?;
+    let (text, legal) = run_to_end(rt, alloc, &config, instructions.as_slice())?;
     write_whole(writer, text.as_str())?;
     Ok(legal)
 }
 
+/// Runs a script that was checked, and gives the text that is to be written, and whether all traces are legal. Fails as `run` does.
+fn run_to_end<H: Threads + Wait + Sync>(
+    rt: &H,
+    alloc: Global,
+    config: &Config,
+    instructions: &[Instruction],
+) -> Result<(String, bool), Fault>
+    ensures ran { IfOk result (λ ran. IsThreaded config.now (map view instructions.now) (string_bytes ran.0) ran.1) }
+    ensures stopped { IfErr result (IsRunStop config.now) }
+{
+    let flag = Flag::of_run(config);
+    match run_threads(rt, alloc, &flag, config, instructions) {
+        Ok(ran) => Ok(ran),
+        Err(stop) => Err(fault_of(config, &flag, stop)),
+    }
+}
+
+/// The fault that a run ends by whose threads stopped so: where all of them were told to, since a channel went on no more.
+fn fault_of(config: &Config, flag: &Flag, stop: Stop) -> Fault
+    ensures { IsRunStop config.now result }
+{
+    match (stop, flag.stuck_in()) {
+        (Stop::Told, Some(cycle)) if !leaves_time(config) => Fault::RunStuck { cycle },
+        _ => Fault::from(stop),
+    }
+}
+
 /// The configuration of a text, and its script's instructions, each of which asks for what a port takes. Nothing is written
-/// yet, so it never fails as `Write`.
+/// yet and nothing is read anymore, so it never fails as `Write` or `Read`.
 fn read_requests(
     alloc: Global,
     sample: bool,
@@ -78,6 +108,7 @@ fn read_requests(
     ensures ok { IfOk result (λ read. AreChecked sample PROFILE_S.now text.now read.0 (map view read.1.items) None) }
     ensures err { IfErr result (HasRunFault sample PROFILE_S.now text.now) }
     ensures sure { IfErr result (λ fault. fault ≢ Fault.Write) }
+    ensures read { IfErr result (λ fault. fault ≢ Fault.Read) }
 {
     let (config, body) = take_apart(alloc, sample, text)?;
     let form = Form {
@@ -95,6 +126,7 @@ fn read_requests(
 pub fn run_threads<H: Threads + Wait + Sync>(
     rt: &H,
     alloc: Global,
+    flag: &Flag,
     config: &Config,
     instructions: &[Instruction],
 ) -> Result<(String, bool), Stop>
@@ -103,7 +135,7 @@ pub fn run_threads<H: Threads + Wait + Sync>(
 {
     let _limits = config.limits;
     let (ports, workers) = open_system(alloc, config, RUN)?;
-    let ended = run_all(rt, alloc, instructions, ports, workers)?;
+    let ended = run_all(rt, alloc, flag, instructions, ports, workers)?;
     let replies = replies_of(alloc, ended.ports)?;
     all_ends_of_one_open();
     let closed = match close(rt, alloc, RUN, replies.ends, ended.workers) {

@@ -53,12 +53,13 @@ impl Ended {
 /// Runs ports and workers to their ends, each in a thread. The ports ask for what the script says.
 ///
 /// None begins before all threads are there; where the system gives too few of them this fails as `ThreadsRefused`.
-/// Where one stops before its end the others stop too, and it is told why the first one stopped by itself, in the
-/// order of channels and then of ports. While threads run, memory is asked for by the replies' texts and the
+/// Where one stops before its end the others stop too, by the flag, and it is told why the first one stopped by itself, in the
+/// order of channels and then of ports; or that all were told to, where a channel went on no more, as the flag says then. While threads run, memory is asked for by the replies' texts and the
 /// channels' cycles alone.
 pub fn run_all<R: Threads + Wait + Sync>(
     rt: &R,
     alloc: Global,
+    flag: &Flag,
     instructions: &[Instruction],
     ports: Vec<Port>,
     workers: Vec<Worker>,
@@ -69,7 +70,7 @@ pub fn run_all<R: Threads + Wait + Sync>(
     ensures stopped { IfErr result (λ stop. (stop ≡ OutOfMemory → ⊥) → HasStopped ports.items workers.items (map view instructions.now) stop) }
 {
     let mut seats = seated(alloc, ports, workers)?;
-    run_seats(rt, alloc, instructions, seats.as_mut_slice());
+    run_seats(rt, alloc, flag, instructions, seats.as_mut_slice());
     match first_stop(seats.as_slice()) {
         Some(stop) => Err(stop),
         None => Ok(ends_of(alloc, seats)?),
@@ -114,6 +115,7 @@ fn seat_ports(seats: &mut Vec<Seat>, ports: Vec<Port>) -> Result<(), AllocError>
 fn run_seats<R: Threads + Wait + Sync>(
     rt: &R,
     alloc: Global,
+    flag: &Flag,
     instructions: &[Instruction],
     seats: &mut [Seat],
 )
@@ -124,8 +126,6 @@ fn run_seats<R: Threads + Wait + Sync>(
     if seats.is_empty() {
         return;
     }
-    let flag = Flag::new();
-    let flag = &flag;
     let start = Start::new(seats.len());
     let start = &start;
     thread::for_each_mut(

@@ -5,7 +5,7 @@ use Rattle.std.specs.Io.KnownBytes.{Appends}
 use Rattle.ddr_timing.specs.declared.profile.TheConstants.{PROFILE_S}
 use Rattle.ddr_text.specs.declared.script.Instruction as kept
 use Rattle.ddr_text.specs.Script.{view}
-use Rattle.ddr_run.specs.Started.{HasChecked, HasRunFault, IsRan, IsThreaded, stop_fault}
+use Rattle.ddr_run.specs.Started.{HasChecked, HasRunFault, IsRan, IsThreaded}
 use Rattle.ddr_run.proofs.StartLemmas.{of_input, stopped, unwritten}
 use Rattle.ddr_run.proofs.run.run.Goals as goal
 
@@ -16,10 +16,11 @@ returns-in_err-config-clause-fault g c =
 
 pub returns-in_err-text-2-clause-fault : goal.returns-in_err-text-2-clause-fault
 returns-in_err-text-2-clause-fault g c =
-    let stop = c.in_err-text-2.field-0.0 in
-    let checked : HasChecked c.args.sample PROFILE_S.now c.in_ok-text.text.now None = (c.in_ok-config.config, map view c.in_ok-config.instructions.items, c.in_ok-config.ensures.ok) in
+    let fault = c.in_err-text-2.field-0.0 in
+    let instructions = map view c.in_ok-config.instructions.items in
     let p = err_from_is_err_and c.from_residual-in_err-text-2.result c.from_residual-in_err-text-2.ensures.1 in
-    rw (p.1, p.2) (of_input (g.R.Read.remaining c.args.reader.now) c.in_ok-input.input.items c.in_ok-text.text.now (λ input. HasRunFault c.args.sample PROFILE_S.now input (stop_fault stop)) c.in_ok-input.ensures.all (c.in_ok-text.ensures.text.0 ∙ c.as_slice.ensures.value) (stopped c.in_ok-text.text.now PROFILE_S.now c.args.sample stop checked))
+    rw (p.1, p.2) (of_input (g.R.Read.remaining c.args.reader.now) c.in_ok-input.input.items c.in_ok-text.text.now (λ input. HasRunFault c.args.sample PROFILE_S.now input fault) c.in_ok-input.ensures.all (c.in_ok-text.ensures.text.0 ∙ c.as_slice.ensures.value)
+    (stopped c.in_ok-text.text.now PROFILE_S.now c.args.sample c.in_ok-config.config instructions fault c.in_ok-config.ensures.ok c.in_err-text-2.ensures.stopped))
 
 pub returns-in_err-write_whole-clause-fault : goal.returns-in_err-write_whole-clause-fault
 returns-in_err-write_whole-clause-fault g c =

@@ -7,4 +7,4 @@ use Rattle.ddr_run.proofs.threads.begun.Goals as goal
 pub returns-in-Err : goal.returns-in-Err
 returns-in-Err g c =
     let script = map view c.args.instructions.now in
-    subst (Serves script c.args.seat) (sym c.stopped.ensures) (not_served script c.args.seat c.in-Err.stop c.requires)
+    subst (Serves script c.args.seat) (sym c.stopped.ensures) (not_served script c.args.seat c.in-Err.stop c.in-Err.ensures c.requires)

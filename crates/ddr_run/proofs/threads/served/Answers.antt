@@ -15,4 +15,4 @@ pub returns-in-Worker : goal.returns-in-Worker
 returns-in-Worker g c =
     let script = map view c.args.instructions.now in
     subst (λ s. Serves script s c.left_by.result) (sym c.in-Worker.is)
-    (worker_served script c.in-Worker.worker c.run.result c.left_by.result c.left_by.ensures c.run.ensures.end)
+    (worker_served script c.in-Worker.worker c.run.result c.left_by.result c.left_by.ensures c.run.ensures.end c.run.ensures.same c.run.ensures.spent)
