@@ -399,11 +399,11 @@ fn run_from<R: Threads + Wait + Sync>(
     alloc: Global,
     (calls, kind): (u32, ErrorKind),
 ) -> (Vec<u8>, Result<bool, Fault>) {
-    let mut reader = Failing {
+    let mut reader = Device(Failing {
         text: WRITE_THEN_READ.as_bytes(),
         calls,
         kind,
-    };
+    });
     let mut bytes = Vec::new(alloc);
     let end = run(rt, alloc, true, &mut reader, &mut bytes);
     (bytes, end)
@@ -449,14 +449,14 @@ fn run_on_comments<R: Threads + Wait + Sync>(
     rt: &R,
     alloc: Global,
 ) -> (Result<bool, Fault>, usize, u64) {
-    let mut reader = Comments {
+    let mut reader = Device(Comments {
         left: u64::MAX,
         given: 0,
         asked_beyond: 0,
-    };
+    });
     let mut bytes = Vec::new(alloc);
     let end = run(rt, alloc, true, &mut reader, &mut bytes);
-    (end, bytes.len(), reader.asked_beyond)
+    (end, bytes.len(), reader.0.asked_beyond)
 }
 
 #[test]

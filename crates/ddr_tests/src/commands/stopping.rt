@@ -3,7 +3,7 @@ ghost use Rattle.std.specs.Prelude.{◌≤◌};
 ghost use Rattle.ddr_timing.specs.declared.units.TheConstants.{CLOCK_STOP};
 
 use ddr_run::flag::{Flag, Start, Stop, Watch};
-use ddr_run::run::run_threads;
+use ddr_run::run::{run, run_threads};
 use ddr_run::threads::{Seat, first_stop, left_by, run_all};
 use ddr_text::fault::Fault;
 use ddr_text::script::Instruction;
@@ -183,7 +183,7 @@ fn stop_of<R: Threads + Wait + Sync>(
 ) -> Result<Option<Stop>, Fail> {
     let config = Config::read(alloc, PROFILE_S)?;
     let instructions = reads(alloc, asks)?;
-    Ok(run_threads(rt, alloc, &config, instructions.as_slice()).err())
+    Ok(run_threads(rt, alloc, &Flag::new(), &config, instructions.as_slice()).err())
 }
 
 #[test]
@@ -251,7 +251,15 @@ fn stop_from<R: Threads + Wait + Sync>(
     let _limits = config.limits;
     let instructions = reads(alloc, asks)?;
     let (ports, workers) = open_at(alloc, &config, 0, first_cycle)?;
-    Ok(run_all(rt, alloc, instructions.as_slice(), ports, workers).err())
+    Ok(run_all(
+        rt,
+        alloc,
+        &Flag::new(),
+        instructions.as_slice(),
+        ports,
+        workers,
+    )
+    .err())
 }
 
 #[test]
@@ -260,6 +268,29 @@ fn a_clock_that_is_spent_ends_the_run(rt: HostRuntime) -> Result<(), Fail> {
         let first_cycle = CLOCK_STOP.saturating_sub(*left);
         let stop = stop_from(&rt, rt.alloc(), first_cycle, asks)?;
         assert_eq!(rt; stop.map(Fault::from), *fault, "{left} {asks:?}");
+    }
+    Ok(())
+}
+
+/// Reads of which each wants another row of one bank. In profile S with RCD at 176 a refresh takes 21 clocks to come and 20 to end, and with
+/// RCD that is 217, above REFI.
+const STARVED: &str = "read 0 0 1\nread 0 8192 1\nread 0 16384 1\nread 0 24576 1\n";
+
+/// How often such a run is made.
+const RUNS: u32 = 20;
+
+/// A channel that goes on no more ends the run, each time, and nothing is written.
+#[test]
+fn a_run_that_goes_on_no_more_ends(rt: HostRuntime) -> Result<(), Fail> {
+    let alloc = rt.alloc();
+    let config = PROFILE_S.replace(alloc, "rcd = 4\n", "rcd = 176\n")?;
+    let input = format!(in alloc; "{config}---\n{STARVED}")?;
+    for _ in 0..RUNS {
+        let mut reader = input.as_bytes();
+        let mut output = Vec::new(alloc);
+        let end = run(&rt, alloc, false, &mut reader, &mut output);
+        assert!(rt; matches!(end, Err(Fault::RunStuck { .. })), "{end:?}");
+        assert!(rt; output.is_empty());
     }
     Ok(())
 }
