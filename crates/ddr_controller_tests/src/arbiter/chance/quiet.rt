@@ -307,7 +307,7 @@ fn check_quiet(rt: &impl Abort, alloc: Global, case: &Case) -> Result<(), Fail> 
         check_seed(rt, alloc, case, seed, &mut seen)?;
     }
     assert!(rt; seen.asleep >= 500 && seen.awake >= 500, "{seen:?}");
-    assert!(rt; seen.waits >= 100 && seen.refreshes >= 10, "{seen:?}");
+    assert!(rt; seen.waits >= 100 && seen.refreshes >= 5, "{seen:?}");
     Ok(())
 }
 
