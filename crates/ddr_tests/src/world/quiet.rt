@@ -115,7 +115,7 @@ impl Pair {
         if count == 0 {
             return None;
         }
-        Some(self.chance.below(count) as u32)
+        u32::try_from(self.chance.below(count)).ok()
     }
 
     /// One of some lines of each channel and rank. In profile S they are two in each of two rows of two banks of two groups.
