@@ -8,7 +8,8 @@ use Rattle.ddr_row_array.specs.declared.row_array.OpenRow.{OpenRow}
 use Rattle.ddr_row_array.specs.declared.row_array.RowArray.TheInside.{Inside}
 use Rattle.ddr_row_array.specs.Rows.{Rows, StoredRow, is_row, row_lines, zero_line, cells, open_row, open_burst}
 use Rattle.ddr_row_array.specs.Changes.{Rewrites, is_line}
-use Rattle.ddr_row_array.specs.Store.{HasLine, line_at, place_at, stored_rows}
+use Rattle.ddr_row_array.specs.Store.{line_at, stored_rows}
+use Rattle.ddr_row_array.specs.Placed.{HasPlace, place_at}
 use Rattle.ddr_row_array.specs.Writes.{with_line, with_burst, ChangesLineAlone}
 use Rattle.ddr_row_array.specs.View.{IsSound, slot_of, rows_of, place_of}
 use Rattle.ddr_row_array.proofs.Addresses.{same_pair, swapped_pair}
@@ -66,8 +67,8 @@ IsOpenAt-same a store bank line o rows at =
 
 module _ (a : Inside) (bank line : ℕ) (o : OpenRow) (sound : IsSound a) (at : IsOpenAt a bank line o) where
   -- the line is one of the slot
-  pub HasLine-at : HasLine a.store o.slot line
-  HasLine-at = record { in_slots = at.within; in_row = rw sound.width at.below }
+  pub HasPlace-at : HasPlace a.store.slots o.slot line
+  HasPlace-at = record { in_slots = at.within; in_row = rw sound.width at.below }
 
   -- the open row, as contracts see it
   pub open_row-at : open_row (rows_of a) bank ≡ Some o.row
@@ -81,7 +82,7 @@ module _ (a : Inside) (bank line : ℕ) (o : OpenRow) (sound : IsSound a) (at : 
       ap (λ t. cond t (option_map burst (open_row (rows_of a) bank)) None) (lt-ltb line (a.geometry.columns / 8) at.below)
       ∙ ap (option_map burst) open_row-at
       ∙ ap (λ lines. Some (get_or lines line zero_line)) (row_lines-slot a.store bank o.row o.slot d at.slot)
-      ∙ ap Some (line_of_rows a.store sound.store o.slot line HasLine-at d ∙ ap (line_at a.store.lines.items) (sym is_p))
+      ∙ ap Some (line_of_rows a.store sound.store o.slot line HasPlace-at d ∙ ap (line_at a.store.lines.items) (sym is_p))
 
 -- ---- a write of the line, over what contracts see
 and_assoc : (x y z : Bool) → (x && (y && z)) ≡ ((x && y) && z)
@@ -152,7 +153,7 @@ Rewrites-with_burst a bank row line w s held found within =
 -- ---- a write of the line, over the fields
 module _ (a : Inside) (bank line : ℕ) (o : OpenRow) (sound : IsSound a) (at : IsOpenAt a bank line o) (p : ℕ) (is_p : p ≡ place_at a.store.slots.items o.slot line) (set_p : p ≢ 0) where
   abbrev lent : List ℕ → Inside
-  lent w = record a { store = written a.store sound.store o.slot line (HasLine-at a bank line o sound at) p is_p set_p w }
+  lent w = record a { store = written a.store sound.store o.slot line (HasPlace-at a bank line o sound at) p is_p set_p w }
 
   abbrev d : StoredRow
   d = record { bank = 0; row = 0; lines = [] }
@@ -161,7 +162,7 @@ module _ (a : Inside) (bank line : ℕ) (o : OpenRow) (sound : IsSound a) (at : 
   here = get_or (stored_rows a.store) o.slot d
 
   stored-set : (w : List ℕ) → stored_rows (lent w).store ≡ set (stored_rows a.store) o.slot (record here { lines = set here.lines line w })
-  stored-set w = stored_rows-written a.store sound.store o.slot line (HasLine-at a bank line o sound at) p is_p set_p w d
+  stored-set w = stored_rows-written a.store sound.store o.slot line (HasPlace-at a bank line o sound at) p is_p set_p w d
 
   same_slots : (w : List ℕ) (b r : ℕ) → slot_of (lent w).store b r ≡ slot_of a.store b r
   same_slots w b r =
@@ -172,7 +173,7 @@ module _ (a : Inside) (bank line : ℕ) (o : OpenRow) (sound : IsSound a) (at : 
   IsSound-lent w = record {
     banks = sound.banks;
     width = sound.width;
-    store = IsKept-written a.store sound.store o.slot line (HasLine-at a bank line o sound at) p is_p set_p w;
+    store = IsKept-written a.store sound.store o.slot line (HasPlace-at a bank line o sound at) p is_p set_p w;
     indexed = λ k. sound.indexed k ∙ sym (same_slots w k.bank k.row);
     kept = λ b o' e. same_slots w b o'.row ∙ sound.kept b o' e;
     ensured = λ r e. same_slots w r.address.bank r.address.row ∙ sound.ensured r e;
@@ -195,7 +196,7 @@ module _ (a : Inside) (bank line : ℕ) (o : OpenRow) (sound : IsSound a) (at : 
       let same : o.row ≡ row = let both : Some o.row ≡ Some row = sym (open_row-at a bank line o sound at) ∙ e in cc in
       let found = find-slot a.store bank o.row o.slot d at.slot in
       let this = subst (λ r. find (is_row bank r) (stored_rows a.store) ≡ Some here) same found in
-      Rewrites-with_burst (rows_of a) bank row line w here e this (row_long a.store sound.store o.slot line (HasLine-at a bank line o sound at) d)
+      Rewrites-with_burst (rows_of a) bank row line w here e this (row_long a.store sound.store o.slot line (HasPlace-at a bank line o sound at) d)
 
 -- it is the open row's line
 burst_there : (t : Bool) (row : ℕ) (f : ℕ → List ℕ) (w : List ℕ) → cond t (option_map f (Some row)) None ≡ Some w → f row ≡ w

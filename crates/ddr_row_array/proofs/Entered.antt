@@ -1,22 +1,21 @@
 -- The places of lines, and the stored rows, when a row is stored, a line is entered, and a line is written.
-use Rattle.std.proofs.Common.{◌≡◌, ◌≢◌, ℕ, ◌+◌, ◌<◌, ◌≤◌, Bool, true, false, ◌&&◌, ◌⊎◌, cond, eqb, List, [], ◌∷◌, ◌++◌, length, map, get_or, set, replicate, Some, All, refl, sym, ap, subst, ◌∙◌, inl, inr, arith, vec_len, vec_capacity}
+use Rattle.std.proofs.Common.{◌≡◌, ◌≢◌, ℕ, ◌+◌, ◌-◌, ◌<◌, ◌≤◌, ◌^◌, Bool, true, false, ◌&&◌, ◌⊎◌, cond, eqb, List, [], ◌∷◌, ◌++◌, length, map, get_or, set, replicate, Some, All, refl, sym, ap, subst, ◌∙◌, inl, inr, arith}
 use Rattle.std.specs.List.{sum_by, count_by}
 use Rattle.std.specs.Option.{option_map_or}
-use Rattle.std.specs.Vec.{with_item}
-use Rattle.std.specs.declared.alloc.Global.{Global}
-use Rattle.std.specs.declared.vec.Vec.{Vec}
 use Rattle.std.proofs.lemmas.Bool.{cases_eq, cases_lt, eq-eqb, ne_eqb}
 use Rattle.std.proofs.lemmas.Bool.Decides.{nat_tests}
-use Rattle.std.proofs.lemmas.List.{get_or-replicate, get_or-set_same, get_or-set_other, get_or_append_left, get_or_push, get_or_past, get_or_default, get_or_read, get_or-map, length-map, length-replicate, length-set, length_push, map-set, same_lists, set-get_or}
+use Rattle.std.proofs.lemmas.List.{get_or-replicate, get_or-set_same, get_or-set_other, get_or_append_left, get_or_push, get_or_past, get_or_default, get_or-map, length-map, length-replicate, length-set, length_push, map-set, same_lists, set-get_or}
 use Rattle.std.proofs.lemmas.List.Elements.{All-head, All-tail, All-push, All-set}
 use Rattle.std.proofs.lemmas.List.Sums.{sum_by_push, sum_by-set, get_or-le-sum_by}
 use Rattle.std.proofs.lemmas.List.Folds.{sum_by-replicate}
 use Rattle.std.proofs.lemmas.Option.{slice_get-get_or, slice_get_past, slice_get_within, get_or_from_slice_get}
 use Rattle.ddr_row_array.specs.declared.slot.RowAddress.{RowAddress}
-use Rattle.ddr_row_array.specs.declared.slot.Slot.{Slot}
 use Rattle.ddr_row_array.specs.declared.store.Store.{Store}
 use Rattle.ddr_row_array.specs.Rows.{StoredRow, zero_line}
-use Rattle.ddr_row_array.specs.Store.{IsKept, HasRoom, HasLine, SameStore, line_at, place_at, stored_of, stored_rows, unentered_in}
+use Rattle.ddr_row_array.specs.Arena.{Reserved}
+use Rattle.ddr_row_array.specs.LentItem.{with_item}
+use Rattle.ddr_row_array.specs.Placed.{PlacedRow, PlacedRows, HasPlace, place_at, placed}
+use Rattle.ddr_row_array.specs.Store.{IsKept, HasRoom, SameStore, line_at, stored_of, stored_rows, unentered_in}
 use Rattle.ddr_row_array.proofs.Opened.{get_or-set_if}
 
 map_same : {X Y : Type 0} (f g : X → Y) (xs : List X) → All (λ x. f x ≡ g x) xs → map f xs ≡ map g xs
@@ -30,59 +29,56 @@ get_or_zeros n k =
 
 -- ---- places
 -- the places of a slot that is there
-pub place_at_slot : (slots : List Slot) (i l : ℕ) (d : Slot) → i < length slots → place_at slots i l ≡ get_or (get_or slots i d).places.items l 0
+pub place_at_slot : (slots : List PlacedRow) (i l : ℕ) (d : PlacedRow) → i < length slots → place_at slots i l ≡ get_or (get_or slots i d).places l 0
 place_at_slot slots i l d within =
-    ap (λ o. get_or (option_map_or (λ (s : Slot). s.places.items) o []) l 0) (slice_get-get_or slots i d within)
+    ap (λ o. get_or (option_map_or (λ (s : PlacedRow). s.places) o []) l 0) (slice_get-get_or slots i d within)
 
-place_at_past : (slots : List Slot) (i l : ℕ) → length slots ≤ i → place_at slots i l ≡ 0
+place_at_past : (slots : List PlacedRow) (i l : ℕ) → length slots ≤ i → place_at slots i l ≡ 0
 place_at_past slots i l past =
-    ap (λ o. get_or (option_map_or (λ (s : Slot). s.places.items) o []) l 0) (slice_get_past slots i past)
+    ap (λ o. get_or (option_map_or (λ (s : PlacedRow). s.places) o []) l 0) (slice_get_past slots i past)
 
 -- a new row of which no line was entered
-place_at_push : (slots : List Slot) (t : Slot) (n : ℕ) → t.places.items ≡ replicate n 0 → (i l : ℕ) → place_at (slots ++ t ∷ []) i l ≡ place_at slots i l
+place_at_push : (slots : List PlacedRow) (t : PlacedRow) (n : ℕ) → t.places ≡ replicate n 0 → (i l : ℕ) → place_at (slots ++ t ∷ []) i l ≡ place_at slots i l
 place_at_push slots t n zeros i l =
     elim (cases_lt i (length slots)) [
       | inl within ↦
           place_at_slot (slots ++ t ∷ []) i l t (omega (arith, length_push slots t))
-          ∙ ap (λ (s : Slot). get_or s.places.items l 0) (get_or_append_left slots (t ∷ []) t i within)
+          ∙ ap (λ (s : PlacedRow). get_or s.places l 0) (get_or_append_left slots (t ∷ []) t i within)
           ∙ sym (place_at_slot slots i l t within)
       | inr past ↦
           elim (cases_eq i (length slots)) [
             | inl last ↦
                 place_at_slot (slots ++ t ∷ []) i l t (omega (arith, length_push slots t))
-                ∙ ap (λ (s : Slot). get_or s.places.items l 0) (get_or_push slots t t i (sym last))
+                ∙ ap (λ (s : PlacedRow). get_or s.places l 0) (get_or_push slots t t i (sym last))
                 ∙ ap (λ places. get_or places l 0) zeros ∙ get_or_zeros n l ∙ sym (place_at_past slots i l past)
             | inr other ↦ place_at_past (slots ++ t ∷ []) i l (omega (arith, length_push slots t)) ∙ sym (place_at_past slots i l past)
           ]
     ]
 
 -- a line whose place is set
-abbrev pub placed : Slot → ℕ → ℕ → Slot
-placed t l p = record t { places = with_item t.places l p }
-
-place_at-set : (slots : List Slot) (k l p : ℕ) (t : Slot) → k < length slots → t ≡ get_or slots k t → l < length t.places.items → (i m : ℕ) → place_at (set slots k (placed t l p)) i m ≡ cond (eqb i k && eqb m l) p (place_at slots i m)
+place_at-set : (slots : List PlacedRow) (k l p : ℕ) (t : PlacedRow) → k < length slots → t ≡ get_or slots k t → l < length t.places → (i m : ℕ) → place_at (set slots k (placed t l p)) i m ≡ cond (eqb i k && eqb m l) p (place_at slots i m)
 place_at-set slots k l p t within is long i m =
     elim (cases_eq i k) [
       | inl same ↦
           rw (same, eq-eqb k k refl)
           (place_at_slot (set slots k (placed t l p)) k m t (omega (arith, length-set slots k (placed t l p)))
-          ∙ ap (λ (s : Slot). get_or s.places.items m 0) (get_or-set_same slots k (placed t l p) t within)
-          ∙ get_or-set_if t.places.items l m p 0 long
-          ∙ ap (cond (eqb m l) p) (ap (λ (s : Slot). get_or s.places.items m 0) is ∙ sym (place_at_slot slots k m t within)))
+          ∙ ap (λ (s : PlacedRow). get_or s.places m 0) (get_or-set_same slots k (placed t l p) t within)
+          ∙ get_or-set_if t.places l m p 0 long
+          ∙ ap (cond (eqb m l) p) (ap (λ (s : PlacedRow). get_or s.places m 0) is ∙ sym (place_at_slot slots k m t within)))
       | inr other ↦
           rw (ne_eqb i k other)
           (elim (cases_lt i (length slots)) [
             | inl here ↦
                 place_at_slot (set slots k (placed t l p)) i m t (omega (arith, length-set slots k (placed t l p)))
-                ∙ ap (λ (s : Slot). get_or s.places.items m 0) (get_or-set_other slots k i (placed t l p) t other)
+                ∙ ap (λ (s : PlacedRow). get_or s.places m 0) (get_or-set_other slots k i (placed t l p) t other)
                 ∙ sym (place_at_slot slots i m t here)
             | inr past ↦ place_at_past (set slots k (placed t l p)) i m (omega (arith, length-set slots k (placed t l p))) ∙ sym (place_at_past slots i m past)
           ])
     ]
 
 -- ---- what is kept
-pub IsKept-same : (old new : Store) → IsKept old → SameStore old new → new.unentered ≡ old.unentered → vec_len new.lines + new.unentered ≤ vec_capacity new.lines → IsKept new
-IsKept-same old new kept same counted room = record {
+pub IsKept-same : (old new : Store) → IsKept old → SameStore old new → new.unentered ≡ old.unentered → length new.lines.items + new.unentered ≤ new.lines.capacity → new.lines.capacity ≤ 2 ^ 53 → IsKept new
+IsKept-same old new kept same counted room bounded = record {
   narrow = rw same.width kept.narrow;
   zeros = rw same.lines kept.zeros;
   whole = rw (same.slots, same.width) kept.whole;
@@ -90,68 +86,63 @@ IsKept-same old new kept same counted room = record {
   apart = rw same.slots kept.apart;
   counted = rw (same.slots, counted) kept.counted;
   room = room;
+  bounded = bounded;
 }
 
 no_lines_of_zeros : (n : ℕ) → count_by (λ place. eqb place 0) (replicate n 0) ≡ n
 no_lines_of_zeros n = omega (arith, sum_by-replicate (λ place. cond (eqb place 0) 1 0) n 0)
 
-pub IsKept-pushed : (old new : Store) (t : Slot) → IsKept old → HasRoom old → t.places.items ≡ replicate old.width 0 → new.width ≡ old.width → new.slots.items ≡ old.slots.items ++ t ∷ [] → new.lines ≡ old.lines → new.unentered ≡ old.unentered + old.width → IsKept new
+pub IsKept-pushed : (old new : Store) (t : PlacedRow) → IsKept old → HasRoom old → t.places ≡ replicate old.slots.width 0 → new.slots.width ≡ old.slots.width → new.slots.items ≡ old.slots.items ++ t ∷ [] → new.lines ≡ old.lines → new.unentered ≡ old.unentered + old.slots.width → IsKept new
 IsKept-pushed old new t kept room zeros width slots lines counted = record {
   narrow = rw width kept.narrow;
   zeros = rw lines kept.zeros;
-  whole = rw (slots, width) (All-push (λ (u : Slot). vec_len u.places ≡ old.width) old.slots.items t kept.whole (t.places.ok.0 ∙ ap length zeros ∙ length-replicate {A = ℕ} old.width 0));
-  within = λ i l. rw (slots, lines, place_at_push old.slots.items t old.width zeros i l) (kept.within i l);
-  apart = λ i j l m. rw (slots, place_at_push old.slots.items t old.width zeros i l, place_at_push old.slots.items t old.width zeros j m) (kept.apart i j l m);
+  whole = rw (slots, width) (All-push (λ (u : PlacedRow). length u.places ≡ old.slots.width) old.slots.items t kept.whole (ap length zeros ∙ length-replicate {A = ℕ} old.slots.width 0));
+  within = λ i l. rw (slots, lines, place_at_push old.slots.items t old.slots.width zeros i l) (kept.within i l);
+  apart = λ i j l m. rw (slots, place_at_push old.slots.items t old.slots.width zeros i l, place_at_push old.slots.items t old.slots.width zeros j m) (kept.apart i j l m);
   counted =
       let sum = sum_by_push unentered_in old.slots.items t in
-      let all : unentered_in t ≡ old.width = ap (count_by (λ place. eqb place 0)) zeros ∙ no_lines_of_zeros old.width in
-      counted ∙ ap (λ n. n + old.width) kept.counted ∙ ap (λ n. sum_by unentered_in old.slots.items + n) (sym all) ∙ sym sum ∙ ap (sum_by unentered_in) (sym slots);
+      let all : unentered_in t ≡ old.slots.width = ap (count_by (λ place. eqb place 0)) zeros ∙ no_lines_of_zeros old.slots.width in
+      counted ∙ ap (λ n. n + old.slots.width) kept.counted ∙ ap (λ n. sum_by unentered_in old.slots.items + n) (sym all) ∙ sym sum ∙ ap (sum_by unentered_in) (sym slots);
   room = let lines_in = room.lines in rw (lines, counted) (omega arith);
+  bounded = rw lines kept.bounded;
 }
 
 module _ (s : Store) (kept : IsKept s) where
-  abbrev slots : List Slot
+  abbrev slots : List PlacedRow
   slots = s.slots.items
 
   abbrev lines : List (List ℕ)
   lines = s.lines.items
 
   -- each place of a slot has its line
-  places_within : (i : ℕ) (d : Slot) → i < length slots → All (λ q. q < length lines) (get_or slots i d).places.items
+  places_within : (i : ℕ) (d : PlacedRow) → i < length slots → All (λ q. q < length lines) (get_or slots i d).places
   places_within i d here m e within =
-      let places = (get_or slots i d).places.items in
+      let places = (get_or slots i d).places in
       subst (λ q. q < length lines) (place_at_slot slots i m d here ∙ get_or_default places m 0 e within) (kept.within i m)
 
-  module _ (k l : ℕ) (there : HasLine s k l) (t : Slot) (is : t ≡ get_or slots k t) where
-    pub long_enough : l < length t.places.items
+  module _ (k l : ℕ) (there : HasPlace s.slots k l) (t : PlacedRow) (is : t ≡ get_or slots k t) where
+    pub long_enough : l < length t.places
     long_enough =
-        let whole : vec_len (get_or slots k t).places ≡ s.width = kept.whole k t there.in_slots in
-        let same : vec_len t.places ≡ s.width = ap (λ (u : Slot). vec_len u.places) is ∙ whole in
-        omega (arith, t.places.ok.0, there.in_row)
+        let whole : length (get_or slots k t).places ≡ s.slots.width = kept.whole k t there.in_slots in
+        let same : length t.places ≡ s.slots.width = ap (λ (u : PlacedRow). length u.places) is ∙ whole in
+        omega (arith, there.in_row)
 
-    pub place_is : place_at slots k l ≡ get_or t.places.items l 0
-    place_is = place_at_slot slots k l t there.in_slots ∙ ap (λ (u : Slot). get_or u.places.items l 0) (sym is)
+    pub place_is : place_at slots k l ≡ get_or t.places l 0
+    place_is = place_at_slot slots k l t there.in_slots ∙ ap (λ (u : PlacedRow). get_or u.places l 0) (sym is)
 
-    -- what the code reads of it
-    pub place_is_read : (q : ℕ) → q ≡ get_or t.places.items l q → q ≡ place_at slots k l
-    place_is_read q read = get_or_read t.places.items l q long_enough read 0 ∙ sym place_is
-
-    pub place_within : (q : ℕ) → q ≡ get_or t.places.items l q → q < vec_len s.lines
-    place_within q read = let e = place_is_read q read in let below = kept.within k l in omega (arith, s.lines.ok.0)
-
-    own_places : All (λ q. q < length lines) t.places.items
+    own_places : All (λ q. q < length lines) t.places
     own_places = rw is (places_within k t there.in_slots)
 
-    module _ (unset : get_or t.places.items l 0 ≡ 0) where
+    module _ (unset : get_or t.places l 0 ≡ 0) where
       -- there is room for the line
       pub one_unentered : 1 ≤ s.unentered
       one_unentered =
-          let here : 1 ≤ unentered_in t = subst (λ q. cond (eqb q 0) 1 0 ≤ unentered_in t) unset (get_or-le-sum_by (λ place. cond (eqb place 0) 1 0) t.places.items l 0 long_enough) in
+          let here : 1 ≤ unentered_in t = subst (λ q. cond (eqb q 0) 1 0 ≤ unentered_in t) unset (get_or-le-sum_by (λ place. cond (eqb place 0) 1 0) t.places l 0 long_enough) in
           let all : unentered_in (get_or slots k t) ≤ sum_by unentered_in slots = get_or-le-sum_by unentered_in slots k t there.in_slots in
           let same : unentered_in t ≡ unentered_in (get_or slots k t) = ap unentered_in is in
           omega (arith, kept.counted)
 
-      pub fits : vec_len s.lines < vec_capacity s.lines
+      pub fits : length s.lines.items < s.lines.capacity
       fits = omega (arith, kept.room, one_unentered)
 
 -- ---- a line is entered
@@ -159,7 +150,7 @@ pub get_or-places_pushed : (lines : List (List ℕ)) (line : List ℕ) (places :
 get_or-places_pushed lines line places within =
     map_same (line_at (lines ++ line ∷ [])) (line_at lines) places (λ m d h. get_or_append_left lines (line ∷ []) zero_line (get_or places m d) (within m d h))
 
-first_of : (slots : List Slot) (i : ℕ) → i < length slots → Slot
+first_of : (slots : List PlacedRow) (i : ℕ) → i < length slots → PlacedRow
 first_of [] i h = absurd (omega arith)
 first_of (x ∷ xs) i h = x
 
@@ -184,19 +175,22 @@ new_place_within : (n : ℕ) (a : Bool) (p : ℕ) → p < n → cond a n p < n +
 new_place_within n true p below = omega arith
 new_place_within n false p below = omega arith
 
+own_place : (k l n old : ℕ) → cond (eqb k k && eqb l l) n old ≡ n
+own_place k l n old = rw (eq-eqb k k refl, eq-eqb l l refl) refl
+
 one_zero_less : (new a old b : ℕ) → new + a ≡ old + b → a ≡ 1 → b ≡ 0 → new + 1 ≡ old
 one_zero_less new a old b h one none = omega arith
 
 recount : (sum new_sum old new u v : ℕ) → new_sum + old ≡ sum + new → new + 1 ≡ old → u + 1 ≡ v → v ≡ sum → u ≡ new_sum
 recount sum new_sum old new u v h less after before = omega arith
 
-module _ (s : Store) (kept : IsKept s) (k l : ℕ) (there : HasLine s k l) (t : Slot) (is : t ≡ get_or s.slots.items k t) (unset : get_or t.places.items l 0 ≡ 0) where
-  abbrev new_slot : ℕ → Slot
+module _ (s : Store) (kept : IsKept s) (k l : ℕ) (there : HasPlace s.slots k l) (t : PlacedRow) (is : t ≡ get_or s.slots.items k t) (unset : get_or t.places l 0 ≡ 0) where
+  abbrev new_slot : ℕ → PlacedRow
   new_slot n = placed t l n
 
-  module _ (n u : ℕ) (lines : Vec (List ℕ) Global) (is_n : n ≡ length s.lines.items) (is_u : u + 1 ≡ s.unentered) (pushed : lines.items ≡ s.lines.items ++ zero_line ∷ []) (long : vec_len lines ≡ vec_len s.lines + 1) (same_room : vec_capacity lines ≡ vec_capacity s.lines) where
+  module _ (n u : ℕ) (lines : Reserved (List ℕ)) (is_n : n ≡ length s.lines.items) (is_u : u + 1 ≡ s.unentered) (pushed : lines.items ≡ s.lines.items ++ zero_line ∷ []) (same_room : lines.capacity ≡ s.lines.capacity) where
     abbrev entered : Store
-    entered = record s { slots = with_item s.slots k (new_slot n); lines = lines; unentered = u }
+    entered = record s { slots = record s.slots { items = set s.slots.items k (new_slot n) }; lines = lines; unentered = u }
 
     pub place_at-entered : (i m : ℕ) → place_at entered.slots.items i m ≡ cond (eqb i k && eqb m l) n (place_at s.slots.items i m)
     place_at-entered = place_at-set s.slots.items k l n t there.in_slots is (long_enough s kept k l there t is)
@@ -212,10 +206,10 @@ module _ (s : Store) (kept : IsKept s) (k l : ℕ) (there : HasLine s k l) (t : 
         let f = λ (q : ℕ). cond (eqb q 0) 1 0 in
         let positive : 0 < n = let b = below k l in omega arith in
         let not_zero : f n ≡ 0 = rw (ne_eqb n 0 (λ e. omega arith)) refl in
-        let was_zero : f (get_or t.places.items l 0) ≡ 1 = ap f unset in
-        let inner : unentered_in (new_slot n) + f (get_or t.places.items l 0) ≡ unentered_in t + f n = sum_by-set f t.places.items l n 0 (long_enough s kept k l there t is) in
+        let was_zero : f (get_or t.places l 0) ≡ 1 = ap f unset in
+        let inner : unentered_in (new_slot n) + f (get_or t.places l 0) ≡ unentered_in t + f n = sum_by-set f t.places l n 0 (long_enough s kept k l there t is) in
         let outer : sum_by unentered_in (set s.slots.items k (new_slot n)) + unentered_in (get_or s.slots.items k t) ≡ sum_by unentered_in s.slots.items + unentered_in (new_slot n) = sum_by-set unentered_in s.slots.items k (new_slot n) t there.in_slots in
-        let one_less : unentered_in (new_slot n) + 1 ≡ unentered_in t = one_zero_less (unentered_in (new_slot n)) (f (get_or t.places.items l 0)) (unentered_in t) (f n) inner was_zero not_zero in
+        let one_less : unentered_in (new_slot n) + 1 ≡ unentered_in t = one_zero_less (unentered_in (new_slot n)) (f (get_or t.places l 0)) (unentered_in t) (f n) inner was_zero not_zero in
         recount (sum_by unentered_in s.slots.items) (sum_by unentered_in (set s.slots.items k (new_slot n))) (unentered_in (get_or s.slots.items k t)) (unentered_in (new_slot n)) u s.unentered outer (one_less ∙ ap unentered_in is) is_u kept.counted
 
     pub IsKept-entered : IsKept entered
@@ -226,8 +220,8 @@ module _ (s : Store) (kept : IsKept s) (k l : ℕ) (there : HasLine s k l) (t : 
           rw pushed (slice_get-get_or (s.lines.items ++ zero_line ∷ []) 0 zero_line (omega (arith, length_push s.lines.items zero_line))
           ∙ ap Some (get_or_append_left s.lines.items (zero_line ∷ []) zero_line 0 some ∙ get_or_from_slice_get s.lines.items 0 zero_line zero_line kept.zeros));
       whole =
-          All-set (λ (x : Slot). vec_len x.places ≡ s.width) s.slots.items k (new_slot n)
-          (ap (λ (x : Slot). vec_len x.places) is ∙ kept.whole k t there.in_slots) kept.whole;
+          All-set (λ (x : PlacedRow). length x.places ≡ s.slots.width) s.slots.items k (new_slot n)
+          (length-set t.places l n ∙ ap (λ (x : PlacedRow). length x.places) is ∙ kept.whole k t there.in_slots) kept.whole;
       within = λ i m. rw (one_more, place_at-entered i m) (new_place_within n (eqb i k && eqb m l) (place_at s.slots.items i m) (below i m));
       apart = λ i j m m' same above.
           let named' = rw (place_at-entered i m, place_at-entered j m') at same in
@@ -240,13 +234,14 @@ module _ (s : Store) (kept : IsKept s) (k l : ℕ) (there : HasLine s k l) (t : 
             | inr old ↦ kept.apart i j m m' old.0 old.1
           ];
       counted = counted-entered;
-      room = let before = kept.room in omega arith;
+      room = let before = kept.room in let long = one_more in rw same_room (omega arith);
+      bounded = rw same_room kept.bounded;
     }
 
     -- the slot has the bytes that it had
     same_slot : stored_of lines.items (new_slot n) ≡ stored_of s.lines.items t
     same_slot =
-        let places = t.places.items in
+        let places = t.places in
         let long' = long_enough s kept k l there t is in
         let lines' = s.lines.items ++ zero_line ∷ [] in
         let last : line_at lines' n ≡ zero_line = get_or_push s.lines.items zero_line zero_line n (sym is_n) in
@@ -268,12 +263,33 @@ module _ (s : Store) (kept : IsKept s) (k l : ℕ) (there : HasLine s k l) (t : 
         ∙ ap (λ rows. set rows k (stored_of lines.items (new_slot n)))
         (map_same (stored_of lines.items) (stored_of s.lines.items) slots (λ j d h.
         let x = get_or slots j d in
-        ap (named x.address) (ap (λ ls. map (line_at ls) x.places.items) pushed ∙ get_or-places_pushed s.lines.items zero_line x.places.items (places_within s kept j d h))))
+        ap (named x.address) (ap (λ ls. map (line_at ls) x.places) pushed ∙ get_or-places_pushed s.lines.items zero_line x.places (places_within s kept j d h))))
         ∙ ap (set old k) (same_slot ∙ ap (stored_of s.lines.items) is ∙ sym (get_or-map (stored_of s.lines.items) slots k t (stored_of s.lines.items t) there.in_slots))
         ∙ set-get_or old k (stored_of s.lines.items t)
 
+    -- the store that it leaves, whatever room it has for rows
+    module _ (slots : PlacedRows) (width : slots.width ≡ s.slots.width) (items : slots.items ≡ set s.slots.items k (new_slot n)) where
+      abbrev left : Store
+      left = record s { slots = slots; lines = lines; unentered = u }
+
+      pub IsKept-left : IsKept left
+      IsKept-left =
+          IsKept-same entered left IsKept-entered (record { width = width; slots = items; lines = refl }) refl IsKept-entered.room IsKept-entered.bounded
+
+      pub stored_rows-left : stored_rows left ≡ stored_rows s
+      stored_rows-left = ap (map (stored_of lines.items)) items ∙ stored_rows-entered
+
+      pub place_at-left : n ≡ place_at slots.items k l
+      place_at-left = rw items (sym (place_at-entered k l ∙ own_place k l n (place_at s.slots.items k l)))
+
+      pub HasPlace-left : HasPlace slots k l
+      HasPlace-left = record {
+        in_slots = rw (items, length-set s.slots.items k (new_slot n)) there.in_slots;
+        in_row = rw width there.in_row;
+      }
+
 -- ---- a line is written
-module _ (s : Store) (kept : IsKept s) (k l : ℕ) (there : HasLine s k l) (p : ℕ) (is_p : p ≡ place_at s.slots.items k l) (set_p : p ≢ 0) (w : List ℕ) where
+module _ (s : Store) (kept : IsKept s) (k l : ℕ) (there : HasPlace s.slots k l) (p : ℕ) (is_p : p ≡ place_at s.slots.items k l) (set_p : p ≢ 0) (w : List ℕ) where
   abbrev pub written : Store
   written = record s { lines = with_item s.lines p w }
 
@@ -301,16 +317,17 @@ module _ (s : Store) (kept : IsKept s) (k l : ℕ) (there : HasLine s k l) (p : 
     within = λ i m. rw length-set (kept.within i m);
     apart = kept.apart;
     counted = kept.counted;
-    room = kept.room;
+    room = rw (length-set s.lines.items p w) kept.room;
+    bounded = kept.bounded;
   }
 
   -- the slot itself
-  own_lines : (d : Slot) → map (line_at (set s.lines.items p w)) (get_or s.slots.items k d).places.items ≡ set (map (line_at s.lines.items) (get_or s.slots.items k d).places.items) l w
+  own_lines : (d : PlacedRow) → map (line_at (set s.lines.items p w)) (get_or s.slots.items k d).places ≡ set (map (line_at s.lines.items) (get_or s.slots.items k d).places) l w
   own_lines d =
       let lines = s.lines.items in
-      let places = (get_or s.slots.items k d).places.items in
-      let whole : vec_len (get_or s.slots.items k d).places ≡ s.width = kept.whole k d there.in_slots in
-      let long : l < length places = omega (arith, (get_or s.slots.items k d).places.ok.0, there.in_row) in
+      let places = (get_or s.slots.items k d).places in
+      let whole : length (get_or s.slots.items k d).places ≡ s.slots.width = kept.whole k d there.in_slots in
+      let long : l < length places = omega (arith, there.in_row) in
       let here : (m : ℕ) → place_at s.slots.items k m ≡ get_or places m 0 = λ m. place_at_slot s.slots.items k m d there.in_slots in
       same_lists (map (line_at (set lines p w)) places) (set (map (line_at lines) places) l w)
       (length-map places (line_at (set lines p w)) ∙ sym (length-set (map (line_at lines) places) l w ∙ length-map places (line_at lines)))
@@ -328,10 +345,10 @@ module _ (s : Store) (kept : IsKept s) (k l : ℕ) (there : HasLine s k l) (p : 
       ])
 
   -- another slot
-  other_lines : (i : ℕ) (d : Slot) → i < length s.slots.items → i ≢ k → map (line_at (set s.lines.items p w)) (get_or s.slots.items i d).places.items ≡ map (line_at s.lines.items) (get_or s.slots.items i d).places.items
+  other_lines : (i : ℕ) (d : PlacedRow) → i < length s.slots.items → i ≢ k → map (line_at (set s.lines.items p w)) (get_or s.slots.items i d).places ≡ map (line_at s.lines.items) (get_or s.slots.items i d).places
   other_lines i d here other =
       let lines = s.lines.items in
-      let places = (get_or s.slots.items i d).places.items in
+      let places = (get_or s.slots.items i d).places in
       map_same (line_at (set lines p w)) (line_at lines) places (λ m e h.
       line_at-written (get_or places m e)
       ∙ rw (ne_eqb (get_or places m e) p (λ e'. other (elsewhere i m (place_at_slot s.slots.items i m d here ∙ get_or_default places m 0 e h ∙ e')).0)) refl)
@@ -361,37 +378,64 @@ module _ (s : Store) (kept : IsKept s) (k l : ℕ) (there : HasLine s k l) (p : 
             ∙ sym (get_or-set_other old k i (changed (get_or old k d)) e other ∙ get_or-map (stored_of lines) slots i t e within)
       ])
 
--- ---- for the code
--- a line whose place was read as 0
-pub unset_read : (s : Store) (kept : IsKept s) (k l : ℕ) (there : HasLine s k l) (t x : Slot) → t ≡ get_or s.slots.items k t → x ≡ get_or s.slots.items k x → (q : ℕ) → q ≡ get_or x.places.items l q → q ≡ 0 → get_or t.places.items l 0 ≡ 0
-unset_read s kept k l there t x is_t is_x q read zero =
-    sym (place_is s kept k l there t is_t) ∙ sym (place_is_read s kept k l there x is_x q read) ∙ zero
+-- ---- what the code makes of a line whose place was read as 0
+pub record IsEntered (old new : Store) (k l n : ℕ) : Type 0 where
+  pub kept : IsKept new
+  pub there : HasPlace new.slots k l
+  pub place : n ≡ place_at new.slots.items k l
+  pub rows : stored_rows new ≡ stored_rows old
 
-own_place : (k l n old : ℕ) → cond (eqb k k && eqb l l) n old ≡ n
-own_place k l n old = rw (eq-eqb k k refl, eq-eqb l l refl) refl
+module _ (s : Store) (kept : IsKept s) (k l : ℕ) (there : HasPlace s.slots k l) (q : ℕ) (is_q : q ≡ place_at s.slots.items k l) (zero : q ≡ 0) where
+  abbrev some_slot : PlacedRow
+  some_slot = first_of s.slots.items k there.in_slots
 
-pub place_of_new : (slots : List Slot) (k l n : ℕ) (t : Slot) → k < length slots → t ≡ get_or slots k t → l < length t.places.items → n ≡ place_at (set slots k (placed t l n)) k l
-place_of_new slots k l n t within is long =
-    sym (place_at-set slots k l n t within is long k l ∙ own_place k l n (place_at slots k l))
+  abbrev slot_at : PlacedRow
+  slot_at = get_or s.slots.items k some_slot
+
+  slot_at_is : slot_at ≡ get_or s.slots.items k slot_at
+  slot_at_is = get_or_default s.slots.items k some_slot slot_at there.in_slots
+
+  unset_at : get_or slot_at.places l 0 ≡ 0
+  unset_at = sym (place_is s kept k l there slot_at slot_at_is) ∙ sym is_q ∙ zero
+
+  pub one_at : 1 ≤ s.unentered
+  one_at = one_unentered s kept k l there slot_at slot_at_is unset_at
+
+  pub fits_at : length s.lines.items < s.lines.capacity
+  fits_at = fits s kept k l there slot_at slot_at_is unset_at
+
+  pub IsEntered-at : (n : ℕ) (lines : Reserved (List ℕ)) (slots : PlacedRows) → n ≡ length s.lines.items → lines.items ≡ s.lines.items ++ zero_line ∷ [] → lines.capacity ≡ s.lines.capacity → slots.width ≡ s.slots.width → ((d : PlacedRow) → slots.items ≡ set s.slots.items k (placed (get_or s.slots.items k d) l n)) → IsEntered s (record s { slots = slots; lines = lines; unentered = s.unentered - 1 }) k l n
+  IsEntered-at n lines slots is_n pushed same_room width items =
+      let t = slot_at in
+      let is = slot_at_is in
+      let unset = unset_at in
+      let less : (s.unentered - 1) + 1 ≡ s.unentered = let one = one_at in omega arith in
+      let set_here = items some_slot in
+      record {
+        kept = IsKept-left s kept k l there t is unset n (s.unentered - 1) lines is_n less pushed same_room slots width set_here;
+        there = HasPlace-left s kept k l there t is unset n (s.unentered - 1) lines is_n less pushed same_room slots width set_here;
+        place = place_at-left s kept k l there t is unset n (s.unentered - 1) lines is_n less pushed same_room slots width set_here;
+        rows = stored_rows-left s kept k l there t is unset n (s.unentered - 1) lines is_n less pushed same_room slots width set_here;
+      }
 
 -- ---- a line of the stored rows
-module _ (s : Store) (kept : IsKept s) (k l : ℕ) (there : HasLine s k l) (d : StoredRow) where
-  row_is : (t : Slot) → (get_or (stored_rows s) k d).lines ≡ map (line_at s.lines.items) (get_or s.slots.items k t).places.items
+module _ (s : Store) (kept : IsKept s) (k l : ℕ) (there : HasPlace s.slots k l) (d : StoredRow) where
+  row_is : (t : PlacedRow) → (get_or (stored_rows s) k d).lines ≡ map (line_at s.lines.items) (get_or s.slots.items k t).places
   row_is t = ap (λ (r : StoredRow). r.lines) (get_or-map (stored_of s.lines.items) s.slots.items k t d there.in_slots)
 
-  long_places : (t : Slot) → l < length (get_or s.slots.items k t).places.items
+  long_places : (t : PlacedRow) → l < length (get_or s.slots.items k t).places
   long_places t =
-      let whole : vec_len (get_or s.slots.items k t).places ≡ s.width = kept.whole k t there.in_slots in
-      omega (arith, (get_or s.slots.items k t).places.ok.0, there.in_row)
+      let whole : length (get_or s.slots.items k t).places ≡ s.slots.width = kept.whole k t there.in_slots in
+      omega (arith, there.in_row)
 
   pub line_of_rows : get_or (get_or (stored_rows s) k d).lines l zero_line ≡ line_at s.lines.items (place_at s.slots.items k l)
   line_of_rows =
       let t = first_of s.slots.items k there.in_slots in
       ap (λ ls. get_or ls l zero_line) (row_is t)
-      ∙ get_or-map (line_at s.lines.items) (get_or s.slots.items k t).places.items l 0 zero_line (long_places t)
+      ∙ get_or-map (line_at s.lines.items) (get_or s.slots.items k t).places l 0 zero_line (long_places t)
       ∙ ap (line_at s.lines.items) (sym (place_at_slot s.slots.items k l t there.in_slots))
 
   pub row_long : l < length (get_or (stored_rows s) k d).lines
   row_long =
       let t = first_of s.slots.items k there.in_slots in
-      rw (row_is t, length-map (get_or s.slots.items k t).places.items (line_at s.lines.items)) (long_places t)
+      rw (row_is t, length-map (get_or s.slots.items k t).places (line_at s.lines.items)) (long_places t)

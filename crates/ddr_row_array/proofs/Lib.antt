@@ -1,4 +1,5 @@
 mod Addresses
+mod Blocks
 mod Bursts
 pub mod Cells
 mod Entered
@@ -6,4 +7,5 @@ mod Fresh
 mod Opened
 mod Places
 mod Slots
+mod Tables
 mod Words

@@ -10,10 +10,10 @@ use Rattle.std.proofs.lemmas.List.{get_or-map, get_or-replicate, get_or_past, ma
 use Rattle.std.proofs.lemmas.List.Folds.{find-append}
 use Rattle.std.proofs.lemmas.Option.{slice_get-get_or, get_or_from_slice_get}
 use Rattle.ddr_row_array.specs.declared.slot.RowAddress.{RowAddress}
-use Rattle.ddr_row_array.specs.declared.slot.Slot.{Slot}
 use Rattle.ddr_row_array.specs.declared.store.Store.{Store}
 use Rattle.ddr_row_array.specs.declared.row_array.EnsuredRow.{EnsuredRow}
 use Rattle.ddr_row_array.specs.declared.row_array.RowArray.TheInside.{Inside}
+use Rattle.ddr_row_array.specs.Placed.{PlacedRow}
 use Rattle.ddr_row_array.specs.Rows.{StoredRow, is_row, is_stored, row_lines, zero_line}
 use Rattle.ddr_row_array.specs.Store.{IsKept, SameStore, line_at, stored_of, stored_rows}
 use Rattle.ddr_row_array.specs.View.{IsSound, slot_of, rows_of, address_cmp, place_of}
@@ -123,22 +123,25 @@ none_from_missing None h = refl
 none_from_missing (Some x) h = absurd (let e : true ≡ false = h in cc)
 
 -- a row of which no line was entered
-pub stored_rows-push : (old mid new : Store) (t : Slot) → SameStore old mid → new.slots.items ≡ mid.slots.items ++ t ∷ [] → new.lines.items ≡ mid.lines.items → stored_rows new ≡ stored_rows old ++ stored_of old.lines.items t ∷ []
-stored_rows-push old mid new t same slots lines =
-    ap (λ ls. map (stored_of ls) new.slots.items) (lines ∙ same.lines)
-    ∙ ap (map (stored_of old.lines.items)) (slots ∙ ap (λ l. l ++ t ∷ []) same.slots)
-    ∙ map-append (stored_of old.lines.items) old.slots.items (t ∷ [])
+abbrev pub fresh : RowAddress → ℕ → PlacedRow
+fresh address width = record { address = address; places = replicate width 0 }
 
-pub fresh_lines : (s : Store) (t : Slot) → IsKept s → t.places.items ≡ replicate s.width 0 → (l : ℕ) → get_or (stored_of s.lines.items t).lines l zero_line ≡ zero_line
+pub stored_rows-push : (old mid new : Store) (address : RowAddress) → SameStore old mid → new.slots.items ≡ mid.slots.items ++ fresh address mid.slots.width ∷ [] → new.lines.items ≡ mid.lines.items → stored_rows new ≡ stored_rows old ++ stored_of old.lines.items (fresh address old.slots.width) ∷ []
+stored_rows-push old mid new address same slots lines =
+    ap (λ ls. map (stored_of ls) new.slots.items) (lines ∙ same.lines)
+    ∙ ap (map (stored_of old.lines.items)) (slots ∙ ap (λ l. l ++ fresh address mid.slots.width ∷ []) same.slots ∙ ap (λ n. old.slots.items ++ fresh address n ∷ []) same.width)
+    ∙ map-append (stored_of old.lines.items) old.slots.items (fresh address old.slots.width ∷ [])
+
+pub fresh_lines : (s : Store) (t : PlacedRow) → IsKept s → t.places ≡ replicate s.slots.width 0 → (l : ℕ) → get_or (stored_of s.lines.items t).lines l zero_line ≡ zero_line
 fresh_lines s t kept zeros l =
     let lines = s.lines.items in
-    let places = t.places.items in
-    let long : length places ≡ s.width = ap length zeros ∙ length-replicate {A = ℕ} s.width 0 in
+    let places = t.places in
+    let long : length places ≡ s.slots.width = ap length zeros ∙ length-replicate {A = ℕ} s.slots.width 0 in
     elim (cases_lt l (length places)) [
       | inl within ↦
           get_or-map (line_at lines) places l 0 zero_line within
           ∙ ap (λ ps. line_at lines (get_or ps l 0)) zeros
-          ∙ ap (line_at lines) (get_or-replicate s.width l 0 0 (omega arith))
+          ∙ ap (line_at lines) (get_or-replicate s.slots.width l 0 0 (omega arith))
           ∙ get_or_from_slice_get lines 0 zero_line zero_line kept.zeros
       | inr past ↦ get_or_past (map (line_at lines) places) l zero_line (omega (arith, length-map places (line_at lines)))
     ]
@@ -148,7 +151,7 @@ pub stored_rows-same : (old new : Store) → SameStore old new → stored_rows n
 stored_rows-same old new same =
     ap (λ ls. map (stored_of ls) new.slots.items) same.lines ∙ ap (map (stored_of old.lines.items)) same.slots
 
-pub IsSound-same : (a : Inside) (s : Store) → IsSound a → IsKept s → s.width ≡ a.store.width → stored_rows s ≡ stored_rows a.store → IsSound (record a { store = s })
+pub IsSound-same : (a : Inside) (s : Store) → IsSound a → IsKept s → s.slots.width ≡ a.store.slots.width → stored_rows s ≡ stored_rows a.store → IsSound (record a { store = s })
 IsSound-same a s sound kept width rows = record {
   banks = sound.banks;
   width = width ∙ sound.width;
@@ -189,7 +192,7 @@ module _ (a : Inside) (sound : IsSound a) (address : RowAddress) (new : StoredRo
         ∙ ap (λ o. option_or o (cond (is_row address.bank address.row new) (Some n) None)) (sym (sound.indexed address) ∙ absent)
         ∙ ap (λ t. cond {A = Option ℕ} t (Some n) None) (is_address address ∙ same_address address.bank address.row)
 
-    pub IsSound-grown : IsKept store → store.width ≡ a.store.width → ((k : RowAddress) → get address_cmp index k ≡ cond (is_eq (address_cmp address k)) (Some n) (get address_cmp a.index k)) → IsSound grown
+    pub IsSound-grown : IsKept store → store.slots.width ≡ a.store.slots.width → ((k : RowAddress) → get address_cmp index k ≡ cond (is_eq (address_cmp address k)) (Some n) (get address_cmp a.index k)) → IsSound grown
     IsSound-grown kept width updated = record {
       banks = sound.banks;
       width = width ∙ sound.width;

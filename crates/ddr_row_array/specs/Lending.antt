@@ -1,7 +1,7 @@
 -- What becomes of a row array, and of what it stores, once a line that was lent for writing is given back.
 use Rattle.std.specs.Prelude.{ℕ, List, Option}
 use Rattle.std.specs.Borrow.{Lends, LendsIf, MutBor, Fml, u8, Array}
-use Rattle.std.specs.Vec.{with_item}
+use Rattle.ddr_row_array.specs.LentItem.{with_item}
 use Rattle.ddr_row_array.specs.declared.store.Store.{Store}
 use Rattle.ddr_row_array.specs.contracts.store.Store.{the_row as store_row}
 use Rattle.ddr_row_array.specs.contracts.row_array.RowArray.{the_row}

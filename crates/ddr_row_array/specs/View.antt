@@ -38,7 +38,7 @@ pub record IsSound (a : Inside) : Type 0 where
   -- there is a place for each bank's open row
   pub banks : vec_len a.opened ≡ banks_of a.geometry
   -- the stored rows have as many lines as contracts count
-  pub width : a.store.width ≡ a.geometry.columns / LINE_COLUMNS
+  pub width : a.store.slots.width ≡ a.geometry.columns / LINE_COLUMNS
   pub store : IsKept a.store
   -- the index names the slot of each row that is stored, and no other
   pub indexed : (k : RowAddress) → get address_cmp a.index k ≡ slot_of a.store k.bank k.row

@@ -10,7 +10,7 @@ ghost use Rattle.ddr_row_array.specs.View.{place_of};
 ghost use Rattle.ddr_row_array.specs.Writes.{ChangesLineAlone, MergesLine};
 
 use crate::merge::merge;
-use crate::slot::{RowAddress, Slot};
+use crate::slot::RowAddress;
 use crate::store::Store;
 use ddr_timing::config::Config;
 use ddr_timing::geometry::Geometry;
@@ -35,8 +35,9 @@ struct EnsuredRow {
 
 /// The bytes of one channel's rows, and the open row of each bank.
 ///
-/// A bank is named by its number over the ranks, as `BankId` has it. A row takes memory once
-/// `ensure` is first called for it; a byte that was never written is 0.
+/// A bank is named by its number over the ranks, as `BankId` has it. Memory is reserved for a row once
+/// `ensure` is first called for it, and touched once a line of it is lent for writing; a byte that was never
+/// written is 0.
 #[derive(Drop)]
 pub struct RowArray {
     alloc: Global,
@@ -79,8 +80,8 @@ impl RowArray {
         })
     }
 
-    /// Makes the row's storage, with zeros, if it is not there: a word for each of its lines, and untouched
-    /// room for their bytes. No byte changes, and nothing at all where memory runs out. A row that is stored
+    /// Stores the row, with zeros, if it is not there: in untouched room for its lines and for a word that says
+    /// of each where it stands. No byte changes, and nothing at all where memory runs out. A row that is stored
     /// takes no memory, and is never refused.
     pub fn ensure(&mut self, bank: u32, row: u32) -> Result<(), AllocError>
         requires bank_in { bank < bank_count self.old }
@@ -101,10 +102,10 @@ impl RowArray {
             self.ensured = Some(EnsuredRow { address, slot });
             return Ok(());
         }
-        let places = self.store.reserve(self.alloc)?;
+        self.store.reserve(self.alloc)?;
         let slot = self.store.slots.len();
         self.index.insert(address, slot)?;
-        self.store.push(Slot { address, places });
+        self.store.push(address);
         self.ensured = Some(EnsuredRow { address, slot });
         Ok(())
     }

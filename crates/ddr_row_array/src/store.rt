@@ -2,14 +2,16 @@
 //!
 //! A line that was never lent for writing has no bytes of its own: it stands at place 0, where there is a
 //! line of zeros. Once it is lent it is entered behind the lines that are there, in memory that was reserved
-//! when its row was stored. What is reserved is not touched before, so a row costs the memory and the time of
-//! its places, and of the lines that are written.
-ghost use Rattle.std.specs.Prelude.{◌≡◌, ◌≢◌, ◌++◌, ◌∷◌, ◌<◌, ◌^◌, [], length, slice_get, vec_len, vec_capacity, replicate, IfOk, OnOk, IsOk};
+//! when its row was stored. What is reserved is not touched before, so a row costs no more than its address
+//! until a line of it is lent, and then a word for each line, and the lines that are.
+ghost use Rattle.std.specs.Prelude.{◌≡◌, ◌≢◌, ◌++◌, ◌∷◌, ◌<◌, ◌^◌, [], length, replicate, IfOk, OnOk};
 ghost use Rattle.std.specs.Borrow.{sem};
 ghost use Rattle.ddr_row_array.specs.Lending.{LendsLine};
-ghost use Rattle.ddr_row_array.specs.Store.{IsKept, HasRoom, SameStore, HasLine, line_at, place_at, stored_rows};
+ghost use Rattle.ddr_row_array.specs.Placed.{HasPlace, place_at};
+ghost use Rattle.ddr_row_array.specs.Store.{IsKept, HasRoom, SameStore, line_at, stored_rows};
 
-use crate::slot::Slot;
+use crate::arena::Arena;
+use crate::slot::{RowAddress, Slots};
 use ddr_timing::units::LINE_BYTES;
 use std::alloc::{AllocError, Global};
 
@@ -19,12 +21,10 @@ const ZEROS: usize = 0;
 /// The stored rows of a channel.
 #[derive(Drop)]
 pub struct Store {
-    /// How many lines a row has.
-    pub width: usize,
-    /// In the order in which the rows were stored.
-    pub slots: Vec<Slot>,
+    /// The rows, and where their lines stand.
+    pub slots: Slots,
     /// The line of zeros, and behind it the lines that were entered.
-    pub lines: Vec<[u8; LINE_BYTES]>,
+    pub lines: Arena<[u8; LINE_BYTES]>,
     /// How many lines of stored rows were not entered.
     pub unentered: usize,
 }
@@ -34,91 +34,88 @@ impl Store {
     pub fn new(alloc: Global, width: usize) -> Result<Store, AllocError>
         requires { width < 2 ^ 32 }
         ensures kept { IfOk result IsKept }
-        ensures width { IfOk result (λ s. s.width ≡ width) }
+        ensures width { IfOk result (λ s. s.slots.width ≡ width) }
         ensures slots { IfOk result (λ s. s.slots.items ≡ []) }
     {
-        let mut lines = Vec::with_capacity(alloc, 1)?;
+        let slots = Slots::new(alloc, width)?;
+        let mut lines = Arena::new(alloc);
+        lines.reserve(alloc, 1)?;
         lines.push_reserved([0; LINE_BYTES]);
         Ok(Store {
-            width,
-            slots: Vec::new(alloc),
+            slots,
             lines,
             unentered: 0,
         })
     }
 
-    /// Makes room for one more row and for each of its lines, and gives the places that its lines have before
-    /// they are entered. Nothing that is stored changes.
-    pub fn reserve(&mut self, alloc: Global) -> Result<Vec<usize>, AllocError>
+    /// Makes room for one more row, for its table and for each of its lines. Nothing that is stored changes.
+    pub fn reserve(&mut self, alloc: Global) -> Result<(), AllocError>
         requires { IsKept self.old }
         ensures same { SameStore self.old self.new }
         ensures kept { IsKept self.new }
         ensures room { OnOk result (HasRoom self.new) }
-        ensures places { IfOk result (λ places. places.items ≡ replicate self.old.width ZEROS) }
     {
-        let places = vec![in alloc; ZEROS; self.width]?;
-        self.slots.reserve(1)?;
-        self.lines.reserve(self.unentered + self.width)?;
-        Ok(places)
+        self.slots.reserve(alloc)?;
+        let room = self.unentered + self.slots.width();
+        self.lines.reserve(alloc, room)?;
+        Ok(())
     }
 
     /// Stores a row of which no line was entered.
-    pub fn push(&mut self, slot: Slot)
+    pub fn push(&mut self, address: RowAddress)
         requires kept { IsKept self.old }
         requires room { HasRoom self.old }
-        requires places { slot.places.items ≡ replicate self.old.width ZEROS }
         ensures kept { IsKept self.new }
-        ensures slots { self.new.slots.items ≡ self.old.slots.items ++ slot ∷ [] }
+        ensures slots { self.new.slots.items ≡ self.old.slots.items ++ (record { address = address; places = replicate self.old.slots.width ZEROS }) ∷ [] }
         ensures lines { self.new.lines.items ≡ self.old.lines.items }
-        ensures width { self.new.width ≡ self.old.width }
+        ensures width { self.new.slots.width ≡ self.old.slots.width }
     {
-        self.slots.push_reserved(slot);
-        self.unentered += self.width;
+        self.slots.push(address);
+        self.unentered += self.slots.width();
     }
 
     /// The 64 bytes of a line of a stored row.
     pub fn line(&self, slot: usize, line: usize) -> &[u8]
         requires kept { IsKept self.now }
-        requires there { HasLine self.now slot line }
+        requires there { HasPlace self.now.slots slot line }
         ensures value { result.now ≡ line_at self.now.lines.items (place_at self.now.slots.items slot line) }
         ensures length { length result.now ≡ LINE_BYTES }
     {
-        let place = self.slots[slot].places[line];
-        &self.lines[place]
+        self.lines.item(self.slots.place(slot, line))
     }
 
     /// Where a line of a stored row stands, which is entered if it was not. No byte of a row changes.
     pub fn enter(&mut self, slot: usize, line: usize) -> usize
         requires kept { IsKept self.old }
-        requires there { HasLine self.old slot line }
+        requires there { HasPlace self.old.slots slot line }
         ensures kept { IsKept self.new }
-        ensures there { HasLine self.new slot line }
-        ensures width { self.new.width ≡ self.old.width }
+        ensures there { HasPlace self.new.slots slot line }
+        ensures width { self.new.slots.width ≡ self.old.slots.width }
         ensures place { result ≡ place_at self.new.slots.items slot line }
         ensures entered { result ≢ ZEROS }
         ensures rows { stored_rows self.new ≡ stored_rows self.old }
     {
-        let place = self.slots[slot].places[line];
+        let place = self.slots.place(slot, line);
         if place != ZEROS {
             return place;
         }
         let place = self.lines.len();
         self.lines.push_reserved([0; LINE_BYTES]);
-        self.slots[slot].places[line] = place;
+        self.slots.set_place(slot, line, place);
         self.unentered -= 1;
         place
     }
 
     /// The 64 bytes that stand at a place, for writing.
     pub fn line_mut(&mut self, place: usize) -> &mut [u8]
-        requires { place < vec_len self.old.lines }
+        requires { place < length self.old.lines.items }
         ensures* writes_back { sem 𝓛 (LendsLine self.entry place result) }
         ensures value { result.now ≡ line_at self.old.lines.items place }
         ensures length { length result.now ≡ LINE_BYTES }
     {
         // An array keeps its length, which the proof wants of the slice that is lent.
-        let line: &[u8] = &self.lines[place];
+        let line: &[u8] = self.lines.item(place);
         prove!(line.len() == LINE_BYTES);
-        self.lines[place].as_mut_slice()
+        self.lines.item_mut(place).as_mut_slice()
     }
 }

@@ -1,5 +1,5 @@
 use Rattle.std.proofs.Common.{Some, refl, ap, sym, ◌∙◌}
-use Rattle.ddr_row_array.proofs.Bursts.{IsOpenAt-read, HasLine-at, open_burst-at}
+use Rattle.ddr_row_array.proofs.Bursts.{IsOpenAt-read, HasPlace-at, open_burst-at}
 use Rattle.ddr_row_array.proofs.row_array.RowArray.open_line.Goals as goal
 
 pub line-requires-clause-kept : goal.line-requires-clause-kept
@@ -8,7 +8,7 @@ line-requires-clause-kept c = c.self.invariant.store
 pub line-requires-clause-there : goal.line-requires-clause-there
 line-requires-clause-there c =
     let at = IsOpenAt-read c.self.inside c.args.bank c.args.line c.index.result.now c.unwrap-open.result c.self.invariant (rw (← c.self.view_is) at c.requires) c.index.ensures c.unwrap-open.ensures in
-    HasLine-at c.self.inside c.args.bank c.args.line c.unwrap-open.result c.self.invariant at
+    HasPlace-at c.self.inside c.args.bank c.args.line c.unwrap-open.result c.self.invariant at
 
 pub returns-clause-value : goal.returns-clause-value
 returns-clause-value c =

@@ -3,14 +3,14 @@ use Rattle.ddr_row_array.specs.declared.row_array.RowArray.TheInside.{Inside}
 use Rattle.ddr_row_array.specs.Rows.{Rows, open_burst}
 use Rattle.ddr_row_array.specs.View.{rows_of}
 use Rattle.ddr_row_array.specs.Writes.{with_burst, ChangesLineAlone}
-use Rattle.ddr_row_array.proofs.Bursts.{IsOpenAt-read, IsOpenAt-same, IsSound-lent, ChangesLineAlone-at, HasLine-at, open_burst-at, rows_of-lent}
+use Rattle.ddr_row_array.proofs.Bursts.{IsOpenAt-read, IsOpenAt-same, IsSound-lent, ChangesLineAlone-at, HasPlace-at, open_burst-at, rows_of-lent}
 use Rattle.ddr_row_array.proofs.Slots.{IsSound-same}
 use Rattle.ddr_row_array.proofs.row_array.RowArray.open_line_mut.Goals as goal
 
 pub enter-place-requires-clause-there : goal.enter-place-requires-clause-there
 enter-place-requires-clause-there c =
     let at = IsOpenAt-read c.self.inside c.args.bank c.args.line c.index.result.now c.unwrap-open.result c.self.invariant (rw (← c.self.view_is) at c.requires) c.index.ensures c.unwrap-open.ensures in
-    HasLine-at c.self.inside c.args.bank c.args.line c.unwrap-open.result c.self.invariant at
+    HasPlace-at c.self.inside c.args.bank c.args.line c.unwrap-open.result c.self.invariant at
 
 pub invariant_of-self-lent : goal.invariant_of-self-lent
 invariant_of-self-lent c =

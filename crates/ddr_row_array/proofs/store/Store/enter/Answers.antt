@@ -1,39 +1,30 @@
-use Rattle.std.proofs.Common.{◌≡◌, ◌+◌, ◌-◌, ◌∙◌, arith}
-use Rattle.ddr_row_array.proofs.Entered.{one_unentered, place_of_new, unset_read, IsKept-entered, long_enough, stored_rows-entered}
+use Rattle.ddr_row_array.proofs.Entered.{one_at, fits_at, IsEntered-at}
 use Rattle.ddr_row_array.proofs.store.Store.enter.Goals as goal
+
+pub push_reserved-requires : goal.push_reserved-requires
+push_reserved-requires c =
+    fits_at c.args.self.now c.requires.kept c.args.slot c.args.line c.requires.there c.place-place.result c.place-place.ensures c.if-place-ne-ZEROS.false
+
+pub overflow_sub-self : goal.overflow_sub-self
+overflow_sub-self c =
+    one_at c.args.self.now c.requires.kept c.args.slot c.args.line c.requires.there c.place-place.result c.place-place.ensures c.if-place-ne-ZEROS.false
 
 pub returns-clause-kept : goal.returns-clause-kept
 returns-clause-kept c =
-    let s = c.args.self.now in
-    let kept = c.requires.kept in
-    let there = c.requires.there in
-    let t = c.index_mut.result.now in
-    let is = c.index_mut.ensures.value in
-    let zero : c.index-place.result.now ≡ 0 = omega arith in
-    let unset = unset_read s kept c.args.slot c.args.line there t c.index.result.now is c.index.ensures c.index-place.result.now c.index-place.ensures zero in
-    let one = one_unentered s kept c.args.slot c.args.line there t is unset in
-    let less : (s.unentered - 1) + 1 ≡ s.unentered = omega arith in
-    IsKept-entered s kept c.args.slot c.args.line there t is unset c.len-place.result (s.unentered - 1) c.push_reserved.new.self
-    (c.len-place.ensures ∙ s.lines.ok.0) less c.push_reserved.ensures.items c.push_reserved.ensures.len c.push_reserved.ensures.capacity
+    (IsEntered-at c.args.self.now c.requires.kept c.args.slot c.args.line c.requires.there c.place-place.result c.place-place.ensures c.if-place-ne-ZEROS.false
+    c.len-place.result c.push_reserved.new.self c.set_place.new.self c.len-place.ensures c.push_reserved.ensures.items c.push_reserved.ensures.capacity c.set_place.ensures.width c.set_place.ensures.items).kept
+
+pub returns-clause-there : goal.returns-clause-there
+returns-clause-there c =
+    (IsEntered-at c.args.self.now c.requires.kept c.args.slot c.args.line c.requires.there c.place-place.result c.place-place.ensures c.if-place-ne-ZEROS.false
+    c.len-place.result c.push_reserved.new.self c.set_place.new.self c.len-place.ensures c.push_reserved.ensures.items c.push_reserved.ensures.capacity c.set_place.ensures.width c.set_place.ensures.items).there
 
 pub returns-clause-place : goal.returns-clause-place
 returns-clause-place c =
-    let s = c.args.self.now in
-    let t = c.index_mut.result.now in
-    let is = c.index_mut.ensures.value in
-    place_of_new s.slots.items c.args.slot c.args.line c.len-place.result t c.requires.there.in_slots is
-    (long_enough s c.requires.kept c.args.slot c.args.line c.requires.there t is)
+    (IsEntered-at c.args.self.now c.requires.kept c.args.slot c.args.line c.requires.there c.place-place.result c.place-place.ensures c.if-place-ne-ZEROS.false
+    c.len-place.result c.push_reserved.new.self c.set_place.new.self c.len-place.ensures c.push_reserved.ensures.items c.push_reserved.ensures.capacity c.set_place.ensures.width c.set_place.ensures.items).place
 
 pub returns-clause-rows : goal.returns-clause-rows
 returns-clause-rows c =
-    let s = c.args.self.now in
-    let kept = c.requires.kept in
-    let there = c.requires.there in
-    let t = c.index_mut.result.now in
-    let is = c.index_mut.ensures.value in
-    let zero : c.index-place.result.now ≡ 0 = omega arith in
-    let unset = unset_read s kept c.args.slot c.args.line there t c.index.result.now is c.index.ensures c.index-place.result.now c.index-place.ensures zero in
-    let one = one_unentered s kept c.args.slot c.args.line there t is unset in
-    let less : (s.unentered - 1) + 1 ≡ s.unentered = omega arith in
-    stored_rows-entered s kept c.args.slot c.args.line there t is unset c.len-place.result (s.unentered - 1) c.push_reserved.new.self
-    (c.len-place.ensures ∙ s.lines.ok.0) less c.push_reserved.ensures.items c.push_reserved.ensures.len c.push_reserved.ensures.capacity
+    (IsEntered-at c.args.self.now c.requires.kept c.args.slot c.args.line c.requires.there c.place-place.result c.place-place.ensures c.if-place-ne-ZEROS.false
+    c.len-place.result c.push_reserved.new.self c.set_place.new.self c.len-place.ensures c.push_reserved.ensures.items c.push_reserved.ensures.capacity c.set_place.ensures.width c.set_place.ensures.items).rows
