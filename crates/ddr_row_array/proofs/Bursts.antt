@@ -1,6 +1,9 @@
 -- The burst of an open row's line, and what a write of it changes.
-use Rattle.std.proofs.Common.{◌≡◌, ◌≢◌, ℕ, ◌/◌, ◌<◌, Bool, true, false, ◌&&◌, cond, eqb, ltb, List, [], length, map, get_or, set, find, Option, Some, None, IsSome, is_some, refl, sym, ap, subst, ◌∙◌, inl, inr, arith}
-use Rattle.std.specs.Option.{option_map, option_map_or}
+use Rattle.std.proofs.Common.{◌≡◌, ◌≢◌, ℕ, ◌/◌, ◌<◌, Bool, true, false, ◌&&◌, cond, eqb, ltb, List, [], length, map, get_or, set, find, Option, Some, None, IsSome, IfSome, is_some, Bor, refl, sym, ap, subst, ◌∙◌, inl, inr, arith}
+use Rattle.std.specs.Option.{option_copied, option_map, option_map_or}
+use Rattle.std.proofs.lemmas.Bool.Decides.{nat_tests}
+use Rattle.std.proofs.lemmas.List.FromFn.{fill_by_all}
+use Rattle.std.proofs.lemmas.Nat.Bits.{bit_at-zero}
 use Rattle.std.proofs.lemmas.Bool.{cases_lt, ltb-true, lt-ltb}
 use Rattle.std.proofs.lemmas.List.{get_or_default, get_or_past, length-map, get_or-map}
 use Rattle.ddr_row_array.specs.declared.store.Store.{Store}
@@ -8,14 +11,16 @@ use Rattle.ddr_row_array.specs.declared.row_array.OpenRow.{OpenRow}
 use Rattle.ddr_row_array.specs.declared.row_array.RowArray.TheInside.{Inside}
 use Rattle.ddr_row_array.specs.Rows.{Rows, StoredRow, is_row, row_lines, zero_line, cells, open_row, open_burst}
 use Rattle.ddr_row_array.specs.Changes.{Rewrites, is_line}
+use Rattle.ddr_row_array.specs.Merge.{byte_of, merged}
 use Rattle.ddr_row_array.specs.Store.{line_at, stored_rows}
 use Rattle.ddr_row_array.specs.Placed.{HasPlace, place_at}
-use Rattle.ddr_row_array.specs.Writes.{with_line, with_burst, ChangesLineAlone}
+use Rattle.ddr_row_array.specs.Writes.{with_line, with_burst, ChangesLineAlone, MergesLine}
 use Rattle.ddr_row_array.specs.View.{IsSound, slot_of, rows_of, place_of}
 use Rattle.ddr_row_array.proofs.Addresses.{same_pair, swapped_pair}
 use Rattle.ddr_row_array.proofs.Entered.{line_of_rows, row_long, written, IsKept-written, stored_rows-written}
 use Rattle.ddr_row_array.proofs.Places.{find-changed_first_same, find-changed_first_other, is_some-find-changed_first, changed_first-is_set, place_of-set}
 use Rattle.ddr_row_array.proofs.Opened.{row_held, get_or-set_if}
+use Rattle.ddr_row_array.proofs.Words.{byte_of-clear}
 use Rattle.ddr_row_array.proofs.Slots.{slot_within, find-slot, row_lines-slot}
 
 -- the bank holds that row, in that slot, and the row has that line
@@ -207,3 +212,37 @@ pub cells-open_burst : (a : Rows) (bank row line : ℕ) (w : List ℕ) → open_
 cells-open_burst a bank row line w e held =
     let burst = λ (r : ℕ). cells a bank r line in
     burst_there (ltb line a.width) row burst w (sym (ap (λ o. cond (ltb line a.width) (option_map burst o) None) held) ∙ e)
+
+-- ---- a write of no byte
+pub merged_none : (new old : List ℕ) → length old ≡ 64 → merged 0 new old ≡ old
+unfolding merged
+merged_none new old long =
+    sym (fill_by_all (byte_of 0 new old) old 64 0 long (λ k h. sym (byte_of-clear 0 new old k (bit_at-zero k))))
+
+same_line : (b bank r row l line : ℕ) → is_line bank row line b r l ≡ true → (b ≡ bank) × (r ≡ row) × (l ≡ line)
+same_line b bank r row l line h = (grind (arith, nat_tests), grind (arith, nat_tests), grind (arith, nat_tests))
+
+line_kept : (a : Rows) (bank row line b r l : ℕ) (t : Bool) → is_line bank row line b r l ≡ t → cells a b r l ≡ cond t (cells a bank row line) (cells a b r l)
+line_kept a bank row line b r l true h =
+    let same = same_line b bank r row l line h in
+    ap (λ n. cells a n r l) same.0 ∙ ap (λ n. cells a bank n l) same.1 ∙ ap (λ n. cells a bank row n) same.2
+line_kept a bank row line b r l false h = refl
+
+Rewrites-none : (a : Rows) (bank row line : ℕ) → Rewrites a a bank row line (cells a bank row line)
+Rewrites-none a bank row line = record {
+  shape = record { banks = refl; rows = refl; lines = refl };
+  opened = λ b. refl;
+  stored = λ b r. refl;
+  bytes = λ b r l. line_kept a bank row line b r l (is_line bank row line b r l) refl;
+}
+
+pub MergesLine-none : (a : Rows) (bank line mask : ℕ) (bytes burst : List ℕ) → mask ≡ 0 → open_burst a bank line ≡ Some burst → length burst ≡ 64 → MergesLine a a bank line mask bytes
+MergesLine-none a bank line mask bytes burst none there long row held =
+    let is : cells a bank row line ≡ burst = cells-open_burst a bank row line burst there held in
+    let same : merged mask bytes (cells a bank row line) ≡ cells a bank row line = ap (λ m. merged m bytes (cells a bank row line)) none ∙ merged_none bytes (cells a bank row line) (ap length is ∙ long) in
+    subst (λ w. Rewrites a a bank row line w) (sym same) (Rewrites-none a bank row line)
+
+pub MergesLine-burst : (a : Rows) (bank line mask : ℕ) (bytes : List ℕ) (burst : Option (Bor (List ℕ))) → mask ≡ 0 → option_copied burst ≡ open_burst a bank line → IfSome burst (λ b. length b.now ≡ 64) → is_some burst ≡ true → MergesLine a a bank line mask bytes
+MergesLine-burst a bank line mask bytes None none value long there = absurd (let e : false ≡ true = there in cc)
+MergesLine-burst a bank line mask bytes (Some b) none value long there =
+    MergesLine-none a bank line mask bytes b.now none (sym value) long

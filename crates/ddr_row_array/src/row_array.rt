@@ -207,12 +207,15 @@ impl RowArray {
     /// Replaces, in a line of the bank's open row, each byte whose bit of `mask` is set (bit i
     /// for byte i) by the byte of `bytes`, and says whether there was such a line. Where there
     /// was none, nothing changes. The mask is the data mask of a write (JESD79-4, "Write Data
-    /// Mask"), with a set bit for a byte that is written.
+    /// Mask"), with a set bit for a byte that is written. A write of no byte lends no line.
     pub fn write(&mut self, bank: u32, line: u32, mask: u64, bytes: &[u8; LINE_BYTES]) -> bool
         ensures there { result ≡ is_some (open_burst self.old bank line) }
         ensures written { OnTrue result (MergesLine self.old self.new bank line mask bytes.now) }
         ensures unchanged { OnFalse result (self.new ≡ self.old) }
     {
+        if mask == 0 {
+            return self.burst(bank, line).is_some();
+        }
         let there = self.has_burst(bank, line);
         if there {
             merge(self.open_line_mut(bank, line), mask, bytes);
