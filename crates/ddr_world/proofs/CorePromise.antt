@@ -41,6 +41,7 @@ use Rattle.ddr_world.specs.Promise.{reply_of, reply_at, replies_of_port, AddsRef
 use Rattle.ddr_world.specs.State.{PortSide, ChannelSide, State, is_completion_queue_full, IsPortDrained, IsChannelDrained, IsDrained}
 use Rattle.ddr_world.specs.Step.{made, with_port, with_channel, at_channel, sent, after_deliver, deliver_to, push_completion, deliver_by, submit_by, collect_by, release_by, change_channel, taken, cycled, end_at}
 use Rattle.ddr_world.proofs.CoreCounts.{sum_ones}
+use Rattle.ddr_world.proofs.CoreIdle.{core_idle, empty_list}
 use Rattle.ddr_world.proofs.CoreKeeps.{requests_in, CoreKeeps, held_in, weight}
 use Rattle.ddr_world.proofs.CoreReplies.{awaited, awaited_test, done_right, lent_next}
 use Rattle.ddr_world.proofs.CoreRuns.{run_keeps}
@@ -177,10 +178,6 @@ over_collect : (o : Opening) (h : History) (p : ℕ) (x : Option PortSide) → I
 over_collect o h p None drained there = refl
 over_collect o h p (Some port) drained there = rw ((All-at IsPortDrained h.state.ports p port drained.ports there).completions) refl
 
-empty_list : {X : Type 0} (xs : List X) → length xs ≡ 0 → xs ≡ []
-empty_list [] none = refl
-empty_list (x ∷ xs) none = absurd (omega (arith, none))
-
 over_release : (o : Opening) (h : History) (p : ℕ) (x : Option PortSide) → IsDrained h.state → slice_get h.state.ports p ≡ x → IsErr (option_map_or (release_by h.state p) x (Err refusal.NoSuch))
 over_release o h p None drained there = refl
 over_release o h p (Some port) drained there =
@@ -279,6 +276,7 @@ promise_from o h k = record {
       subst (λ (s : channel_state.State). IsRefreshed s.config s.start s.now s.trace) (sym keeps.state) (refreshed_run o.config o.cycle keeps.calls keeps.calls_are).refreshed);
   fits = λ c is. fits_side o h c (slice_get h.state.channels c) k refl is;
   awaited = λ p side d is first. awaited_test o h p side d (awaited o h p side d k is first);
+  idle = core_idle o h k;
   finished = λ drained. record { taken = λ p. all_taken o h p k drained; admitted = λ c. all_admitted o h c k drained; over = λ event. over o h event k drained };
 }
 

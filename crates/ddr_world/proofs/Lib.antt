@@ -14,6 +14,7 @@ pub mod PlaceLemmas
 pub mod CoreEvents
 pub mod CoreSubmit
 pub mod CoreRuns
+pub mod CoreIdle
 pub mod CorePromise
 mod RecordLemmas
 pub mod QuietLemmas

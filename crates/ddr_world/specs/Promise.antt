@@ -1,7 +1,7 @@
 -- The core's promise, over every record of events: which replies each port has a right to, and that it takes
 -- the first of them, in order.
 use Rattle.std.specs.Prelude.{◌≡◌, ◌≢◌, ℕ, ◌+◌, ◌/◌, ◌%◌, Bool, true, false, ◌&&◌, ◌==◌, ◌⊎◌, List, [], ◌∷◌, ◌++◌, length, take, map, fold, if◌then◌else◌, slice_get, slice_index, Option, Some, Err, IfOk, IfSome, IsErr}
-use Rattle.std.specs.List.{range_with_len}
+use Rattle.std.specs.List.{All, range_with_len}
 use Rattle.std.specs.Int.{bit_at}
 use Rattle.std.specs.Option.{option_map, option_map_or}
 use Rattle.ddr_timing.specs.declared.units.TheConstants.{LINE_BYTES}
@@ -17,6 +17,7 @@ use Rattle.ddr_channel.specs.Memory.{is_write_kind}
 use Rattle.ddr_reorder.specs.Replies.{Answer}
 use Rattle.ddr_reorder.specs.State.{awaits}
 use Rattle.ddr_world.specs.declared.event.Refusal.TheVariants.{QueueFull}
+use Rattle.ddr_world.specs.declared.item.Item.TheVariants as item
 use Rattle.ddr_world.specs.Events.{Event, Cycle, Deliver}
 use Rattle.ddr_world.specs.History.{Opening, Whereabouts, History, front_of}
 use Rattle.ddr_world.specs.State.{PortSide, ChannelSide, State, IsDrained}
@@ -93,6 +94,18 @@ pub record IsFinished (h : History) : Type 0 where
   pub admitted : (c : ℕ) → h.admitted c ≡ h.accepted c
   pub over : (event : Event) → IsOver h.state event
 
+-- no request waits in the queue, and nothing is in the channel
+pub record IsServedOut (side : ChannelSide) : Type 0 where
+  pub requests : (i : ℕ) (r : Request) → slice_get side.requests i ≢ Some (item.Request r)
+  pub pending : side.channel.pending ≡ []
+  pub flight : side.channel.flight ≡ []
+  pub done : side.channel.done ≡ []
+
+-- of the requests nothing is left on the way: in no queue and in no channel. An End may still be queued.
+pub record IsIdle (s : State) : Type 0 where
+  pub ports : All (λ side. side.completions ≡ []) s.ports
+  pub channels : All IsServedOut s.channels
+
 pub record KeepsPromise (o : Opening) (h : History) : Type 0 where
   -- the port's requests have the numbers from the first one on, in the order of acceptance
   pub numbered : (p : ℕ) → map (option_map (λ a. a.number)) (replies_of_port h p) ≡ map Some (range_with_len o.number (length (h.sent p)))
@@ -120,5 +133,7 @@ pub record KeepsPromise (o : Opening) (h : History) : Type 0 where
   -- and the port waits for it
   pub awaited : (p : ℕ) (side : PortSide) (d : Completion) → slice_get h.state.ports p ≡ Some side → slice_get side.completions 0 ≡ Some d
       → awaits side.core.reorder d.number d.echo ≡ true
+  -- where no number is outstanding, no request is left on the way
+  pub idle : All (λ side. length side.core.reorder.outstanding ≡ 0) h.state.ports → IsIdle h.state
   -- where nothing is outstanding, queued or in a channel, and every End was taken, all is done
   pub finished : IsDrained h.state → IsFinished h
