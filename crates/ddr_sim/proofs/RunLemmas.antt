@@ -5,7 +5,6 @@ use Rattle.std.proofs.lemmas.Bool.{both_ways}
 use Rattle.std.specs.Io.KnownBytes.{Appends, Keeps}
 use Rattle.ddr_timing.specs.declared.config.Config.{Config}
 use Rattle.ddr_world.specs.Kept.{state_of}
-use Rattle.ddr_world.specs.State.{IsDrained}
 use Rattle.ddr_text.specs.declared.fault.Fault.{Fault}
 use Rattle.ddr_text.specs.declared.fault.Fault.TheVariants as faults
 use Rattle.ddr_text.specs.Body.{HasParts, IsRefused, parts_of}
@@ -18,6 +17,7 @@ use Rattle.ddr_sim.specs.Runs.{begun, channel_text, run_of, whole, written_by}
 use Rattle.ddr_text.specs.Script.{Instruction}
 use Rattle.ddr_sim.specs.Simulated.{BeginsWith, printed_in, ComesTo, Leads, Prints, Simulated, run_at}
 use Rattle.ddr_sim.specs.Sims.{AsksFor, HasSimFault, IsBeginning, IsRun, NamesNoChannel, Says, has_channel}
+use Rattle.ddr_sim.proofs.Drained.{run_drained}
 
 -- what was read and opened says what the body says
 pub said_by : (remaining : Option (List ℕ)) (items text profile : List ℕ) (sample : Bool) (trace : Option ℕ) (config : Config) (body : List ℕ) (said : Result (List Instruction) Fault) → IfSome remaining (λ bytes. items ≡ bytes) → text ≡ items → IsText items
@@ -191,17 +191,6 @@ end_fault (Some input) profile sample trace channel config instructions sim old 
     inl (spared refl ∙ none_printed trace channel sim old mid v (run_of config instructions) some silent came)
 end_fault (Some input) profile sample trace channel config instructions sim old mid new v _ some says silent came spared is = absurd (elim is as (λ _. ⊥) [ inl e ↦ cc | inr e ↦ cc ])
 
--- a run at whose end the core is not drained
-pub undrained_fault : (remaining : Option (List ℕ)) (profile : List ℕ) (sample : Bool) (trace : Option ℕ) (config : Config) (instructions : List Instruction) (sim : Simulated) (old mid new : Option (List ℕ)) (v : Unit {0}) (fault : Fault) → IfSome remaining (λ input. Says sample profile trace input config (Ok instructions))
-    → ComesTo old sim mid (Ok v) (run_of config instructions) → (fault ≡ faults.NotDrained) × (¬ IsDrained (state_of sim.world)) → IfSome remaining (λ input. HasSimFault sample profile trace input old new fault)
-undrained_fault None profile sample trace config instructions sim old mid new v fault says came is = tt
-undrained_fault (Some input) profile sample trace config instructions sim old mid new v fault says came is =
-    subst (λ (f : Fault). HasSimFault sample profile trace input old new f) (sym is.0) (record {
-      run = run_at sim came.0;
-      asks = record { config = config; instructions = instructions; says = says; course_is = came.1 };
-      undrained = is.1;
-    })
-
 kept_as_appended : (b c : Option (List ℕ)) → Keeps b c → Appends b c []
 kept_as_appended None c q = tt
 kept_as_appended (Some x) None q = absurd q
@@ -219,21 +208,21 @@ end_written (Some c) silent old mid new run e printed last =
 
 run_written : (remaining : Option (List ℕ)) (profile : List ℕ) (sample : Bool) (trace : Option ℕ) (config : Config) (instructions : List Instruction) (sim : Simulated) (old mid new : Option (List ℕ)) (v : Unit {0}) → IfSome remaining (λ input. Says sample profile trace input config (Ok instructions))
     → sim.silent ≡ is_some trace → ComesTo old sim mid (Ok v) (run_of config instructions) → (elim trace as (λ _. Type 0) [ None ↦ Keeps mid new | Some c ↦ Appends mid new (channel_text (state_of sim.world) c) ])
-    → IsDrained (state_of sim.world) → IfSome remaining (λ input. IsRun sample profile trace input old new)
-run_written None profile sample trace config instructions sim old mid new v says silent is last drained = tt
-run_written (Some input) profile sample trace config instructions sim old mid new v says silent is last drained = record {
+    → IfSome remaining (λ input. IsRun sample profile trace input old new)
+run_written None profile sample trace config instructions sim old mid new v says silent is last = tt
+run_written (Some input) profile sample trace config instructions sim old mid new v says silent is last = record {
   run = run_at sim is.0;
   asks = record { config = config; instructions = instructions; says = says; course_is = is.1 };
-  drained = drained;
+  drained = run_drained config instructions (run_at sim is.0) is.1;
   written = end_written trace sim.silent old mid new (run_at sim is.0) silent is.2 last;
 }
 
 pub replies_written : (remaining : Option (List ℕ)) (profile : List ℕ) (sample : Bool) (trace : Option ℕ) (config : Config) (instructions : List Instruction) (sim : Simulated) (old mid new : Option (List ℕ)) (v : Unit {0}) → IfSome remaining (λ input. Says sample profile trace input config (Ok instructions))
-    → sim.silent ≡ is_some trace → trace ≡ None → ComesTo old sim mid (Ok v) (run_of config instructions) → Keeps mid new → IsDrained (state_of sim.world) → IfSome remaining (λ input. IsRun sample profile trace input old new)
-replies_written remaining profile sample trace config instructions sim old mid new v says silent none is last drained =
-    run_written remaining profile sample trace config instructions sim old mid new v says silent is (subst (λ (t : Option ℕ). elim t as (λ _. Type 0) [ None ↦ Keeps mid new | Some c ↦ Appends mid new (channel_text (state_of sim.world) c) ]) (sym none) last) drained
+    → sim.silent ≡ is_some trace → trace ≡ None → ComesTo old sim mid (Ok v) (run_of config instructions) → Keeps mid new → IfSome remaining (λ input. IsRun sample profile trace input old new)
+replies_written remaining profile sample trace config instructions sim old mid new v says silent none is last =
+    run_written remaining profile sample trace config instructions sim old mid new v says silent is (subst (λ (t : Option ℕ). elim t as (λ _. Type 0) [ None ↦ Keeps mid new | Some c ↦ Appends mid new (channel_text (state_of sim.world) c) ]) (sym none) last)
 
 pub trace_written : (remaining : Option (List ℕ)) (profile : List ℕ) (sample : Bool) (trace : Option ℕ) (channel : ℕ) (config : Config) (instructions : List Instruction) (sim : Simulated) (old mid new : Option (List ℕ)) (v : Unit {0}) → IfSome remaining (λ input. Says sample profile trace input config (Ok instructions))
-    → sim.silent ≡ is_some trace → trace ≡ Some channel → ComesTo old sim mid (Ok v) (run_of config instructions) → Appends mid new (channel_text (state_of sim.world) channel) → IsDrained (state_of sim.world) → IfSome remaining (λ input. IsRun sample profile trace input old new)
-trace_written remaining profile sample trace channel config instructions sim old mid new v says silent some is last drained =
-    run_written remaining profile sample trace config instructions sim old mid new v says silent is (subst (λ (t : Option ℕ). elim t as (λ _. Type 0) [ None ↦ Keeps mid new | Some c ↦ Appends mid new (channel_text (state_of sim.world) c) ]) (sym some) last) drained
+    → sim.silent ≡ is_some trace → trace ≡ Some channel → ComesTo old sim mid (Ok v) (run_of config instructions) → Appends mid new (channel_text (state_of sim.world) channel) → IfSome remaining (λ input. IsRun sample profile trace input old new)
+trace_written remaining profile sample trace channel config instructions sim old mid new v says silent some is last =
+    run_written remaining profile sample trace config instructions sim old mid new v says silent is (subst (λ (t : Option ℕ). elim t as (λ _. Type 0) [ None ↦ Keeps mid new | Some c ↦ Appends mid new (channel_text (state_of sim.world) c) ]) (sym some) last)

@@ -155,7 +155,7 @@ abbrev pub Pops : State → Event → Step → Type 0
 Pops s event (Ok m) = items_of s event ≡ items_of m.state event + 1
 Pops s event (Err cause) = Unit {0}
 
-slice_get-set : {X : Type 0} (xs : List X) (i : ℕ) (x y : X) → slice_get xs i ≡ Some x → slice_get (slice_set xs i y) i ≡ Some y
+pub slice_get-set : {X : Type 0} (xs : List X) (i : ℕ) (x y : X) → slice_get xs i ≡ Some x → slice_get (slice_set xs i y) i ≡ Some y
 slice_get-set [] i x y is = absurd (let impossible = is in cc)
 slice_get-set (z ∷ xs) zero x y is = refl
 slice_get-set (z ∷ xs) (suc i) x y is = slice_get-set xs i x y is

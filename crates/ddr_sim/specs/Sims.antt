@@ -53,12 +53,6 @@ pub record IsRun (sample : Bool) (profile : List ℕ) (trace : Option ℕ) (inpu
   pub drained : IsDrained run.state
   pub written : Appends old new (written_by trace (Ok run))
 
--- the input asks for a run at whose end the core is not drained
-pub record LeavesUndrained (sample : Bool) (profile : List ℕ) (trace : Option ℕ) (input : List ℕ) : Type 0 where
-  pub run : Run
-  pub asks : AsksFor sample profile trace input (Ok run)
-  pub undrained : ¬ IsDrained run.state
-
 -- a fault stopped the run, and what was printed before it is written
 pub record IsStopped (sample : Bool) (profile : List ℕ) (trace : Option ℕ) (input : List ℕ) (old new : Option (List ℕ)) (fault : Fault) : Type 0 where
   pub stop : Stopped
@@ -83,8 +77,7 @@ pub record IsCutShort (sample : Bool) (profile : List ℕ) (trace : Option ℕ) 
 
 -- The input has the fault that a run ends by. Where the script has too many requests nothing is written, and where it needs
 -- too many rounds what was printed in those that are made; where memory runs out nothing is written, or what the run begins
--- to print; where writing fails the input asks for a run; and where the core is not drained that is so at the run's end.
--- Reading fails by itself.
+-- to print; and where writing fails the input asks for a run. Reading fails by itself.
 abbrev pub HasSimFault : Bool → List ℕ → Option ℕ → List ℕ → Option (List ℕ) → Option (List ℕ) → Fault → Type 0
 HasSimFault sample profile trace input old new faults.TraceNoSuch = NamesNoChannel sample profile trace input
 HasSimFault sample profile trace input old new (faults.ScriptLine line) = IsNoScript sample profile trace input (faults.ScriptLine line)
@@ -93,6 +86,5 @@ HasSimFault sample profile trace input old new faults.ScriptLimit =
 HasSimFault sample profile trace input old new faults.ClockSpent = IsStopped sample profile trace input old new faults.ClockSpent
 HasSimFault sample profile trace input old new faults.Write = AsksForRun sample profile trace input
 HasSimFault sample profile trace input old new faults.Read = Unit {0}
-HasSimFault sample profile trace input old new faults.NotDrained = LeavesUndrained sample profile trace input
 HasSimFault sample profile trace input old new faults.OutOfMemory = (new ≡ old) ⊎ IsCutShort sample profile trace input old new
 HasSimFault sample profile trace input old new fault = HasInputFault sample profile input fault

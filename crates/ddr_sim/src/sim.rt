@@ -26,8 +26,8 @@ use std::alloc::Global;
 /// Fails as `take_apart` does, then as `TraceNoSuch` where there is no such channel, then as `ScriptLine` at the first
 /// line of the script that is at fault, or as `ScriptLimit` at the first request too many. At these nothing is written.
 /// A run that needs too many rounds fails as `ScriptLimit` too, and what was written before stands, as at every later
-/// fault; of a trace nothing is written where memory runs out. At its end the core is drained and closed; one that is not
-/// drained would be told as `NotDrained`. Over bytes in memory it never fails as `Read` or as `Write`.
+/// fault; of a trace nothing is written where memory runs out. At its end the core is drained. Over bytes in memory it never
+/// fails as `Read` or as `Write`.
 pub fn sim<R: Source, W: Sink>(
     alloc: Global,
     sample: bool,
@@ -60,7 +60,6 @@ pub fn sim<R: Source, W: Sink>(
         None => flush(writer)?,
         Some(channel) => simulation.write_trace(alloc, channel, writer)?,
     }
-    simulation.close()?;
     Ok(())
 }
 

@@ -10,7 +10,6 @@ ghost use Rattle.ddr_world.specs.Events.{event_of};
 ghost use Rattle.ddr_world.specs.History.{front_of};
 ghost use Rattle.ddr_world.specs.Kept.{state_of};
 ghost use Rattle.ddr_world.specs.Quiet.{passed};
-ghost use Rattle.ddr_world.specs.State.{IsDrained};
 ghost use Rattle.ddr_sim.specs.Quiet.{AreQuiet, HasMade};
 ghost use Rattle.ddr_text.specs.Replies.{reply_text};
 ghost use Rattle.ddr_sim.specs.Rounds.{channel_served, channels_served, outstanding, port_served, ports_served, round, rounds, until_refused};
@@ -430,17 +429,6 @@ impl Simulation {
         };
         let text = text_of(alloc, channel)?;
         write_bytes(writer, text.as_slice())
-    }
-
-    /// Closes the core. Fails as `NotDrained` where it is not drained.
-    pub fn close(self) -> Result<(), Fault>
-        ensures drained { OnOk result (IsDrained (state_of self.world)) }
-        ensures refused { IfErr result (λ fault. (fault ≡ Fault.NotDrained) × (¬ IsDrained (state_of self.world))) }
-    {
-        match self.world.close() {
-            Ok(_) => Ok(()),
-            Err(_) => Err(Fault::NotDrained),
-        }
     }
 }
 
