@@ -4,7 +4,7 @@ use Rattle.std.specs.Prelude.{slice_get}
 use Rattle.std.specs.List.{All, fold}
 use Rattle.std.specs.Option.{option_map_or}
 use Rattle.std.proofs.Math.Seq.{drop-length, take-append-add}
-use Rattle.std.proofs.lemmas.List.Elements.{All-cons, All-get_or, All-head, All-tail, All-take}
+use Rattle.std.proofs.lemmas.List.Elements.{All-cons, All-get_or, All-head, All-nil, All-tail, All-take}
 use Rattle.std.proofs.lemmas.List.Sums.{fold-append}
 use Rattle.std.proofs.lemmas.Option.{get_or_from_slice_get, slice_get_within}
 use Rattle.ddr_trace.specs.declared.bank.OpenBank.{OpenBank}
@@ -14,7 +14,7 @@ use Rattle.ddr_trace.specs.Banks.{bank_after, bank_behind}
 use Rattle.ddr_trace.specs.Commands.{is_activate, is_auto, is_precharge, is_same_bank}
 use Rattle.ddr_evidence.specs.Places.{IsLast, changes, changes_at}
 use Rattle.ddr_evidence.specs.Recent.{StartsAtAct, decides, opens}
-use Rattle.ddr_evidence.proofs.PlaceLemmas.{IsSplit, rest_is, split_more}
+use Rattle.ddr_evidence.proofs.PlaceLemmas.{IsSplit, left_length, rest_is, split_more}
 
 -- what an entry that decides makes of a bank, whatever it was
 no_matter : (act pre same : Bool) (x y z b n : Option OpenBank) → ((act || pre) && same) ≡ true → cond same (cond act x (cond pre None y)) b ≡ cond same (cond act x (cond pre None z)) n
@@ -115,11 +115,21 @@ some_started command history from (a, at, is) none place =
 
 -- ---- with no ACT
 
--- one more entry that is no such ACT, before those that are none
-pub none_before : (command : Command) (history earlier before : List Entry) (last : Entry) → IsSplit history earlier → earlier ≡ before ++ last ∷ [] → opens command last ≡ false
-    → All (λ a. opens command a ≡ false) (drop (length earlier) history) → All (λ a. opens command a ≡ false) (drop (length before) history)
-none_before command history earlier before last split e is none =
-    subst (All (λ a. opens command a ≡ false)) (sym (rest_is history earlier before last split e)) (All-cons (λ a. opens command a ≡ false) last (drop (length earlier) history) is none)
+-- one more entry that fails a test, before those that fail it
+pub none_before : (test : Entry → Bool) (history earlier before : List Entry) (last : Entry) → IsSplit history earlier → earlier ≡ before ++ last ∷ [] → test last ≡ false
+    → All (λ a. test a ≡ false) (drop (length earlier) history) → All (λ a. test a ≡ false) (drop (length before) history)
+none_before test history earlier before last split e is none =
+    subst (All (λ a. test a ≡ false)) (sym (rest_is history earlier before last split e)) (All-cons (λ a. test a ≡ false) last (drop (length earlier) history) is none)
+
+-- behind a whole history stands none
+pub none_whole : (test : Entry → Bool) (history : List Entry) → All (λ a. test a ≡ false) (drop (length history) history)
+none_whole test history = subst (All (λ (a : Entry). test a ≡ false)) (sym (drop-length history)) (All-nil (λ (a : Entry). test a ≡ false))
+
+-- nor behind the entry that was taken off what is left
+pub none_behind : (test : Entry → Bool) (history earlier before : List Entry) (last : Entry) → earlier ≡ before ++ last ∷ []
+    → All (λ a. test a ≡ false) (drop (length earlier) history) → All (λ a. test a ≡ false) (drop (length before + 1) history)
+none_behind test history earlier before last e none =
+    subst (λ n. All (λ (a : Entry). test a ≡ false) (drop n history)) (left_length earlier before last e) none
 
 -- what an entry that opens no bank makes of an idle one
 unopened : (act pre auto same : Bool) (x : Option OpenBank) → (act && same) ≡ false → cond same (cond act x (cond pre None (cond auto None None))) None ≡ None
@@ -150,6 +160,11 @@ pub not_decided : (act pre same : Bool) → ((act || pre) && same) ≡ false →
 not_decided true pre true e = cc
 not_decided true pre false e = refl
 not_decided false pre same e = refl
+
+-- an ACT that decides a bank opens it
+pub act_opens : (act pre same : Bool) → act ≡ true → ((act || pre) && same) ≡ true → (act && same) ≡ true
+act_opens true pre same on e = e
+act_opens false pre same on e = cc
 
 pub not_activate : (act same : Bool) → act ≡ false → (act && same) ≡ false
 not_activate true same e = cc

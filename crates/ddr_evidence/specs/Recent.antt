@@ -1,6 +1,6 @@
 -- Which part of a history tells what an entry breaks.
 use Rattle.std.specs.Prelude.{◌≡◌, ℕ, ◌+◌, ◌<◌, ◌≤◌, Bool, true, false, ◌&&◌, ◌||◌, max, List, length, take, Some, All, slice_get}
-use Rattle.std.specs.List.{slice_index_or}
+use Rattle.std.specs.List.{fold, slice_index_or}
 use Rattle.ddr_timing.specs.declared.timing.Timing.{Timing}
 use Rattle.ddr_timing.specs.declared.units.TheConstants.{BURST_CLOCKS}
 use Rattle.ddr_trace.specs.declared.command.Command.{Command}
@@ -30,6 +30,15 @@ StartsAtAct command history place = (a : Entry) × (slice_get history place ≡ 
 pub record IsReach (history : List Entry) (reach : List ℕ) : Type 0 where
   pub long : length history ≤ length reach
   pub above : (place : ℕ) → place < length history → All (λ a. a.cycle ≤ slice_index_or reach place 0) (take (place + 1) history)
+
+-- the greatest cycle of the entries, 0 where there is none
+abbrev pub greatest_cycle : List Entry → ℕ
+greatest_cycle entries = fold (λ greatest a. max greatest a.cycle) 0 entries
+
+-- reach tells at each place of the entries, and at no other, the greatest cycle up to there
+pub record IsGreatest (entries : List Entry) (reach : List ℕ) : Type 0 where
+  pub long : length reach ≡ length entries
+  pub each : (place : ℕ) → place < length entries → slice_index_or reach place 0 ≡ greatest_cycle (take (place + 1) entries)
 
 -- the rule is one that the entry can break together with a near one alone
 abbrev pub is_of_near : Rule → Bool

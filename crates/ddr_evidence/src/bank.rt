@@ -1,7 +1,7 @@
 //! Rules on the state of banks: the command that last changed the bank.
 //!
 //! `evidence`, `kind` and `ddr_trace` stand below, and `state` above.
-ghost use Rattle.std.specs.Prelude.{◌≡◌, ◌-◌, ◌<◌, ◌≤◌, ◌&&◌, if◌then◌else◌, All, IfNone, IfSome, None, Some, drop, false, length, slice_get};
+ghost use Rattle.std.specs.Prelude.{◌≡◌, ◌+◌, ◌-◌, ◌<◌, ◌≤◌, ◌&&◌, if◌then◌else◌, All, IfNone, IfSome, None, Some, drop, false, length, slice_get};
 ghost use Rattle.ddr_trace.specs.Banks.{auto_start, bank_after, bank_behind, recovery};
 ghost use Rattle.ddr_trace.specs.Commands.{is_same_bank};
 ghost use Rattle.ddr_evidence.specs.Places.{IsLastChange, IsLastChangeAt, changes};
@@ -70,6 +70,7 @@ pub(crate) fn bank_of(history: &[Entry], command: &Command) -> Option<OpenBank>
 fn last_act(history: &[Entry], command: &Command) -> Option<usize>
     ensures within { IfSome result (λ from. from ≤ length history.now) }
     ensures starts { IfSome result (StartsAtAct command.now history.now) }
+    ensures last { IfSome result (λ from. All (λ a. opens command.now a ≡ false) (drop (from + 1) history.now)) }
     ensures none { IfNone result (All (λ a. opens command.now a ≡ false) history.now) }
 {
     let mut earlier = history;
@@ -86,6 +87,8 @@ fn last_act(history: &[Entry], command: &Command) -> Option<usize>
 /// is nothing to what the bank is, and where there is none, the bank was never opened or a precharge closed it.
 fn last_opened(history: &[Entry], command: &Command) -> Option<usize>
     ensures within { IfSome result (λ from. from ≤ length history.now) }
+    ensures starts { IfSome result (StartsAtAct command.now history.now) }
+    ensures last { IfSome result (λ from. All (λ a. decides command.now a ≡ false) (drop (from + 1) history.now)) }
     ensures same { IfSome result (λ from. bank_behind command.now (drop from history.now) ≡ bank_behind command.now history.now) }
     ensures idle { IfNone result (bank_behind command.now history.now ≡ None) }
 {

@@ -2,10 +2,11 @@
 //!
 //! Most rules an entry breaks by what its bank is, or together with an earlier one that stands few clocks before it. So of a long
 //! history the newest entries mostly tell; a trace's reach says which of them. `find`, `refresh`, `state` and `kind` stand below.
-ghost use Rattle.std.specs.Prelude.{◌≡◌, ◌+◌, ◌≤◌, All, IfOk, length, take, true};
+ghost use Rattle.std.specs.Prelude.{◌≡◌, ℕ, ◌+◌, ◌<◌, ◌≤◌, All, IfOk, length, take, true};
+ghost use Rattle.std.specs.List.{slice_index_or};
 ghost use Rattle.ddr_trace.specs.Rules.{breaks, spacing_of};
 ghost use Rattle.ddr_evidence.specs.Places.{pair_breaks};
-ghost use Rattle.ddr_evidence.specs.Recent.{IsReach, is_later, is_of_near, span_of};
+ghost use Rattle.ddr_evidence.specs.Recent.{IsGreatest, IsReach, is_later, is_of_near, span_of};
 
 use crate::find::{evidence_of, too_close};
 use crate::kind::{is_activate, is_column, is_of_kind};
@@ -20,7 +21,8 @@ use std::alloc::{AllocError, Global};
 
 /// For each entry a cycle that neither it nor any entry before it stands behind: the greatest of theirs.
 pub fn reach_of(alloc: Global, entries: &[Entry]) -> Result<Vec<u64>, AllocError>
-    ensures { IfOk result (λ reach. IsReach entries.now reach.items) }
+    ensures above { IfOk result (λ reach. IsReach entries.now reach.items) }
+    ensures greatest { IfOk result (λ reach. IsGreatest entries.now reach.items) }
 {
     let mut reach = Vec::with_capacity(alloc, entries.len())?;
     let mut greatest = 0u64;
@@ -111,11 +113,12 @@ fn span_of(rule: Rule, timing: &Timing) -> u32
     }
 }
 
-/// The place in the history behind which an entry may stand fewer than `clocks` before the cycle.
+/// The place in the history from which on the reach stands fewer than `clocks` before the cycle: no entry before it does.
 fn first_within(history: &[Entry], reach: &[u64], cycle: u64, clocks: u32) -> usize
     requires { IsReach history.now reach.now }
     ensures within { result ≤ length history.now }
     ensures far { All (λ a. a.cycle + clocks ≤ cycle) (take result history.now) }
+    ensures near { (place : ℕ) → result ≤ place → place < length history.now → cycle < slice_index_or reach.now place 0 + clocks }
 {
     let mut place = history.len();
     while place > 0 {

@@ -1,18 +1,14 @@
 -- The newest entry of what is left is such an ACT, or is passed.
-use Rattle.std.proofs.Common.{◌≡◌, false, subst, sym}
-use Rattle.std.specs.List.{All}
-use Rattle.std.proofs.Math.Seq.{drop-length}
-use Rattle.std.proofs.lemmas.List.Elements.{All-nil}
-use Rattle.ddr_trace.specs.declared.command.Entry.{Entry}
+use Rattle.std.proofs.Common.{sym}
 use Rattle.ddr_evidence.specs.Recent.{opens}
-use Rattle.ddr_evidence.proofs.BackLemmas.{none_before}
+use Rattle.ddr_evidence.proofs.BackLemmas.{none_before, none_behind, none_whole}
 use Rattle.ddr_evidence.proofs.PlaceLemmas.{get_here, split_next, split_whole}
 use Rattle.ddr_evidence.proofs.bank.last_act.Goals as goal
 
 pub loop-last-init : goal.loop-last-init
 loop-last-init c = record {
   split = split_whole c.args.history.now;
-  none = subst (All (λ (a : Entry). opens c.args.command.now a ≡ false)) (sym (drop-length c.args.history.now)) (All-nil (λ (a : Entry). opens c.args.command.now a ≡ false));
+  none = none_whole (opens c.args.command.now) c.args.history.now;
 }
 
 pub loop-last-preserved : goal.loop-last-preserved
@@ -21,9 +17,13 @@ loop-last-preserved c =
     let history = c.args.history.now in
     record {
       split = split_next history c.loop-last.earlier.now c.in-Some.before.now c.in-Some.last.now now.split c.in-Some.ensures.cases.0;
-      none = none_before c.args.command.now history c.loop-last.earlier.now c.in-Some.before.now c.in-Some.last.now now.split c.in-Some.ensures.cases.0 (sym c.if-opens.ensures) now.none;
+      none = none_before (opens c.args.command.now) history c.loop-last.earlier.now c.in-Some.before.now c.in-Some.last.now now.split c.in-Some.ensures.cases.0 (sym c.if-opens.ensures) now.none;
     }
 
 pub returns-then-opens-clause-starts : goal.returns-then-opens-clause-starts
 returns-then-opens-clause-starts c =
     (c.in-Some.last.now, get_here c.args.history.now c.loop-last.earlier.now c.in-Some.before.now c.in-Some.last.now c.loop-last.invariant.split c.in-Some.ensures.cases.0, sym c.if-opens.ensures)
+
+pub returns-then-opens-clause-last : goal.returns-then-opens-clause-last
+returns-then-opens-clause-last c =
+    none_behind (opens c.args.command.now) c.args.history.now c.loop-last.earlier.now c.in-Some.before.now c.in-Some.last.now c.in-Some.ensures.cases.0 c.loop-last.invariant.none
