@@ -1,9 +1,10 @@
 -- What is kept of a capture.
-use Rattle.std.proofs.Common.{◌≡◌, ◌≢◌, ℕ, zero, suc, ◌<◌, ◌≤◌, ◌==◌, Bool, true, false, List, [], ◌∷◌, ◌++◌, length, get_or, set, Option, Some, None, ◌⊎◌, inl, inr, refl, sym, ap, subst, ◌∙◌, arith}
-use Rattle.std.specs.List.{slice_get}
+use Rattle.std.proofs.Common.{◌≡◌, ◌≢◌, ℕ, zero, suc, ◌+◌, ◌<◌, ◌≤◌, ◌==◌, Bool, true, false, List, [], ◌∷◌, ◌++◌, length, get_or, set, Option, Some, None, ◌⊎◌, inl, inr, refl, sym, ap, subst, ◌∙◌, arith}
+use Rattle.std.specs.Prelude.{map}
+use Rattle.std.specs.List.{slice_get, slice_index_or}
 use Rattle.std.proofs.lemmas.Bool.{cases_lt, eqb-true}
 use Rattle.std.proofs.lemmas.Bool.Decides.{nat_tests}
-use Rattle.std.proofs.lemmas.List.{get_or-map, get_or-set_other, get_or-set_same, length-set, length_push}
+use Rattle.std.proofs.lemmas.List.{get_or-map, get_or-set_other, get_or-set_same, length-set, length_push, map-set}
 use Rattle.std.proofs.lemmas.Option.{get_or_from_slice_get, slice_get-get_or, slice_get_within}
 use Rattle.ddr_timing.specs.declared.config.Config.{Config}
 use Rattle.ddr_judge.specs.declared.judge.Judge.{Judge}
@@ -61,6 +62,35 @@ heard_push lanes c start l heard new channel m is = by_place (cases_lt channel (
     by_place (inr above) =
         let last : channel ≡ length lanes = omega (arith, slice_get_within (lanes ++ l ∷ []) channel m is, length_push lanes l) in
         subst (λ k. HasHeard k c start []) (same_lane l m (sym (last_at lanes l) ∙ ap (slice_get (lanes ++ l ∷ [])) (sym last) ∙ is)) new
+
+-- one lane counts a command more, and the others don't
+abbrev counts : List Lane → List ℕ
+counts lanes = map (λ (l : Lane). l.count) lanes
+
+pub count_same : (lanes : List Lane) (channel : ℕ) (l m : Lane) → channel < length lanes → l ≡ get_or lanes channel l → m.count ≡ l.count + 1 → slice_index_or (counts (set lanes channel m)) channel 0 ≡ slice_index_or (counts lanes) channel 0 + 1
+count_same lanes channel l m there is more =
+    let now : slice_index_or (counts (set lanes channel m)) channel 0 ≡ m.count =
+    get_or-map (λ (k : Lane). k.count) (set lanes channel m) channel m 0 (omega (arith, there, length-set lanes channel m))
+    ∙ ap (λ (k : Lane). k.count) (get_or-set_same lanes channel m m there) in
+    let before : slice_index_or (counts lanes) channel 0 ≡ l.count =
+    get_or-map (λ (k : Lane). k.count) lanes channel l 0 there ∙ ap (λ (k : Lane). k.count) (sym is) in
+    now ∙ more ∙ ap (λ n. n + 1) (sym before)
+
+pub count_other : (lanes : List Lane) (channel other : ℕ) (m : Lane) → other ≢ channel → slice_index_or (counts (set lanes channel m)) other 0 ≡ slice_index_or (counts lanes) other 0
+count_other lanes channel other m apart =
+    ap (λ ns. slice_index_or ns other 0) (map-set (λ (k : Lane). k.count) lanes channel m)
+    ∙ get_or-set_other (counts lanes) channel other m.count 0 apart
+
+-- before the first command none counted one
+pub none_counted : (lanes : List Lane) (c : Config) (start : ℕ) → HeardEach lanes c start [] → (channel : ℕ) → channel < length lanes → slice_index_or (counts lanes) channel 0 ≡ 0
+none_counted lanes c start heard channel there = by_lane (slice_get lanes channel) refl
+  where
+    by_lane : (o : Option Lane) → slice_get lanes channel ≡ o → slice_index_or (counts lanes) channel 0 ≡ 0
+    by_lane (Some l) is =
+        get_or-map (λ (k : Lane). k.count) lanes channel l 0 there
+        ∙ ap (λ (k : Lane). k.count) (get_or_from_slice_get lanes channel l l is)
+        ∙ (heard channel l is).count
+    by_lane None none = absurd (no_item lanes channel there none)
 
 -- the commands of a channel are counted
 pub counted : (j : Judge) (c : Config) (start : ℕ) (records : List Record) (channel : ℕ) → HasJudged j c start records → channel < channels_of j → commands_of j channel ≡ length (lane channel records)

@@ -1,7 +1,7 @@
 //! The judge of a capture: which channels are legal, and the first fault of each other.
 //!
 //! `lane` stands below, and what reads a capture above.
-ghost use Rattle.std.specs.Prelude.{◌≡◌, ℕ, ◌+◌, ◌-◌, ◌<◌, ◌≤◌, ◌^◌, List, [], ◌∷◌, ◌++◌, IfOk, length};
+ghost use Rattle.std.specs.Prelude.{◌≡◌, ◌≢◌, ℕ, ◌+◌, ◌-◌, ◌<◌, ◌≤◌, ◌^◌, List, [], ◌∷◌, ◌++◌, IfOk, length, max};
 ghost use Rattle.ddr_timing.specs.declared.config.Config.{Config};
 ghost use Rattle.ddr_judge.specs.Records.{Record, end_behind, lane};
 ghost use Rattle.ddr_judge.specs.Verdict.{IsVerdict};
@@ -29,6 +29,8 @@ impl Judge {
     /// Before the first command, in the cycle `start`. Fails where memory is refused; no later call asks for any.
     pub fn open(alloc: Global, config: &Config, start: u64) -> Result<Judge, AllocError>
         ensures channels { IfOk result (λ j. channels_of j ≡ config.now.geometry.channels) }
+        ensures nothing { IfOk result (λ j. (channel : ℕ) → channel < channels_of j → commands_of j channel ≡ 0) }
+        ensures end { IfOk result (λ j. end_of j ≡ start) }
         ensures judged { IfOk result (λ j. HasJudged j config.now start []) }
     {
         let mut lanes = Vec::new(alloc);
@@ -45,6 +47,9 @@ impl Judge {
         requires early { entry.now.cycle < 2 ^ 64 - 1 }
         requires countable { commands_of self.old channel + 1 < 2 ^ 64 }
         ensures channels { channels_of self.new ≡ channels_of self.old }
+        ensures counted { commands_of self.new channel ≡ commands_of self.old channel + 1 }
+        ensures others { (other : ℕ) → other ≢ channel → commands_of self.new other ≡ commands_of self.old other }
+        ensures end { end_of self.new ≡ max (end_of self.old) (entry.now.cycle + 1) }
         ensures judged { (config : Config) (start : ℕ) (records : List Record) → HasJudged self.old config start records
             → HasJudged self.new config start (records ++ record { channel = channel; entry = entry.now; line = line } ∷ []) }
     {

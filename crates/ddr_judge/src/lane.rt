@@ -1,7 +1,7 @@
 //! What is kept of one channel: its checker up to the first fault, and then that.
 //!
 //! `fault` and `ddr_legality`'s checker stand below, and `judge` above.
-ghost use Rattle.std.specs.Prelude.{ℕ, ◌+◌, ◌-◌, ◌<◌, ◌^◌, List, [], ◌∷◌, ◌++◌, IfOk};
+ghost use Rattle.std.specs.Prelude.{◌≡◌, ℕ, ◌+◌, ◌-◌, ◌<◌, ◌^◌, List, [], ◌∷◌, ◌++◌, IfOk};
 ghost use Rattle.ddr_timing.specs.declared.config.Config.{Config};
 ghost use Rattle.ddr_judge.specs.Records.{AllBelow, Record, entries_of};
 ghost use Rattle.ddr_judge.specs.Verdict.{IsVerdict};
@@ -42,7 +42,8 @@ impl Lane {
     pub fn pass(&mut self, entry: &Entry, line: u64)
         requires early { entry.now.cycle < 2 ^ 64 - 1 }
         requires countable { self.old.count + 1 < 2 ^ 64 }
-        ensures { (config : Config) (start : ℕ) (records : List Record) (channel : ℕ) → HasHeard self.old config start records
+        ensures count { self.new.count ≡ self.old.count + 1 }
+        ensures heard { (config : Config) (start : ℕ) (records : List Record) (channel : ℕ) → HasHeard self.old config start records
             → HasHeard self.new config start (records ++ record { channel = channel; entry = entry.now; line = line } ∷ []) }
     {
         let place = self.count;

@@ -1,7 +1,7 @@
 -- One lane more.
 use Rattle.std.proofs.Common.{◌+◌, ◌∙◌, ap}
 use Rattle.std.proofs.lemmas.List.{length_push}
-use Rattle.ddr_judge.proofs.JudgedLemmas.{heard_push}
+use Rattle.ddr_judge.proofs.JudgedLemmas.{heard_push, none_counted}
 use Rattle.ddr_judge.proofs.judge.Judge.open.Goals as goal
 
 pub loop-channel-preserved : goal.loop-channel-preserved
@@ -12,3 +12,6 @@ loop-channel-preserved c =
       each = length_push lanes l ∙ ap (λ n. n + 1) c.loop-channel.invariant.each;
       heard = heard_push lanes c.args.config.now c.args.start l c.loop-channel.invariant.heard c.in_ok-open.ensures;
     })
+
+pub returns-clause-nothing : goal.returns-clause-nothing
+returns-clause-nothing c = none_counted c.loop-channel.lanes.items c.args.config.now c.args.start c.loop-channel.invariant.heard

@@ -5,14 +5,14 @@ use Rattle.ddr_judge.specs.Records.{entries_of}
 use Rattle.ddr_judge.proofs.HeardLemmas.{now_at_fault, still_kept, told_behind, told_kept, told_none, told_of}
 use Rattle.ddr_judge.proofs.lane.Lane.pass.Goals as goal
 
-pub returns-then-is_some : goal.returns-then-is_some
-returns-then-is_some c = λ config start records channel heard. record {
+pub returns-then-is_some-clause-heard : goal.returns-then-is_some-clause-heard
+returns-then-is_some-clause-heard c = λ config start records channel heard. record {
   count = ap (λ n. n + 1) heard.count ∙ sym (length_push records _);
   told = told_behind config start records _ c.args.self.now _ c.args.self.now.fault (sym c.is_some.ensures ∙ c.if-is_some.true) heard.told;
 }
 
-pub returns-in-None : goal.returns-in-None
-returns-in-None c = λ config start records channel heard.
+pub returns-in-None-clause-heard : goal.returns-in-None-clause-heard
+returns-in-None-clause-heard c = λ config start records channel heard.
     let l = c.args.self.now in
     let e = c.args.entry.now in
     let off = sym c.is_some.ensures ∙ c.if-is_some.false in
@@ -24,8 +24,8 @@ returns-in-None c = λ config start records channel heard.
           (still_kept config start records _ l _ kept c.pass.ensures.config c.pass.ensures.start (c.pass.ensures.passed (entries_of records) kept.passed) none);
     }
 
-pub returns-in-Some : goal.returns-in-Some
-returns-in-Some c = λ config start records channel heard.
+pub returns-in-Some-clause-heard : goal.returns-in-Some-clause-heard
+returns-in-Some-clause-heard c = λ config start records channel heard.
     let l = c.args.self.now in
     let e = c.args.entry.now in
     let off = sym c.is_some.ensures ∙ c.if-is_some.false in
