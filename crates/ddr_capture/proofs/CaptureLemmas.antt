@@ -12,10 +12,11 @@ use Rattle.ddr_capture.specs.Capture.{AreJudged, HasCaptureFault}
 use Rattle.ddr_capture.specs.Captured.{Read, captured, end_in}
 use Rattle.ddr_capture.specs.Feed.{Along}
 use Rattle.ddr_capture.specs.Form.{is_missing}
-use Rattle.ddr_capture.specs.Front.{IsConfigRefused, IsOpened}
+use Rattle.ddr_capture.specs.Front.{ComesFirst, IsConfigRefused, IsOpened}
 use Rattle.ddr_capture.specs.Lines.{IsReadFault}
 use Rattle.ddr_capture.specs.Report.{AreVerdicts, first_told, told_channels}
 use Rattle.ddr_capture.specs.declared.form.Form.{Form}
+use Rattle.ddr_capture.proofs.FrontLemmas.{behind_front}
 use Rattle.ddr_capture.proofs.LineLemmas.{missing_said}
 
 -- nothing waits yet
@@ -75,3 +76,9 @@ module _ (sample : Bool) (profile : List ℕ) (form : Form) (start : ℕ) where
   verdicts_unwritten None verdicts may_fail fault e are = tt
   verdicts_unwritten (Some input) verdicts true fault e are = rw e (are.config, are.read, are.says)
   verdicts_unwritten (Some input) verdicts false fault e are = rw e tt
+
+  -- and whose configuration was read
+  pub judged_first : (a : Option (List ℕ)) (verdicts : List (Option judged.Fault)) (fault : Fault) → IfSome a (λ input. AreJudged sample profile form start input verdicts)
+      → IfSome a (λ input. ComesFirst sample input fault)
+  judged_first None verdicts fault are = tt
+  judged_first (Some input) verdicts fault are = behind_front sample input fault are.says.opened.front

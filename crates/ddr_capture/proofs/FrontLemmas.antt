@@ -1,11 +1,11 @@
 -- Going over the lines of a configuration, up to the mark.
-use Rattle.std.proofs.Common.{◌≡◌, ℕ, ◌+◌, ◌<◌, ◌==◌, ◌||◌, Bool, true, false, List, [], ◌∷◌, ◌++◌, length, cond, codes, nat_lt, Option, Some, None, Result, Ok, Err, IfSome, ◌⊎◌, inl, inr, refl, sym, subst, ap, ◌∙◌, arith, append_assoc, append-nil, length-append}
+use Rattle.std.proofs.Common.{◌≡◌, ℕ, ◌+◌, ◌<◌, ◌≤◌, ◌==◌, ◌||◌, Bool, true, false, List, [], ◌∷◌, ◌++◌, length, cond, codes, nat_lt, Option, Some, None, Result, Ok, Err, IfSome, ◌⊎◌, inl, inr, refl, sym, subst, ap, ◌∙◌, arith, append_assoc, append-nil, length-append}
 use Rattle.std.specs.Prelude.{IfErr, IfOk, IsSomeAnd}
 use Rattle.std.specs.List.{join_with_byte, slice_split}
 use Rattle.std.specs.Option.{option_map_or}
 use Rattle.std.specs.Str.{IsUtf8, bytes_eq}
 use Rattle.std.specs.Str.Lines.{lines, lines_of_parts, strip_carriage_return}
-use Rattle.std.proofs.lemmas.Bool.{le-ltb, lt-ltb, ltb-true}
+use Rattle.std.proofs.lemmas.Bool.{le-ltb, lt-ltb, ltb-false, ltb-true}
 use Rattle.std.proofs.lemmas.List.Folds.{list_any-append}
 use Rattle.std.proofs.lemmas.List.Splits.{slice_split_at, slice_split_none}
 use Rattle.std.proofs.lemmas.Slice.Eq.{bytes_eq-Decides}
@@ -17,7 +17,7 @@ use Rattle.ddr_text.specs.Body.{HasConfigFault, HasParts, IsConfig, IsRefused, i
 use Rattle.ddr_text.specs.Input.{IsNoText, IsText}
 use Rattle.ddr_text.proofs.BodyLemmas.{IsLine, lines-line, lines_more, not_of_parts, split_mark, split_more, strip_mark, whole_more}
 use Rattle.ddr_capture.specs.Feed.{Along, BeginsWith, HasFound, IsLast, IsTooLong}
-use Rattle.ddr_capture.specs.Front.{IsConfigRefused, IsFront, IsFrontRefused, IsFrontStep, IsMarked, IsOpened, IsReadable, front_fault, front_of, is_any_long, is_long}
+use Rattle.ddr_capture.specs.Front.{ComesFirst, HasFront, IsConfigRefused, IsFront, IsFrontRefused, IsFrontStep, IsMarked, IsOpened, IsReadable, IsShort, front_fault, front_of, is_any_long, is_long, last_fault}
 use Rattle.ddr_capture.specs.declared.feed.Refusal.{Refusal}
 use Rattle.ddr_capture.specs.declared.feed.Refusal.TheVariants as refusals
 use Rattle.ddr_capture.specs.declared.feed.Found.TheVariants as found
@@ -51,7 +51,14 @@ long_lines text long = or_true (nat_lt LONGEST_INPUT (length text)) (is_any_long
 long_text : (text : List ℕ) → LONGEST_INPUT < length text → is_long text ≡ true
 long_text text long = ap (λ (b : Bool). b || is_any_long (lines text)) (lt-ltb LONGEST_INPUT (length text) long)
 
+short_text : (text : List ℕ) → length text ≤ LONGEST_INPUT → is_any_long (lines text) ≡ false → is_long text ≡ false
+short_text text fits none = ap (λ (b : Bool). b || is_any_long (lines text)) (le-ltb LONGEST_INPUT (length text) fits) ∙ none
+
 -- ---- what stands before the mark
+
+-- with no mark that is all
+front_all : (input : List ℕ) → split_of input ≡ None → front_of input ≡ input
+front_all input none = ap (λ (o : Option (List ℕ × List ℕ)). option_map_or (λ (p : List ℕ × List ℕ). p.0) o input) none
 
 abbrev marked_at : List ℕ → List ℕ → Option (List ℕ × List ℕ)
 marked_at front behind = Some (front, behind)
@@ -136,7 +143,7 @@ rest_long front input rest so_far too_long = by_cut (long_cut rest too_long)
     by_cut (inr is) =
         let none : split_of input ≡ None =
         sym so_far.said ∙ ap (split_from front) (slice_split_none is_feed rest is.unfed) ∙ ap (λ (b : Bool). cond b (marked_at front []) unmarked) (no_last_mark rest is.long) in
-        let whole : front_of input ≡ input = ap (λ (o : Option (List ℕ × List ℕ)). option_map_or (λ (p : List ℕ × List ℕ). p.0) o input) none in
+        let whole : front_of input ≡ input = front_all input none in
         let last : lines rest ≡ rest ∷ [] = ap lines_of_parts (slice_split_none is_feed rest is.unfed) ∙ last_of rest (omega (arith, is.long)) in
         let lined : lines (front_of input) ≡ so_far.seen ++ (rest ∷ []) =
         ap lines (whole ∙ so_far.whole) ∙ so_far.lined rest ∙ ap (λ (l : List (List ℕ)). so_far.seen ++ l) last in
@@ -195,21 +202,52 @@ front_last (Some input) (Some rest) (Some behind) front line so_far has mark = (
   front_short front input rest so_far,
 )
 
+module _ (front input rest line behind : List ℕ) (so_far : IsFront front input rest) (last : IsLast rest line behind) (other : bytes_eq line (codes "---") ≡ false) where
+  unmarked_none : split_of input ≡ None
+  unmarked_none = split_end front rest line (split_of input) behind last so_far.said ∙ ap (λ (b : Bool). cond b (Some (front, [])) None) other
+
+  unmarked_whole : front_of input ≡ front ++ line
+  unmarked_whole = front_all input unmarked_none ∙ so_far.whole ∙ ap (λ (r : List ℕ). front ++ r) last.whole
+
+  unmarked_lines : lines (front_of input) ≡ so_far.seen ++ (line ∷ [])
+  unmarked_lines =
+      ap lines unmarked_whole
+      ∙ so_far.lined line
+      ∙ ap (λ (l : List (List ℕ)). so_far.seen ++ l) (ap lines_of_parts (slice_split_none is_feed line last.unfed) ∙ last_of line last.some)
+
+  unmarked_length : length (front_of input) ≡ length front + length line
+  unmarked_length = ap length unmarked_whole ∙ length-append front line
+
+  unmarked_fault : IsFrontRefused input (last_fault (length front) line)
+  unmarked_fault = by_length (nat_lt LONGEST_LINE (length line)) (nat_lt LONGEST_INPUT (length front + length line)) refl refl
+    where
+      by_length : (wide full : Bool) → nat_lt LONGEST_LINE (length line) ≡ wide → nat_lt LONGEST_INPUT (length front + length line) ≡ full
+          → IsFrontRefused input (cond (wide || full) faults.InputTooLong faults.InputHasNoMark)
+      by_length true full w f = long_lines (front_of input) (ap is_any_long unmarked_lines ∙ any_long so_far.seen line [] (ltb-true LONGEST_LINE (length line) w))
+      by_length false true w f = long_text (front_of input) (omega (arith, unmarked_length, ltb-true LONGEST_INPUT (length front + length line) f))
+      by_length false false w f = (
+        unmarked_none,
+        short_text (front_of input) (omega (arith, unmarked_length, ltb-false LONGEST_INPUT (length front + length line) f))
+            (ap is_any_long unmarked_lines ∙ none_long so_far.seen line so_far.short w),
+      )
+
 pub front_unmarked : (a b c : Option (List ℕ)) (front line : List ℕ) → Along (IsFront front) a b → HasFound found.Last line b c → bytes_eq line (codes "---") ≡ false
-    → IfSome a (λ input. split_of input ≡ None)
+    → IfSome a (λ input. IsFrontRefused input (last_fault (length front) line))
 front_unmarked None b c front line so_far has other = tt
 front_unmarked (Some input) None c front line so_far has other = absurd so_far
 front_unmarked (Some input) (Some rest) None front line so_far has other = absurd has
-front_unmarked (Some input) (Some rest) (Some behind) front line so_far has other =
-    split_end front rest line (split_of input) behind has so_far.said ∙ ap (λ (b : Bool). cond b (Some (front, [])) None) other
+front_unmarked (Some input) (Some rest) (Some behind) front line so_far has other = unmarked_fault front input rest line behind so_far has other
 
 -- at the end
-pub front_end : (a b c : Option (List ℕ)) (front line : List ℕ) → Along (IsFront front) a b → HasFound found.End line b c → IfSome a (λ input. split_of input ≡ None)
-front_end None b c front line so_far has = tt
-front_end (Some input) None c front line so_far has = absurd so_far
-front_end (Some input) (Some rest) None front line so_far has = absurd has
-front_end (Some input) (Some rest) (Some behind) front line so_far has =
-    sym so_far.said ∙ ap (λ r. split_from front (slice_split (λ byte. byte == 10) r)) has.0
+pub front_end : (a b c : Option (List ℕ)) (front line : List ℕ) → length front ≤ LONGEST_INPUT → Along (IsFront front) a b → HasFound found.End line b c
+    → IfSome a (λ input. IsFrontRefused input faults.InputHasNoMark)
+front_end None b c front line few so_far has = tt
+front_end (Some input) None c front line few so_far has = absurd so_far
+front_end (Some input) (Some rest) None front line few so_far has = absurd has
+front_end (Some input) (Some rest) (Some behind) front line few so_far has =
+    let none : split_of input ≡ None = sym so_far.said ∙ ap (λ r. split_from front (slice_split (λ byte. byte == 10) r)) has.0 in
+    let whole : front_of input ≡ front = front_all input none ∙ so_far.whole ∙ ap (λ (r : List ℕ). front ++ r) has.0 ∙ append-nil front in
+    (none, subst (λ (t : List ℕ). is_long t ≡ false) (sym whole) (short_text front few (front_short front input rest so_far)))
 
 -- at a line that is too long
 pub front_wide : (a b c : Option (List ℕ)) (front line : List ℕ) → Along (IsFront front) a b → HasFound found.Line line b c → is_mark line ≡ false → nat_lt LONGEST_LINE (length (strip_carriage_return line)) ≡ true
@@ -243,10 +281,11 @@ front_refused a b c front line fault so_far has other long (inl e) = rw e (front
 front_refused a b c front line fault so_far has other long (inr e) = rw e (some_unit a)
 
 -- the last line is the mark, or there is none
-pub last_step : (a b c : Option (List ℕ)) (front line : List ℕ) (r : Result Bool Fault) → Along (IsFront front) a b → HasFound found.Last line b c
-    → IfOk r (λ marked. (marked ≡ true) × (bytes_eq line (codes "---") ≡ true)) → IfErr r (λ fault. (fault ≡ faults.InputHasNoMark) × (bytes_eq line (codes "---") ≡ false)) → IsFrontStep a r front c
-last_step a b c front line (Ok marked) so_far has is none = rw is.0 (front_last a b c front line so_far has is.1)
-last_step a b c front line (Err fault) so_far has is none = rw none.0 (front_unmarked a b c front line so_far has none.1)
+pub last_step : (a b c : Option (List ℕ)) (front line : List ℕ) (before : ℕ) (r : Result Bool Fault) → before ≡ length front → Along (IsFront front) a b → HasFound found.Last line b c
+    → IfOk r (λ marked. (marked ≡ true) × (bytes_eq line (codes "---") ≡ true)) → IfErr r (λ fault. (fault ≡ last_fault before line) × (bytes_eq line (codes "---") ≡ false)) → IsFrontStep a r front c
+last_step a b c front line before (Ok marked) all so_far has is none = rw is.0 (front_last a b c front line so_far has is.1)
+last_step a b c front line before (Err fault) all so_far has is none =
+    subst (λ (f : Fault). IfSome a (λ input. IsFrontRefused input f)) (sym (none.0 ∙ ap (λ n. last_fault n line) all)) (front_unmarked a b c front line so_far has none.1)
 
 -- no line was found
 pub refusal_step : (a b : Option (List ℕ)) (front : List ℕ) (refusal : Refusal) → Along (IsFront front) a b → (refusal ≡ refusals.Line → IfSome b IsTooLong) → IfSome a (λ input. IsFrontRefused input (front_fault refusal))
@@ -279,17 +318,24 @@ pub sample_refused : (a : Option (List ℕ)) (profile : List ℕ) (r : Result Co
 sample_refused a profile (Ok config) has = tt
 sample_refused a profile (Err fault) has = refused_sample a profile fault has
 
+front_marked : (input rest front : List ℕ) → IsMarked front input rest → front_of input ≡ front
+front_marked input rest front marked = ap (λ (o : Option (List ℕ × List ℕ)). option_map_or (λ (p : List ℕ × List ℕ). p.0) o input) marked.0
+
+-- a front that was read
+readable : (input rest front : List ℕ) → IsMarked front input rest → IsText front → IsReadable (front_of input)
+readable input rest front marked is_text =
+    subst IsReadable (sym (front_marked input rest front marked)) (record {
+      utf8 = is_text.utf8;
+      short = short_text front is_text.short marked.1;
+    })
+
 opened_behind : (a c : Option (List ℕ)) (profile front text : List ℕ) (config : Config) → Along (IsMarked front) a c → text ≡ front → IsText front → IsConfig text config → Along (IsOpened false profile config) a c
 opened_behind None c profile front text config marked same is_text is = tt
 opened_behind (Some input) None profile front text config marked same is_text is = absurd marked
 opened_behind (Some input) (Some rest) profile front text config marked same is_text is =
-    let before : front_of input ≡ front = ap (λ (o : Option (List ℕ × List ℕ)). option_map_or (λ (p : List ℕ × List ℕ). p.0) o input) marked.0 in
     record {
       parts = subst (λ (p : Option (List ℕ × List ℕ)). HasParts p config rest) (sym marked.0) (subst (λ (t : List ℕ). IsConfig t config) same is, refl);
-      front = subst IsReadable (sym before) (record {
-        utf8 = is_text.utf8;
-        short = ap (λ (b : Bool). b || is_any_long (lines front)) (le-ltb LONGEST_INPUT (length front) is_text.short) ∙ marked.1;
-      });
+      front = readable input rest front marked is_text;
     }
 
 pub behind_opened : (a c : Option (List ℕ)) (profile front text : List ℕ) (r : Result Config Fault) → Along (IsMarked front) a c → text ≡ front → IsText front → IfOk r (IsConfig text) → IfOk r (λ config. Along (IsOpened false profile config) a c)
@@ -314,7 +360,7 @@ no_text (Some input) (Some rest) profile front bytes fault marked same none =
     rw none.0 (refl, subst (λ (p : Option (List ℕ × List ℕ)). IsSomeAnd p (λ q. ¬ IsUtf8 q.0)) (sym marked.0) (subst (λ (t : List ℕ). ¬ IsUtf8 t) same none.1.1))
 
 config_front : (profile input : List ℕ) (fault : Fault) → IsFrontRefused input fault → IsConfigRefused false profile input fault
-config_front profile input faults.InputHasNoMark refused = subst (λ (p : Option (List ℕ × List ℕ)). IsRefused p faults.InputHasNoMark) (sym refused) refl
+config_front profile input faults.InputHasNoMark refused = subst (λ (p : Option (List ℕ × List ℕ)). IsRefused p faults.InputHasNoMark) (sym refused.0) refl
 config_front profile input faults.InputTooLong refused = (refl, refused)
 config_front profile input faults.Read refused = tt
 config_front profile input faults.OutOfMemory refused = tt
@@ -323,3 +369,61 @@ config_front profile input _ refused = absurd refused
 pub front_config : (a : Option (List ℕ)) (profile : List ℕ) (fault : Fault) → IfSome a (λ input. IsFrontRefused input fault) → IfSome a (λ input. IsConfigRefused false profile input fault)
 front_config None profile fault refused = tt
 front_config (Some input) profile fault refused = config_front profile input fault refused
+
+-- ---- which fault is told
+
+short_of : (sample : Bool) (input : List ℕ) → HasFront sample input → IsShort sample input
+short_of true input front = tt
+short_of false input front = front.short
+
+-- behind a front that was read any fault may be
+pub behind_front : (sample : Bool) (input : List ℕ) (fault : Fault) → HasFront sample input → ComesFirst sample input fault
+behind_front sample input faults.InputTooLong front = tt
+behind_front sample input faults.Read front = tt
+behind_front sample input faults.OutOfMemory front = tt
+behind_front sample input faults.InputHasNoMark front = short_of sample input front
+behind_front sample input faults.InputNotUtf8 front = short_of sample input front
+behind_front sample input _ front = front
+
+sample_fault : (a : Option (List ℕ)) (fault : Fault) → IfSome a (λ input. ComesFirst true input fault)
+sample_fault None fault = tt
+sample_fault (Some input) fault = behind_front true input fault tt
+
+pub sample_first : (a : Option (List ℕ)) (r : Result Config Fault) → IfErr r (λ fault. IfSome a (λ input. ComesFirst true input fault))
+sample_first a (Ok config) = tt
+sample_first a (Err fault) = sample_fault a fault
+
+front_told : (input : List ℕ) (fault : Fault) → IsFrontRefused input fault → ComesFirst false input fault
+front_told input faults.InputHasNoMark refused = refused.1
+front_told input faults.InputTooLong refused = tt
+front_told input faults.Read refused = tt
+front_told input faults.OutOfMemory refused = tt
+front_told input _ refused = absurd refused
+
+pub front_first : (a : Option (List ℕ)) (fault : Fault) → IfSome a (λ input. IsFrontRefused input fault) → IfSome a (λ input. ComesFirst false input fault)
+front_first None fault refused = tt
+front_first (Some input) fault refused = front_told input fault refused
+
+-- the front is no text
+pub no_text_first : (a c : Option (List ℕ)) (front bytes : List ℕ) (fault : Fault) → Along (IsMarked front) a c → bytes ≡ front → (fault ≡ faults.InputNotUtf8) × IsNoText bytes → IfSome a (λ input. ComesFirst false input fault)
+no_text_first None c front bytes fault marked same none = tt
+no_text_first (Some input) None front bytes fault marked same none = absurd marked
+no_text_first (Some input) (Some rest) front bytes fault marked same none =
+    subst (λ (f : Fault). ComesFirst false input f) (sym none.0)
+    (subst (λ (t : List ℕ). is_long t ≡ false) (sym (front_marked input rest front marked)) (short_text front (omega (arith, none.1.0, ap length same)) marked.1))
+
+-- the configuration is refused
+config_told : (a c : Option (List ℕ)) (front : List ℕ) (fault : Fault) → Along (IsMarked front) a c → IsText front → IfSome a (λ input. ComesFirst false input fault)
+config_told None c front fault marked is_text = tt
+config_told (Some input) None front fault marked is_text = absurd marked
+config_told (Some input) (Some rest) front fault marked is_text = behind_front false input fault (readable input rest front marked is_text)
+
+pub config_first : (a c : Option (List ℕ)) (front : List ℕ) (r : Result Config Fault) → Along (IsMarked front) a c → IsText front → IfErr r (λ fault. IfSome a (λ input. ComesFirst false input fault))
+config_first a c front (Ok config) marked is_text = tt
+config_first a c front (Err fault) marked is_text = config_told a c front fault marked is_text
+
+-- and what comes behind the configuration
+pub opened_first : (sample : Bool) (profile : List ℕ) (a b : Option (List ℕ)) (config : Config) (fault : Fault) → Along (IsOpened sample profile config) a b → IfSome a (λ input. ComesFirst sample input fault)
+opened_first sample profile None b config fault opened = tt
+opened_first sample profile (Some input) None config fault opened = absurd opened
+opened_first sample profile (Some input) (Some body) config fault opened = behind_front sample input fault opened.front

@@ -1,5 +1,5 @@
 -- The configuration in front of a capture.
-use Rattle.std.specs.Prelude.{◌≡◌, ℕ, ◌==◌, ◌||◌, ◌++◌, Bool, true, false, nat_lt, List, length, Option, Some, None, IfSome, IsSomeAnd, Result, Ok, Err}
+use Rattle.std.specs.Prelude.{◌≡◌, ℕ, ◌+◌, ◌==◌, ◌||◌, ◌++◌, if◌then◌else◌, Bool, true, false, nat_lt, List, length, Option, Some, None, IfSome, IsSomeAnd, Result, Ok, Err}
 use Rattle.std.specs.List.{list_any, slice_split}
 use Rattle.std.specs.Option.{option_map_or}
 use Rattle.std.specs.Str.{IsUtf8}
@@ -46,9 +46,9 @@ front_fault refusals.Line = faults.InputTooLong
 front_fault refusals.Read = faults.Read
 front_fault refusals.OutOfMemory = faults.OutOfMemory
 
--- the input has no mark, or too much stands before it; reading and memory fail by themselves
+-- the input has no mark and is not too long, or too much stands before it; reading and memory fail by themselves
 abbrev pub IsFrontRefused : List ℕ → Fault → Type 0
-IsFrontRefused input faults.InputHasNoMark = split_of input ≡ None
+IsFrontRefused input faults.InputHasNoMark = (split_of input ≡ None) × (is_long (front_of input) ≡ false)
 IsFrontRefused input faults.InputTooLong = is_long (front_of input) ≡ true
 IsFrontRefused input faults.Read = Unit {0}
 IsFrontRefused input faults.OutOfMemory = Unit {0}
@@ -61,6 +61,29 @@ IsConfigRefused sample profile input faults.InputNotUtf8 = (sample ≡ false) ×
 IsConfigRefused sample profile input faults.Read = Unit {0}
 IsConfigRefused sample profile input faults.OutOfMemory = Unit {0}
 IsConfigRefused sample profile input fault = IsRefused (parts_of sample profile input) fault
+
+-- what stands before the mark is not too long; with the sample nothing does
+abbrev pub IsShort : Bool → List ℕ → Type 0
+IsShort true input = Unit {0}
+IsShort false input = is_long (front_of input) ≡ false
+
+-- Of several faults that an input has this is the one that is told: that its front is too long before all others, then that it has no
+-- mark or that its front is no text, and those of the configuration and of the body only behind a front that is read. Reading and memory
+-- fail by themselves.
+abbrev pub ComesFirst : Bool → List ℕ → Fault → Type 0
+ComesFirst sample input faults.InputTooLong = Unit {0}
+ComesFirst sample input faults.Read = Unit {0}
+ComesFirst sample input faults.OutOfMemory = Unit {0}
+ComesFirst sample input faults.InputHasNoMark = IsShort sample input
+ComesFirst sample input faults.InputNotUtf8 = IsShort sample input
+ComesFirst sample input fault = HasFront sample input
+
+-- the last line of an input lacks its end, and is no mark behind so many bytes: it is too long, or they are with it, or there is no mark
+abbrev pub is_last_long : ℕ → List ℕ → Bool
+is_last_long before line = nat_lt LONGEST_LINE (length line) || nat_lt LONGEST_INPUT (before + length line)
+
+abbrev pub last_fault : ℕ → List ℕ → Fault
+last_fault before line = if is_last_long before line then faults.InputTooLong else faults.InputHasNoMark
 
 -- a front of whole lines, of which none is the mark and none too long, and what stands behind it
 pub record IsFront (front input rest : List ℕ) : Type 0 where

@@ -10,6 +10,7 @@ ghost use Rattle.ddr_capture.specs.Capture.{AreJudged, HasCaptureFault, IsCaptur
 ghost use Rattle.ddr_capture.specs.Captured.{HasRead, Read};
 ghost use Rattle.ddr_capture.specs.Feed.{Along, HasFound, IsWell, left};
 ghost use Rattle.ddr_capture.specs.Form.{is_missing};
+ghost use Rattle.ddr_capture.specs.Front.{ComesFirst};
 ghost use Rattle.ddr_capture.specs.Lines.{AreRead, IsNext, IsReadFault, StandsAt, line_fault, text_of};
 
 use crate::feed::{Feed, Found, Refusal, without_return};
@@ -42,8 +43,9 @@ const MOST_LINES: u64 = 0xffff_ffff_ffff_fffe;
 /// more than 4,096, or where there are 2^64 - 2 lines or more behind it, as `InputNotUtf8` where it is no text, by the first refusal
 /// of the configuration, as `TraceNoSuch` where the one channel is not there, as `CaptureLine` at a line that is of no form, too long
 /// or of a channel that is not there, and as `CaptureOrder` at an END that is not behind all commands and at what stands behind END;
-/// as `Read` where the reader fails and as `Write` where the writer does, and so never over bytes in memory. Nothing is written
-/// before the verdicts are there.
+/// as `Read` where the reader fails and as `Write` where the writer does, and so never over bytes in memory. Of several the first is
+/// told: too long a front, for which the whole input counts where it has no mark, then the missing mark, a front that is no text, the
+/// configuration's refusal, and what the lines are refused for. Nothing is written before the verdicts are there.
 pub fn capture<R: Source, W: Sink>(
     alloc: Global,
     sample: bool,
@@ -59,6 +61,7 @@ pub fn capture<R: Source, W: Sink>(
     ensures unmoved { IsErrOf result Fault.OutOfMemory → IsTrue W.may_fail → writer.new ≡ writer.old }
     ensures fault { IfErr result (λ fault. IfSome (R.remaining reader.old) (λ input.
         HasCaptureFault sample PROFILE_S.now form start input fault)) }
+    ensures first { IfErr result (λ fault. IfSome (R.remaining reader.old) (λ input. ComesFirst sample input fault)) }
     ensures written { IfOk result (λ legal. IfSome (R.remaining reader.old) (λ input.
         IsCaptured sample PROFILE_S.now form start input legal (W.contents writer.old) (W.contents writer.new))) }
 {
@@ -80,6 +83,7 @@ fn judge_all<R: Source>(
     ensures unwritten { ¬ IsErrOf result Fault.Write }
     ensures fault { IfErr result (λ fault. IfSome (R.remaining reader.old) (λ input.
         HasCaptureFault sample PROFILE_S.now form start input fault)) }
+    ensures first { IfErr result (λ fault. IfSome (R.remaining reader.old) (λ input. ComesFirst sample input fault)) }
     ensures judged { IfOk result (λ v. IfSome (R.remaining reader.old) (λ input.
         AreJudged sample PROFILE_S.now form start input v.items)) }
 {

@@ -6,7 +6,7 @@ ghost use Rattle.std.specs.Str.{bytes_eq};
 ghost use Rattle.std.specs.Str.Lines.{strip_carriage_return};
 ghost use Rattle.ddr_text.specs.Body.{HasConfigFault, IsConfig, is_mark};
 ghost use Rattle.ddr_capture.specs.Feed.{Along, HasFound, IsWell, left};
-ghost use Rattle.ddr_capture.specs.Front.{IsConfigRefused, IsFront, IsFrontRefused, IsFrontStep, IsMarked, IsOpened, front_fault};
+ghost use Rattle.ddr_capture.specs.Front.{ComesFirst, IsConfigRefused, IsFront, IsFrontRefused, IsFrontStep, IsMarked, IsOpened, front_fault, is_last_long, last_fault};
 
 use crate::feed::{Feed, Found, LONGEST_LINE, Refusal, without_return};
 use ddr_text::fault::Fault;
@@ -22,8 +22,8 @@ const MARK: &[u8] = b"---";
 /// The configuration of an input, of which nothing was read: with `sample` the sample, and else what stands before the first
 /// line `---`, behind which the input's lines then go on.
 ///
-/// Fails as `InputHasNoMark`, as `InputTooLong` where the configuration is longer than `LONGEST_INPUT` or has too long a line, as
-/// `InputNotUtf8`, by the first refusal of the configuration, as `Read` where the reader fails, and as `OutOfMemory`.
+/// Fails as `InputTooLong` where the configuration is longer than `LONGEST_INPUT` or has too long a line, else as `InputHasNoMark`, else
+/// as `InputNotUtf8`, and else by the first refusal of the configuration; as `Read` where the reader fails, and as `OutOfMemory`.
 pub(crate) fn read_config<R: Source>(
     alloc: Global,
     sample: bool,
@@ -34,6 +34,7 @@ pub(crate) fn read_config<R: Source>(
     ensures well { IsWell feed.new }
     ensures opened { IfOk result (λ config. Along (IsOpened sample PROFILE_S.now config) (left feed.old (R.remaining reader.old)) (left feed.new (R.remaining reader.new))) }
     ensures refused { IfErr result (λ fault. IfSome (left feed.old (R.remaining reader.old)) (λ input. IsConfigRefused sample PROFILE_S.now input fault)) }
+    ensures first { IfErr result (λ fault. IfSome (left feed.old (R.remaining reader.old)) (λ input. ComesFirst sample input fault)) }
     ensures sure { IsErrOf result Fault.Read → IsTrue R.may_fail }
     ensures unwritten { ¬ IsErrOf result Fault.Write }
 {
@@ -117,7 +118,7 @@ fn take_found(found: Found, line: &[u8], front: &mut Vec<u8>) -> Result<bool, Fa
 {
     match found {
         Found::Line => take_line(line, front),
-        Found::Last => take_last(line),
+        Found::Last => take_last(line, front.len()),
         Found::End => Err(Fault::InputHasNoMark),
     }
 }
@@ -143,15 +144,27 @@ fn take_line(line: &[u8], front: &mut Vec<u8>) -> Result<bool, Fault>
     }
 }
 
-/// Takes the last line, which lacks its end; answers whether it is the mark.
-fn take_last(line: &[u8]) -> Result<bool, Fault>
+/// Takes the last line, which lacks its end, behind so many bytes; answers whether it is the mark.
+fn take_last(line: &[u8], before: usize) -> Result<bool, Fault>
+    requires { before ≤ LONGEST_INPUT }
     ensures marked { IfOk result (λ marked. (marked ≡ true) × (bytes_eq line.now MARK.now ≡ true)) }
-    ensures refused { IfErr result (λ fault. (fault ≡ Fault.InputHasNoMark) × (bytes_eq line.now MARK.now ≡ false)) }
+    ensures refused { IfErr result (λ fault. (fault ≡ last_fault before line.now) × (bytes_eq line.now MARK.now ≡ false)) }
 {
     if line == MARK {
         return Ok(true);
     }
+    if is_last_long(line, before) {
+        return Err(Fault::InputTooLong);
+    }
     Err(Fault::InputHasNoMark)
+}
+
+/// Whether the last line, which lacks its end and is not the mark, is too long behind so many bytes.
+fn is_last_long(line: &[u8], before: usize) -> bool
+    requires { before ≤ LONGEST_INPUT }
+    ensures { result ≡ is_last_long before line.now }
+{
+    line.len() > LONGEST_LINE || before + line.len() > LONGEST_INPUT
 }
 
 /// Why no line was found in the configuration.

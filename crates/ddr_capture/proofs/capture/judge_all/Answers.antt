@@ -1,8 +1,10 @@
 use Rattle.std.proofs.Common.{sym, ◌∙◌, arith}
 use Rattle.std.proofs.lemmas.Result.{err_from_is_err_and}
 use Rattle.ddr_timing.specs.declared.profile.TheConstants.{PROFILE_S}
+use Rattle.ddr_text.specs.declared.fault.Fault.TheVariants as faults
 use Rattle.ddr_capture.specs.Feed.{waiting}
 use Rattle.ddr_capture.proofs.CaptureLemmas.{body_fault_said, front_fault_said, judged_said, missing_fault_said, nothing_waits}
+use Rattle.ddr_capture.proofs.FrontLemmas.{opened_first}
 use Rattle.ddr_capture.proofs.ReadLemmas.{told_there}
 use Rattle.ddr_capture.proofs.capture.judge_all.Goals as goal
 
@@ -48,3 +50,20 @@ returns-clause-judged g c =
     let last = c.last.ensures c.in_ok-config.config c.args.start said.read said.has in
     judged_said c.args.sample PROFILE_S.now c.args.form c.args.start (g.R.Read.remaining c.args.reader.now) _ c.in_ok-config.config said.read c.in_ok-verdicts.verdicts.items (rw all at c.in_ok-config.ensures.opened) said.said
     (rw (last, c.first_told-first.ensures, c.told_channels-channels.ensures) at (c.in_ok-verdicts.ensures c.in_ok-config.config c.args.start said.read.records said.has.judged))
+
+pub returns-in_err-config-clause-first : goal.returns-in_err-config-clause-first
+returns-in_err-config-clause-first g c =
+    let p = err_from_is_err_and c.from_residual.result c.from_residual.ensures.1 in
+    let all = nothing_waits (waiting c.new-feed.result) (g.R.Read.remaining c.args.reader.now) c.new-feed.ensures.nothing in
+    rw (p.1, p.2) (rw all at c.in_err-config.ensures.first)
+
+pub returns-in_err-reading-clause-first : goal.returns-in_err-reading-clause-first
+returns-in_err-reading-clause-first g c =
+    let p = err_from_is_err_and c.from_residual-in_err-reading.result c.from_residual-in_err-reading.ensures.1 in
+    let all = nothing_waits (waiting c.new-feed.result) (g.R.Read.remaining c.args.reader.now) c.new-feed.ensures.nothing in
+    rw (p.1, p.2) (opened_first c.args.sample PROFILE_S.now (g.R.Read.remaining c.args.reader.now) _ c.in_ok-config.config c.in_err-reading.field-0.0 (rw all at c.in_ok-config.ensures.opened))
+
+pub returns-then-is_missing-clause-first : goal.returns-then-is_missing-clause-first
+returns-then-is_missing-clause-first g c =
+    let all = nothing_waits (waiting c.new-feed.result) (g.R.Read.remaining c.args.reader.now) c.new-feed.ensures.nothing in
+    opened_first c.args.sample PROFILE_S.now (g.R.Read.remaining c.args.reader.now) _ c.in_ok-config.config faults.TraceNoSuch (rw all at c.in_ok-config.ensures.opened)
