@@ -6,7 +6,7 @@ use Rattle.ddr_timing.specs.declared.key.Key.{Key}
 use Rattle.ddr_timing.specs.declared.key.Key.TheVariants.{Channels, Ports, Window, Intake, Reads, Writes, Done, Low, High, Cap, Cl, Cwl, Rcd, Rp, Ras, Rc, RrdS, RrdL, Faw, CcdS, CcdL, WtrS, WtrL, Wr, Rtp, Rtw, Rfc, Refi, Ranks, Rtrs}
 use Rattle.ddr_timing.specs.declared.units.TheConstants.{BURST_CLOCKS}
 use Rattle.ddr_latency.specs.declared.clocks.Clocks.{Clocks}
-use Rattle.ddr_latency.specs.Latency.{alone}
+use Rattle.ddr_latency.specs.Latency.{alone, service}
 use Rattle.ddr_timing.specs.Tables.{number_of}
 use Rattle.ddr_findings.specs.declared.oddity.Oddity.{Oddity}
 use Rattle.ddr_findings.specs.declared.oddity.Oddity.TheVariants as odd
@@ -22,7 +22,7 @@ sides table keys left right = if are_sound table keys then Some (record { left =
 abbrev pub has_two_ranks : Members → Bool
 has_two_ranks table = is_sound table Ranks && number_of table Ranks == 2
 
--- the keys of the clocks of a request that meets a refresh, and of the refresh interval
+-- the keys of the clocks of a request, and of the refresh interval
 abbrev pub clock_keys : List Key
 clock_keys = Refi ∷ Cl ∷ Cwl ∷ Rcd ∷ Rp ∷ Ras ∷ Rc ∷ RrdL ∷ Faw ∷ CcdL ∷ WtrS ∷ WtrL ∷ Wr ∷ Rtp ∷ Rtw ∷ Rfc ∷ []
 
@@ -47,6 +47,14 @@ clocks_in n switch = record {
   switch = switch;
 }
 
+-- the clocks of a request that is served alone, with this switch between ranks, where all these keys are sound
+abbrev pub service_of : Members → List Key → ℕ → Option ℕ
+service_of table keys switch = if are_sound table keys then Some (service (clocks_in (number_of table) switch)) else None
+
+-- the same of the table's ranks
+abbrev pub service_in : Members → Option ℕ
+service_in table = if has_two_ranks table then service_of table (Rtrs ∷ clock_keys) (number_of table Rtrs) else service_of table clock_keys 1
+
 -- the comparison of each oddity: the keys that it speaks of, its left side and its right side
 abbrev pub sides_of : Members → Oddity → Option Sides
 sides_of table oddity = by_oddity (number_of table) oddity
@@ -68,6 +76,8 @@ sides_of table oddity = by_oddity (number_of table) oddity
         if has_two_ranks table then sides table (Rtrs ∷ clock_keys) (n Refi) (alone (clocks_in n (n Rtrs))) else sides table clock_keys (n Refi) (alone (clocks_in n 1))
     by_oddity n odd.CapMiss = sides table (Cap ∷ Rp ∷ Rcd ∷ []) (n Cap) (n Rp + n Rcd + 1)
     by_oddity n odd.CapRefresh = sides table (Cap ∷ Rfc ∷ []) (n Cap) (n Rfc + 1)
+    by_oddity n odd.CapService =
+        option_and_then (λ clocks. sides table (Cap ∷ Reads ∷ Writes ∷ []) (n Cap) ((n Reads + n Writes) * clocks)) (service_in table)
     by_oddity n odd.MarkGap = sides table (High ∷ Low ∷ []) (n High) (n Low + 2)
     by_oddity n odd.HighMark = sides table (Ports ∷ Window ∷ High ∷ []) (n Ports * n Window) (n High)
     by_oddity n odd.IntakeSize = sides table (Ports ∷ Window ∷ Intake ∷ []) (n Ports * n Window) (n Intake)
@@ -83,8 +93,8 @@ unfoldable pub oddities : List Oddity
 oddities =
     odd.RowCycle ∷ odd.RowTime ∷ odd.GroupOverCycle ∷ odd.FourActivates ∷ odd.GroupWriteToRead ∷ odd.ReadToWrite
     ∷ odd.WriteLatency ∷ odd.WriteRecovery ∷ odd.BurstGap ∷ odd.RankGap ∷ odd.RefreshCycle ∷ odd.RefreshShare
-    ∷ odd.RefreshRow ∷ odd.CapMiss ∷ odd.CapRefresh ∷ odd.MarkGap ∷ odd.HighMark ∷ odd.IntakeSize ∷ odd.ReadsSize
-    ∷ odd.WritesSize ∷ odd.DoneSize ∷ odd.DoneShort ∷ odd.WindowSize ∷ []
+    ∷ odd.RefreshRow ∷ odd.CapMiss ∷ odd.CapRefresh ∷ odd.CapService ∷ odd.MarkGap ∷ odd.HighMark ∷ odd.IntakeSize
+    ∷ odd.ReadsSize ∷ odd.WritesSize ∷ odd.DoneSize ∷ odd.DoneShort ∷ odd.WindowSize ∷ []
 
 -- the warning of a comparison, where its left side is below its right one
 abbrev pub warning_in : Oddity → Sides → Option Warning

@@ -1,7 +1,7 @@
 -- The words of the oddities.
 use Rattle.std.specs.Prelude.{codes, ℕ, List}
 use Rattle.ddr_findings.specs.declared.oddity.Oddity.{Oddity}
-use Rattle.ddr_findings.specs.declared.oddity.Oddity.TheVariants.{RowCycle, RowTime, GroupOverCycle, FourActivates, GroupWriteToRead, ReadToWrite, WriteLatency, WriteRecovery, BurstGap, RankGap, RefreshCycle, RefreshShare, RefreshRow, CapMiss, CapRefresh, MarkGap, HighMark, IntakeSize, ReadsSize, WritesSize, DoneSize, DoneShort, WindowSize}
+use Rattle.ddr_findings.specs.declared.oddity.Oddity.TheVariants.{RowCycle, RowTime, GroupOverCycle, FourActivates, GroupWriteToRead, ReadToWrite, WriteLatency, WriteRecovery, BurstGap, RankGap, RefreshCycle, RefreshShare, RefreshRow, CapMiss, CapRefresh, CapService, MarkGap, HighMark, IntakeSize, ReadsSize, WritesSize, DoneSize, DoneShort, WindowSize}
 
 -- the side that is the lower one
 abbrev pub left_of : Oddity → List ℕ
@@ -20,6 +20,7 @@ left_of RefreshShare = codes "refi"
 left_of RefreshRow = codes "refi"
 left_of CapMiss = codes "cap"
 left_of CapRefresh = codes "cap"
+left_of CapService = codes "cap"
 left_of MarkGap = codes "high"
 left_of HighMark = codes "ports * window"
 left_of IntakeSize = codes "ports * window"
@@ -46,6 +47,7 @@ right_of RefreshShare = codes "4 * rfc"
 right_of RefreshRow = codes "a refresh and a request"
 right_of CapMiss = codes "rp + rcd + 1"
 right_of CapRefresh = codes "rfc + 1"
+right_of CapService = codes "all pending requests one by one"
 right_of MarkGap = codes "low + 2"
 right_of HighMark = codes "high"
 right_of IntakeSize = codes "intake"
@@ -72,6 +74,7 @@ reason_of RefreshShare = codes "a rank would spend more than a quarter of its ti
 reason_of RefreshRow = codes "a request may wait for ever, since each refresh may close its row before it is read"
 reason_of CapMiss = codes "a request that has to close another row reaches the age cap before it can be served"
 reason_of CapRefresh = codes "each request that waits through a REF reaches the age cap"
+reason_of CapService = codes "under load every pending request may reach the age cap, and from then on each is served alone"
 reason_of MarkGap = codes "a drain may end behind a single write, and the data bus turns around for it"
 reason_of HighMark = codes "so many writes are never pending, so no drain begins"
 reason_of IntakeSize = codes "so many requests are never on their way to a channel"

@@ -41,6 +41,8 @@ pub enum Oddity {
     CapMiss,
     /// cap is no more than the clocks of a REF.
     CapRefresh,
+    /// cap is below the clocks of all requests that may be pending, each served alone: `service` of `ddr_latency`, so many times.
+    CapService,
     /// high is not two above low.
     MarkGap,
     /// high is above the requests that may be outstanding.
@@ -59,7 +61,7 @@ pub enum Oddity {
     WindowSize,
 }
 
-static ODDITIES: [Oddity; 23] = [
+static ODDITIES: [Oddity; 24] = [
     Oddity::RowCycle,
     Oddity::RowTime,
     Oddity::GroupOverCycle,
@@ -75,6 +77,7 @@ static ODDITIES: [Oddity; 23] = [
     Oddity::RefreshRow,
     Oddity::CapMiss,
     Oddity::CapRefresh,
+    Oddity::CapService,
     Oddity::MarkGap,
     Oddity::HighMark,
     Oddity::IntakeSize,
@@ -114,6 +117,7 @@ impl Oddity {
             Oddity::RefreshRow => "refi",
             Oddity::CapMiss => "cap",
             Oddity::CapRefresh => "cap",
+            Oddity::CapService => "cap",
             Oddity::MarkGap => "high",
             Oddity::HighMark => "ports * window",
             Oddity::IntakeSize => "ports * window",
@@ -145,6 +149,7 @@ impl Oddity {
             Oddity::RefreshRow => "a refresh and a request",
             Oddity::CapMiss => "rp + rcd + 1",
             Oddity::CapRefresh => "rfc + 1",
+            Oddity::CapService => "all pending requests one by one",
             Oddity::MarkGap => "low + 2",
             Oddity::HighMark => "high",
             Oddity::IntakeSize => "intake",
@@ -188,6 +193,8 @@ impl Oddity {
             Oddity::CapMiss =>
                 "a request that has to close another row reaches the age cap before it can be served",
             Oddity::CapRefresh => "each request that waits through a REF reaches the age cap",
+            Oddity::CapService =>
+                "under load every pending request may reach the age cap, and from then on each is served alone",
             Oddity::MarkGap =>
                 "a drain may end behind a single write, and the data bus turns around for it",
             Oddity::HighMark => "so many writes are never pending, so no drain begins",

@@ -2,13 +2,13 @@
 //!
 //! `table` and `oddity` stand below, and `warnings` compares the sides. A comparison is made where all keys that it speaks of
 //! are there and in range.
-ghost use Rattle.std.specs.Prelude.{◌≡◌, ◌≤◌, ℕ, IsTrue, true};
+ghost use Rattle.std.specs.Prelude.{◌≡◌, ◌≤◌, ℕ, IfSome, IsTrue, true};
 ghost use Rattle.toml.specs.View.{table_view};
 ghost use Rattle.ddr_latency.specs.Latency.{alone};
 ghost use Rattle.ddr_timing.specs.Keys.{domain_of};
 ghost use Rattle.ddr_timing.specs.Tables.{FitsIn, number_of, takes_number};
 ghost use Rattle.ddr_findings.specs.Sound.{are_sound, is_sound};
-ghost use Rattle.ddr_findings.specs.Warnings.{clock_keys, clocks_in, has_two_ranks, sides, sides_of};
+ghost use Rattle.ddr_findings.specs.Warnings.{clock_keys, clocks_in, has_two_ranks, service_in, service_of, sides, sides_of};
 
 use crate::oddity::Oddity;
 use crate::table::{are_sound, number};
@@ -38,6 +38,7 @@ pub(crate) fn sides(table: &Table, oddity: Oddity) -> Option<Sides>
         Oddity::RefreshRow => refreshed_request(table),
         Oddity::CapMiss => cap_miss(table),
         Oddity::CapRefresh => cap_refresh(table),
+        Oddity::CapService => cap_service(table),
         Oddity::MarkGap => mark_gap(table),
         Oddity::HighMark => high_mark(table),
         Oddity::IntakeSize => intake_size(table),
@@ -292,6 +293,42 @@ fn cap_refresh(table: &Table) -> Option<Sides>
         left: cap,
         right: rfc + 1,
     })
+}
+
+fn cap_service(table: &Table) -> Option<Sides>
+    ensures { result ≡ sides_of (table_view table.now) Oddity.CapService }
+{
+    let service = service_clocks(table)?;
+    let cap = number(table, Key::Cap)?;
+    let reads = number(table, Key::Reads)?;
+    let writes = number(table, Key::Writes)?;
+    Some(Sides {
+        left: cap,
+        right: (reads + writes) * service,
+    })
+}
+
+/// The clocks of a request that is served alone.
+fn service_clocks(table: &Table) -> Option<u32>
+    ensures exact { result ≡ service_in (table_view table.now) }
+    ensures bound { IfSome result (λ clocks. clocks ≤ 262144) }
+{
+    if has_two_ranks(table) {
+        let rtrs = number(table, Key::Rtrs)?;
+        return service_with(table, rtrs as u16);
+    }
+    service_with(table, 1)
+}
+
+/// The same with this switch between ranks.
+fn service_with(table: &Table, switch: u16) -> Option<u32>
+    ensures exact { result ≡ service_of (table_view table.now) clock_keys switch }
+    ensures bound { IfSome result (λ clocks. clocks ≤ 262144) }
+{
+    if are_sound(table, &CLOCK_KEYS) {
+        return Some(clocks(table, switch).service());
+    }
+    None
 }
 
 fn mark_gap(table: &Table) -> Option<Sides>

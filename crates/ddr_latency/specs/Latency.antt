@@ -20,6 +20,10 @@ row t = max (max (recovery t + t.rp) t.rc) (max t.rrd_l t.faw)
 abbrev pub column : Clocks → ℕ
 column t = max (max t.ccd_l t.rtw) (max (t.cwl + BURST_CLOCKS + max t.wtr_s t.wtr_l) (max t.cl t.cwl + BURST_CLOCKS + t.switch))
 
+-- the clocks of a request that is served alone, from the last command for another one on
+abbrev pub service : Clocks → ℕ
+service t = max (row t + t.rcd) (column t)
+
 -- the clocks of a request that no older one stands before, from the refresh on that it meets
 abbrev pub alone : Clocks → ℕ
 alone t = max (max (refresh t + t.rfc) (row t) + t.rcd) (column t)

@@ -1,6 +1,6 @@
 //! The clocks that a request takes which no older one stands before, and whether a refresh interval has so many.
-ghost use Rattle.std.specs.Prelude.{◌≡◌};
-ghost use Rattle.ddr_latency.specs.Latency.{alone, clocks_of, column, leaves_time, recovery, refresh, row};
+ghost use Rattle.std.specs.Prelude.{◌≡◌, ◌≤◌};
+ghost use Rattle.ddr_latency.specs.Latency.{alone, clocks_of, column, leaves_time, recovery, refresh, row, service};
 
 use ddr_timing::config::Config;
 use ddr_timing::units::BURST_CLOCKS;
@@ -59,7 +59,8 @@ impl Clocks {
 
     /// Behind which an ACT, a read or a write of a bank lets it be precharged.
     fn recovery(&self) -> u32
-        ensures { result ≡ recovery self.now }
+        ensures exact { result ≡ recovery self.now }
+        ensures bound { result ≤ 131074 }
     {
         let written = u32::from(self.cwl) + BURST_CLOCKS + u32::from(self.wr);
         u32::from(self.ras).max(written).max(u32::from(self.rtp))
@@ -75,7 +76,8 @@ impl Clocks {
 
     /// Behind which a bank lets a row be opened, its PRE included.
     fn row(&self) -> u32
-        ensures { result ≡ row self.now }
+        ensures exact { result ≡ row self.now }
+        ensures bound { result ≤ 196609 }
     {
         let closed = self.recovery() + u32::from(self.rp);
         let others = u32::from(self.rrd_l).max(u32::from(self.faw));
@@ -84,13 +86,24 @@ impl Clocks {
 
     /// Behind which an open row lets a line be read or written.
     fn column(&self) -> u32
-        ensures { result ≡ column self.now }
+        ensures exact { result ≡ column self.now }
+        ensures bound { result ≤ 131074 }
     {
         let kind = u32::from(self.ccd_l).max(u32::from(self.rtw));
         let turn = u32::from(self.wtr_s).max(u32::from(self.wtr_l));
         let written = u32::from(self.cwl) + BURST_CLOCKS + turn;
         let burst = u32::from(self.cl).max(u32::from(self.cwl)) + BURST_CLOCKS;
         kind.max(written.max(burst + u32::from(self.switch)))
+    }
+
+    /// The clocks from the last command for another request to the column command of one that is served alone, where no refresh comes
+    /// between: its bank is precharged, its row is opened, and read or written.
+    pub fn service(&self) -> u32
+        ensures exact { result ≡ service self.now }
+        ensures bound { result ≤ 262144 }
+    {
+        let opened = self.row() + u32::from(self.rcd);
+        opened.max(self.column())
     }
 
     /// The clocks from the cycle in which a refresh makes its rank overdue to the column command of a request that meets it, where

@@ -223,7 +223,7 @@ fn each_key_at_fault_is_told(rt: HostRuntime) -> Result<(), Fail> {
 }
 
 /// A request that meets a refresh takes max(max(10, 3 + 4 + 5, 3) + 4, 20) + 1 + 20 + 4 = 45 clocks in profile S, and with two ranks no
-/// fewer than 4 + 4 + rtrs.
+/// fewer than 4 + 4 + rtrs. In the last case one that is served alone takes 188 + 181 clocks.
 const TIMINGS: &[Case] = &[
     (
         &[("rc = 14", "rc = 13")],
@@ -304,6 +304,7 @@ warning: refi = 44 is below a refresh and a request = 45: a request may wait for
         Verdict::Strange,
         "warning: rfc = 50 is below rc = 188: a REF, which opens and closes rows of every bank, would take less than one row of one bank
 warning: refi = 230 is below a refresh and a request = 420: a request may wait for ever, since each refresh may close its row before it is read
+warning: cap = 1000 is below all pending requests one by one = 5904: under load every pending request may reach the age cap, and from then on each is served alone
 ",
     ),
 ];
@@ -314,13 +315,22 @@ fn strange_timings_are_told(rt: HostRuntime) -> Result<(), Fail> {
     Ok(())
 }
 
+/// A request that is served alone takes max(max(10, 3 + 4 + 5, 3) + 4, 14, 3, 12) + 4 = 20 clocks in profile S, and sixteen may be
+/// pending.
 const SIZES: &[Case] = &[
     (
         &[("cap = 1000", "cap = 8")],
         Verdict::Strange,
         "warning: cap = 8 is below rp + rcd + 1 = 9: a request that has to close another row reaches the age cap before it can be served
 warning: cap = 8 is below rfc + 1 = 21: each request that waits through a REF reaches the age cap
+warning: cap = 8 is below all pending requests one by one = 320: under load every pending request may reach the age cap, and from then on each is served alone
 ",
+    ),
+    (&[("cap = 1000", "cap = 320")], Verdict::Clean, ""),
+    (
+        &[("cap = 1000", "cap = 319")],
+        Verdict::Strange,
+        "warning: cap = 319 is below all pending requests one by one = 320: under load every pending request may reach the age cap, and from then on each is served alone\n",
     ),
     (
         &[("high = 6", "high = 3")],
@@ -368,13 +378,16 @@ const SECOND: &[Case] = &[
     (
         &[("rtrs = 2", "rtrs = 192")],
         Verdict::Strange,
-        "warning: the clocks of a burst = 4 is below rtrs = 192: a change of ranks would cost more than a whole burst\n",
+        "warning: the clocks of a burst = 4 is below rtrs = 192: a change of ranks would cost more than a whole burst
+warning: cap = 1000 is below all pending requests one by one = 3200: under load every pending request may reach the age cap, and from then on each is served alone
+",
     ),
     (
         &[("rtrs = 2", "rtrs = 193")],
         Verdict::Strange,
         "warning: the clocks of a burst = 4 is below rtrs = 193: a change of ranks would cost more than a whole burst
 warning: refi = 200 is below a refresh and a request = 201: a request may wait for ever, since each refresh may close its row before it is read
+warning: cap = 1000 is below all pending requests one by one = 3216: under load every pending request may reach the age cap, and from then on each is served alone
 ",
     ),
     (
