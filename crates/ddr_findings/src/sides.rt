@@ -2,7 +2,7 @@
 //!
 //! `table` and `oddity` stand below, and `warnings` compares the sides. A comparison is made where all keys that it speaks of
 //! are there and in range.
-ghost use Rattle.std.specs.Prelude.{◌≡◌, ◌≤◌, ℕ, IfSome, IsTrue, true};
+ghost use Rattle.std.specs.Prelude.{◌≡◌, ◌≤◌, ◌+◌, ◌*◌, ◌∷◌, [], ℕ, IfSome, IsTrue, true};
 ghost use Rattle.toml.specs.View.{table_view};
 ghost use Rattle.ddr_latency.specs.Latency.{alone};
 ghost use Rattle.ddr_timing.specs.Keys.{domain_of};
@@ -298,7 +298,18 @@ fn cap_refresh(table: &Table) -> Option<Sides>
 fn cap_service(table: &Table) -> Option<Sides>
     ensures { result ≡ sides_of (table_view table.now) Oddity.CapService }
 {
-    let service = service_clocks(table)?;
+    match service_clocks(table) {
+        Some(service) => cap_sides(table, service),
+        None => None,
+    }
+}
+
+/// The cap, and the clocks of all requests that may be pending, each of which is served alone in so many.
+fn cap_sides(table: &Table, service: u32) -> Option<Sides>
+    requires { service ≤ 262144 }
+    ensures { let t = table_view table.now in
+        result ≡ sides t (Key.Cap ∷ Key.Reads ∷ Key.Writes ∷ []) (number_of t Key.Cap) ((number_of t Key.Reads + number_of t Key.Writes) * service) }
+{
     let cap = number(table, Key::Cap)?;
     let reads = number(table, Key::Reads)?;
     let writes = number(table, Key::Writes)?;
