@@ -1,6 +1,6 @@
 mod CutLemmas
 mod FeedLemmas
 mod FrontLemmas
-mod LineLemmas
+pub mod LineLemmas
 mod ReadLemmas
-mod CaptureLemmas
+pub mod CaptureLemmas

@@ -34,7 +34,7 @@ pub last_of : (line : List ℕ) → 0 < length line → lines_of_parts (line ∷
 last_of line some = ap (λ (b : Bool). cond b [] (line ∷ [])) (ne_eqb (length line) 0 (λ none. omega (arith, none, some)))
 
 -- the line that was found is the first one
-lines_step : (f : Found) (text line behind : List ℕ) → IsFound f text line behind → f ≢ found.End → lines text ≡ text_of f line ∷ lines behind
+pub lines_step : (f : Found) (text line behind : List ℕ) → IsFound f text line behind → f ≢ found.End → lines text ≡ text_of f line ∷ lines behind
 lines_step found.Line text line behind is other = ap lines is.whole ∙ lines-line line behind is.unfed
 lines_step found.Last text line behind is other =
     ap lines is.whole ∙ ap lines_of_parts (slice_split_none is_feed line is.unfed) ∙ last_of line is.some ∙ ap (λ b. line ∷ lines b) (sym is.none)

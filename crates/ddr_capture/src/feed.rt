@@ -26,7 +26,7 @@ const MOST_KEPT: usize = 12_290;
 
 /// The bytes that were read of an input, and where the last line that was found lies in them.
 #[derive(Drop)]
-pub(crate) struct Feed {
+pub struct Feed {
     buffer: Vec<u8>,
     /// Where the line begins.
     start: usize,
@@ -38,7 +38,7 @@ pub(crate) struct Feed {
 
 /// What was found of an input.
 #[derive(Clone, Copy, Debug, PartialEq, Eq)]
-pub(crate) enum Found {
+pub enum Found {
     /// A line that a line feed ends.
     Line,
     /// The last line, which lacks its end.
@@ -49,7 +49,7 @@ pub(crate) enum Found {
 
 /// Why no line was found.
 #[derive(Clone, Copy, Debug, PartialEq, Eq)]
-pub(crate) enum Refusal {
+pub enum Refusal {
     /// The next line is longer than `LONGEST_LINE`.
     Line,
     Read,
@@ -66,7 +66,7 @@ impl From<AllocError> for Refusal {
 
 impl Feed {
     /// A feed of which nothing was read.
-    pub(crate) fn new(alloc: Global) -> Feed
+    pub fn new(alloc: Global) -> Feed
         ensures well { IsWell result }
         ensures nothing { waiting result ≡ [] }
     {
@@ -79,7 +79,7 @@ impl Feed {
     }
 
     /// The line that was found last.
-    pub(crate) fn line(&self) -> &[u8]
+    pub fn line(&self) -> &[u8]
         requires { IsWell self.now }
         ensures { result.now ≡ line_in self.now }
     {
@@ -88,7 +88,7 @@ impl Feed {
 
     /// Finds the next line. Fails as `Line` where it is too long, as `Read` where the reader fails, but for an interruption, which
     /// is tried again, and as `OutOfMemory`.
-    pub(crate) fn next<R: Source>(&mut self, reader: &mut R) -> Result<Found, Refusal>
+    pub fn next<R: Source>(&mut self, reader: &mut R) -> Result<Found, Refusal>
         requires { IsWell self.old }
         ensures well { IsWell self.new }
         ensures found { IfOk result (λ found. HasFound found (line_in self.new) (left self.old (R.remaining reader.old)) (left self.new (R.remaining reader.new))) }
@@ -207,7 +207,7 @@ fn feed_place(text: &[u8]) -> Option<usize>
 }
 
 /// A line without the carriage return at its end, if it has one.
-pub(crate) fn without_return(line: &[u8]) -> &[u8]
+pub fn without_return(line: &[u8]) -> &[u8]
     ensures { result.now ≡ strip_carriage_return line.now }
 {
     if !line.is_empty() && line[line.len() - 1] == b'\r' {

@@ -24,7 +24,7 @@ const MARK: &[u8] = b"---";
 ///
 /// Fails as `InputTooLong` where the configuration is longer than `LONGEST_INPUT` or has too long a line, else as `InputHasNoMark`, else
 /// as `InputNotUtf8`, and else by the first refusal of the configuration; as `Read` where the reader fails, and as `OutOfMemory`.
-pub(crate) fn read_config<R: Source>(
+pub fn read_config<R: Source>(
     alloc: Global,
     sample: bool,
     feed: &mut Feed,

@@ -8,9 +8,9 @@
 
 pub mod capture;
 mod cuts;
-mod feed;
+pub mod feed;
 pub mod form;
-mod front;
+pub mod front;
 mod hexadecimal;
 pub mod line;
 mod number;
