@@ -1,13 +1,11 @@
--- What is written is the picture of the input's trace.
+-- What is written is the dump of the input's trace.
 use Rattle.std.proofs.Common.{◌≡◌, ℕ, Bool, List, Option, Some, None, Ok, subst}
 use Rattle.std.specs.Prelude.{IfSome}
 use Rattle.std.specs.Io.KnownBytes.{Appends}
 use Rattle.ddr_timing.specs.declared.config.Config.{Config}
 use Rattle.ddr_trace.specs.Traces.{Recorded}
 use Rattle.ddr_text.specs.Check.{SaysTrace}
-use Rattle.ddr_draw.specs.Drawn.{IsPictured, IsView, IsDumped}
-use Rattle.ddr_draw.specs.declared.view.View.{View}
-use Rattle.ddr_draw.specs.Lanes.{picture_text}
+use Rattle.ddr_draw.specs.Drawn.{IsDumped}
 use Rattle.ddr_draw.specs.Waves.{waves_text}
 
 pub dumped : (remaining : Option (List ℕ)) (profile : List ℕ) (sample : Bool) (config : Config) (trace : Recorded) (text : List ℕ) (old new : Option (List ℕ)) → IfSome remaining (λ input. SaysTrace sample profile input config (Ok trace))
@@ -17,17 +15,5 @@ dumped (Some input) profile sample config trace text old new says told written =
   config = config;
   trace = trace;
   says = says;
-  written = subst (Appends old new) told written;
-}
-
-pub pictured : (remaining : Option (List ℕ)) (profile : List ℕ) (sample : Bool) (config : Config) (trace : Recorded) (from to : Option ℕ) (view : View) (text : List ℕ) (old new : Option (List ℕ)) → IfSome remaining (λ input. SaysTrace sample profile input config (Ok trace))
-    → IsView from to trace.start trace.end view → text ≡ picture_text config view trace.entries → Appends old new text → IfSome remaining (λ input. IsPictured sample profile input from to old new)
-pictured None profile sample config trace from to view text old new says shown told written = tt
-pictured (Some input) profile sample config trace from to view text old new says shown told written = record {
-  config = config;
-  trace = trace;
-  says = says;
-  view = view;
-  shown = shown;
   written = subst (Appends old new) told written;
 }

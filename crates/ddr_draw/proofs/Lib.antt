@@ -4,4 +4,8 @@ pub mod WaitLemmas
 pub mod ForbidLemmas
 pub mod BankLemmas
 pub mod BoxLemmas
+pub mod SketchLemmas
+pub mod KeptLemmas
+pub mod LongLemmas
+pub mod PartLemmas
 pub mod DrawnLemmas

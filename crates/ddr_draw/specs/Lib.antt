@@ -12,3 +12,7 @@ pub mod Held
 pub mod Told
 pub mod Waits
 pub mod Lanes
+pub mod Sketch
+pub mod Long
+pub mod Ahead
+pub mod Part

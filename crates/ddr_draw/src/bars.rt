@@ -1,6 +1,6 @@
 //! The bars of a picture of lanes: open rows in the lanes of their banks, and bursts in that of the data bus.
 //!
-//! `period`, `scale`, `colours` and `shapes` stand below, and `lanes` above.
+//! `period`, `scale`, `colours` and `shapes` stand below, and `lanes` and `kept_bars` above.
 ghost use Rattle.std.specs.Prelude.{◌≡◌, ◌<◌, ◌^◌, IfOk, string_bytes, true};
 ghost use Rattle.ddr_trace.specs.Rules.{is_in};
 ghost use Rattle.ddr_draw.specs.Lanes.{bars, burst, burst_shape, burst_title, open_row, row_bar, row_name, row_shape, row_title, way};
@@ -57,7 +57,7 @@ fn open_row(
 
 /// The bar of a row that is open from the ACT on, up to that cycle, as far as it is in the view.
 #[tactic(auto, unfolding(crate::specs::Lanes::row_bar))]
-fn row_bar(
+pub(crate) fn row_bar(
     alloc: Global,
     config: &Config,
     view: &View,
@@ -142,7 +142,12 @@ fn burst(
 
 /// The shape of a burst, with which way the data go, and the bank, as far as it has room for them.
 #[tactic(auto, unfolding(crate::specs::Lanes::burst_shape))]
-fn burst_shape(alloc: Global, x: u64, width: u64, command: &Command) -> Result<String, AllocError>
+pub(crate) fn burst_shape(
+    alloc: Global,
+    x: u64,
+    width: u64,
+    command: &Command,
+) -> Result<String, AllocError>
     requires { x < 2 ^ 40 }
     ensures { IfOk result (λ text. string_bytes text ≡ burst_shape x width command.now) }
 {

@@ -1,14 +1,16 @@
 //! The commands in a picture of lanes: a box for each on the command bus, and one in the lane of its bank or over all those of its
 //! rank.
 //!
-//! `waited`, `told`, `scale`, `colours` and `shapes` stand below, and `lanes` above.
+//! `waited`, `told`, `scale`, `colours` and `shapes` stand below, and `lanes` and `kept_boxes` above.
 ghost use Rattle.std.specs.Prelude.{◌≡◌, ◌<◌, ◌^◌, ◌&&◌, IfOk, string_bytes};
 ghost use Rattle.ddr_trace.specs.Rules.{is_in};
 ghost use Rattle.ddr_draw.specs.Lanes.{bank_box, bank_shape, box_height, bus_box, bus_shape, busy_until, column_text, command_at, commands, is_of_rank, lasts, place_text, title};
 ghost use Rattle.ddr_draw.specs.Names.{after};
 ghost use Rattle.ddr_draw.specs.Scale.{is_seen};
+ghost use Rattle.ddr_draw.specs.Sketch.{box_by, has_box, title_by};
 
 use crate::colours::fill_of;
+use crate::held::Held;
 use crate::names::{after, bank_name, command_name};
 use crate::scale::{CLOCK_WIDTH, COMMAND_LANE, LANE_HEIGHT, lane_top, top_of};
 use crate::shapes::{area, label, rectangle};
@@ -54,13 +56,38 @@ fn command_at(
 ) -> Result<String, AllocError>
     ensures { IfOk result (λ text. string_bytes text ≡ command_at config.now view.now history.now place entry.now) }
 {
-    if !is_on_bus(view, entry) && !is_in_bank(config, view, entry) {
+    if !has_box(config, view, entry) {
         return Ok(String::new(alloc));
     }
     let title = title(alloc, config, history, place, entry)?;
     let bus = bus_box(alloc, view, entry, title.as_str())?;
     let bank = bank_box(alloc, config, view, entry, title.as_str())?;
     format!(in alloc; "{bus}{bank}")
+}
+
+/// The boxes of the command at that place, as far as they are in the view, where it is known what it waited for.
+#[tactic(auto, unfolding(crate::specs::Sketch::box_by))]
+pub(crate) fn box_by(
+    alloc: Global,
+    config: &Config,
+    view: &View,
+    place: usize,
+    entry: &Entry,
+    held: Option<Held>,
+) -> Result<String, AllocError>
+    ensures { IfOk result (λ text. string_bytes text ≡ box_by config.now view.now place entry.now held) }
+{
+    let title = title_by(alloc, place, entry, held)?;
+    let bus = bus_box(alloc, view, entry, title.as_str())?;
+    let bank = bank_box(alloc, config, view, entry, title.as_str())?;
+    format!(in alloc; "{bus}{bank}")
+}
+
+/// Whether the command has a box in the view.
+pub(crate) fn has_box(config: &Config, view: &View, entry: &Entry) -> bool
+    ensures { result ≡ has_box config.now view.now entry.now }
+{
+    is_on_bus(view, entry) || is_in_bank(config, view, entry)
 }
 
 /// Whether the command's cycle is in the view.
@@ -182,7 +209,7 @@ fn is_of_rank(command: &Command) -> bool
 }
 
 /// A command with its place, and what it waited for.
-#[tactic(auto, unfolding(crate::specs::Lanes::title))]
+#[tactic(auto, unfolding(crate::specs::Lanes::title, crate::specs::Sketch::title_by))]
 fn title(
     alloc: Global,
     config: &Config,
@@ -192,9 +219,22 @@ fn title(
 ) -> Result<String, AllocError>
     ensures { IfOk result (λ text. string_bytes text ≡ title config.now history.now place entry.now) }
 {
+    title_by(alloc, place, entry, held_by(config, history, entry))
+}
+
+/// A command with its place, and what it is known to have waited for.
+#[tactic(auto, unfolding(crate::specs::Sketch::title_by))]
+fn title_by(
+    alloc: Global,
+    place: usize,
+    entry: &Entry,
+    held: Option<Held>,
+) -> Result<String, AllocError>
+    ensures { IfOk result (λ text. string_bytes text ≡ title_by place entry.now held) }
+{
     let command = at_text(alloc, place, entry)?;
     let words = place_text(alloc, &entry.command)?;
-    let held = held_text(alloc, entry, held_by(config, history, entry))?;
+    let held = held_text(alloc, entry, held)?;
     format!(in alloc; "{command}: {words}{held}")
 }
 

@@ -1,15 +1,14 @@
 //! The command `draw`: a configuration and a trace's text in, a picture of the trace out.
 //!
-//! `waves`, `lanes` and `check` of `ddr_text` stand below, and the program above.
-ghost use Rattle.std.specs.Prelude.{◌≡◌, IfErr, IfOk, IfSome, IsErrOf, IsTrue, string_bytes};
+//! `waves`, `part` and `check` of `ddr_text` stand below, and the program above.
+ghost use Rattle.std.specs.Prelude.{◌≡◌, IfErr, IfOk, IfSome, IsErrOf, IsTrue, None, string_bytes};
 ghost use Rattle.ddr_text.specs.Check.{HasCheckFault};
 ghost use Rattle.ddr_text.specs.Fault.{is_before_output};
-ghost use Rattle.ddr_draw.specs.Drawn.{IsPictured, IsView, IsDumped};
-ghost use Rattle.ddr_draw.specs.Lanes.{picture_text};
+ghost use Rattle.ddr_draw.specs.Drawn.{IsDumped};
+ghost use Rattle.ddr_draw.specs.Part.{AreLanes, HasDrawFault, HasWholeFault, IsDrawnText, IsShortText};
 ghost use Rattle.ddr_draw.specs.Waves.{waves_text};
 
-use crate::lanes::picture_text;
-use crate::view::View;
+use crate::part::{part_text, picture_of, view_of};
 use crate::waves::waves_text;
 use ddr_text::check::read_checked;
 use ddr_text::fault::Fault;
@@ -75,8 +74,12 @@ fn dump_of(alloc: Global, config: &Config, trace: &Trace) -> Result<String, Allo
 /// line in the trace's text and its place are told, and what it waited for: of the rules on distances the one that allowed it last, by
 /// the `MOST_BACK` commands before it. A command of a place that the memory lacks stands on the buses alone.
 ///
-/// The input is that of `check`, and it fails as `check` does. Nothing is written before the whole text is there, so only
-/// `Write` may leave a part of it.
+/// The input is that of `check`, and it fails as `check` does, but that a whole trace of more than 65,536 commands fails as
+/// `DrawTooLong`. Where `from` or `to` is named a trace may have any length. One that is too long for `check` is then read line by
+/// line, in the form in which `check --stream` reads this project's traces and without empty lines and comments; the picture is that
+/// of the whole of it, and the memory that it takes is that of what the picture shows, besides as much as `check` takes.
+///
+/// Nothing is written before the whole text is there, so only `Write` may leave a part of it.
 pub fn lanes<R: Source, W: Sink>(
     alloc: Global,
     sample: bool,
@@ -91,32 +94,53 @@ pub fn lanes<R: Source, W: Sink>(
     ensures spared { IsErrOf result Fault.OutOfMemory → W.contents writer.new ≡ W.contents writer.old }
     ensures unmoved { IsErrOf result Fault.OutOfMemory → IsTrue W.may_fail → writer.new ≡ writer.old }
     ensures fault { IfErr result (λ fault. IfSome (R.remaining reader.old) (λ input.
-        HasCheckFault sample PROFILE_S.now input fault)) }
+        HasDrawFault sample PROFILE_S.now input from to fault)) }
     ensures written { IfOk result (λ _. IfSome (R.remaining reader.old) (λ input.
-        IsPictured sample PROFILE_S.now input from to (W.contents writer.old) (W.contents writer.new))) }
+        AreLanes sample PROFILE_S.now input from to (W.contents writer.old) (W.contents writer.new))) }
 {
-    let (config, trace) = read_checked(alloc, sample, reader)?;
-    let view = view_of(&trace, from, to);
-    let text = picture_of(alloc, &config, &view, &trace)?;
+    let text = lanes_text(alloc, sample, from, to, reader)?;
     write_whole(writer, text.as_str())?;
     Ok(())
 }
 
-/// The cycles of the trace that are asked for.
-fn view_of(trace: &Trace, from: Option<u64>, to: Option<u64>) -> View
-    ensures { let t = trace.now in IsView from to t.start t.end result }
+/// The picture of the whole trace, or of the part that is asked for.
+fn lanes_text<R: Source>(
+    alloc: Global,
+    sample: bool,
+    from: Option<u64>,
+    to: Option<u64>,
+    reader: &mut R,
+) -> Result<String, Fault>
+    ensures sure { IsErrOf result Fault.Read → IsTrue R.may_fail }
+    ensures unwritten { ¬ IsErrOf result Fault.Write }
+    ensures fault { IfErr result (λ fault. IfSome (R.remaining reader.old) (λ input.
+        HasDrawFault sample PROFILE_S.now input from to fault)) }
+    ensures said { IfOk result (λ text. IfSome (R.remaining reader.old) (λ input.
+        IsDrawnText sample PROFILE_S.now input from to (string_bytes text))) }
 {
-    View::new(trace.start, trace.end, from, to)
+    if from.is_none() && to.is_none() {
+        whole_text(alloc, sample, reader)
+    } else {
+        part_text(alloc, sample, from, to, reader)
+    }
 }
 
-/// The picture of these cycles of a trace.
-fn picture_of(
-    alloc: Global,
-    config: &Config,
-    view: &View,
-    trace: &Trace,
-) -> Result<String, AllocError>
-    ensures { IfOk result (λ text. string_bytes text ≡ picture_text config.now view.now trace.now.entries) }
+/// The picture of the whole trace.
+fn whole_text<R: Source>(alloc: Global, sample: bool, reader: &mut R) -> Result<String, Fault>
+    ensures sure { IsErrOf result Fault.Read → IsTrue R.may_fail }
+    ensures unwritten { ¬ IsErrOf result Fault.Write }
+    ensures fault { IfErr result (λ fault. IfSome (R.remaining reader.old) (λ input.
+        HasWholeFault sample PROFILE_S.now input fault)) }
+    ensures said { IfOk result (λ text. IfSome (R.remaining reader.old) (λ input.
+        IsShortText sample PROFILE_S.now input None None (string_bytes text))) }
 {
-    picture_text(alloc, config, view, trace.entries.as_slice())
+    match read_checked(alloc, sample, reader) {
+        Ok((config, trace)) => {
+            let view = view_of(&trace, None, None);
+            let text = picture_of(alloc, &config, &view, &trace)?;
+            Ok(text)
+        }
+        Err(Fault::TraceTooLong) => Err(Fault::DrawTooLong),
+        Err(fault) => Err(fault),
+    }
 }

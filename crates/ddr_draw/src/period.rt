@@ -1,9 +1,9 @@
 //! When the row of an ACT is closed, and when the data of a read or a write are on the bus.
 //!
-//! `names` stands below, and `changes`, `bars` and `starts` above.
+//! `names` stands below, and `changes`, `bars`, `kept_bars` and `starts` above.
 ghost use Rattle.std.specs.Prelude.{◌≡◌};
 ghost use Rattle.ddr_trace.specs.Banks.{recovery};
-ghost use Rattle.ddr_draw.specs.Changes.{burst_end, burst_start, burst_until, closed_at, closed_by, is_closing, is_followed, next_closing, next_column};
+ghost use Rattle.ddr_draw.specs.Changes.{burst_end, burst_start, burst_until, burst_until_of, closed_at, closed_by, is_closing, is_followed, next_closing, next_column};
 
 use crate::names::{after, is_activate, is_auto, is_column, is_precharge, is_read, is_same_bank};
 use ddr_timing::timing::Timing;
@@ -32,7 +32,7 @@ fn next_closing(act: &Command, later: &[Entry]) -> Option<Entry>
 }
 
 /// Whether the command ends what the ACT opened.
-fn is_closing(act: &Command, command: &Command) -> bool
+pub(crate) fn is_closing(act: &Command, command: &Command) -> bool
     ensures { result ≡ is_closing act.now command.now }
 {
     is_same_bank(command, act)
@@ -40,7 +40,7 @@ fn is_closing(act: &Command, command: &Command) -> bool
 }
 
 /// The cycle at which the entry closes the row of the ACT.
-fn closed_by(timing: &Timing, act: &Entry, entry: &Entry) -> u64
+pub(crate) fn closed_by(timing: &Timing, act: &Entry, entry: &Entry) -> u64
     ensures { result ≡ closed_by timing.now act.now entry.now }
 {
     if is_auto(&entry.command) {
@@ -85,7 +85,14 @@ pub(crate) fn burst_end(timing: &Timing, entry: &Entry) -> u64
 pub(crate) fn burst_until(timing: &Timing, entry: &Entry, later: &[Entry]) -> u64
     ensures { result ≡ burst_until timing.now entry.now later.now }
 {
-    match next_column(later) {
+    burst_until_next(timing, entry, next_column(later))
+}
+
+/// The cycle up to which the burst of a read or a write is on the bus, by the next one.
+pub(crate) fn burst_until_next(timing: &Timing, entry: &Entry, next: Option<Entry>) -> u64
+    ensures { result ≡ burst_until_of timing.now entry.now next }
+{
+    match next {
         Some(next) if is_followed(timing, entry, Some(next)) => burst_start(timing, &next),
         _ => burst_end(timing, entry),
     }
