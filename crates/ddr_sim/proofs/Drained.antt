@@ -30,6 +30,7 @@ use Rattle.ddr_sim.specs.Runs.{all_followed, begun, channels_ended, ended, ports
 use Rattle.ddr_sim.proofs.Reached.{IsRequest, IsUnendedPort, IsReached, IsServedRun, ok_then, opening_of, run_reached}
 use Rattle.ddr_sim.proofs.StepCounts.{slice_get-set}
 
+-- the element of a place that is there
 some_at : {X : Type 0} (xs : List X) (i : ℕ) → i < length xs → (x : X) × (slice_get xs i ≡ Some x)
 some_at [] i within = absurd (omega (arith, within))
 some_at (x ∷ xs) zero within = (x, refl)
@@ -173,12 +174,12 @@ noted_side p side = after_take (item.End p) (queued (item.End p) side)
 abbrev ended_state : State → ℕ → ℕ → PortSide → ChannelSide → State
 ended_state s p c port side = record { ports = slice_set s.ports p (after_end c port); channels = slice_set s.channels c (noted_side p side) }
 
-take_step : (config : Config) (s : State) (p c : ℕ) (old side : ChannelSide) → slice_get s.channels c ≡ Some old → side.requests ≡ [] → side.channel.pending ≡ []
+take_step : (s : State) (p c : ℕ) (side : ChannelSide) → slice_get s.channels c ≡ Some side → side.requests ≡ [] → side.channel.pending ≡ []
     → step (with_channel c (queued (item.End p) side) s) (Take c) ≡ made (with_channel c (noted_side p side) (with_channel c (queued (item.End p) side) s)) outcome.Taken
-take_step config s p c old side was empty idle =
+take_step s p c side was empty idle =
     let held = queued (item.End p) side in
     let now = with_channel c held s in
-    ap (take_from now c) (slice_get-set s.channels c old held was)
+    ap (take_from now c) (slice_get-set s.channels c side held was)
     ∙ ap (λ (items : List Item). take_items now c held (items ++ item.End p ∷ [])) empty
     ∙ ap (λ b. change_channel now c outcome.Taken (cond b (Err refusal.QueueFull) (Ok (noted_side p side)))) (never_full side idle)
 
@@ -190,7 +191,7 @@ ended_is config s p c port side k there found fresh =
     let pushed_at = with_channel c held begun_at in
     let idle = All-at (IsSideIdle config) s.channels c side k.channels found in
     ap (λ (r : Step). after (after_step s r) (Take c)) (end_step config s p c port side false k there found fresh)
-    ∙ ap (after_step pushed_at) (take_step config begun_at p c side side found idle.requests idle.pending)
+    ∙ ap (after_step pushed_at) (take_step begun_at p c side found idle.requests idle.pending)
     ∙ ap (λ (sides : List ChannelSide). record begun_at { channels = sides }) (set-set s.channels c held (noted_side p side))
 
 ended_noted : (config : Config) (s : State) (p c : ℕ) (port : PortSide) (side : ChannelSide) → IsEnding config s → slice_get s.ports p ≡ Some port → slice_get s.channels c ≡ Some side
