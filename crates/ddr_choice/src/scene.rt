@@ -140,7 +140,9 @@ impl Scene {
         self.legality.reserve_entry().ok()?;
         self.legality.may(command).ok()?;
         self.legality.record(command);
-        self.wait_until(cycle + 1);
+        if self.legality.now() < CLOCK_STOP {
+            self.legality.tick();
+        }
         Some(())
     }
 
