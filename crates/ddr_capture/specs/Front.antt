@@ -78,10 +78,11 @@ ComesFirst sample input faults.InputHasNoMark = IsShort sample input
 ComesFirst sample input faults.InputNotUtf8 = IsShort sample input
 ComesFirst sample input fault = HasFront sample input
 
--- the last line of an input lacks its end, and is no mark behind so many bytes: it is too long, or they are with it, or there is no mark
+-- the last line, which lacks its end, is longer than any that is read, or too much stands before it to take it up
 abbrev pub is_last_long : ℕ → List ℕ → Bool
 is_last_long before line = nat_lt LONGEST_LINE (length line) || nat_lt LONGEST_INPUT (before + length line)
 
+-- why an input is refused whose last line lacks its end, and is not the mark
 abbrev pub last_fault : ℕ → List ℕ → Fault
 last_fault before line = if is_last_long before line then faults.InputTooLong else faults.InputHasNoMark
 
