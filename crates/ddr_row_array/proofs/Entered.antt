@@ -77,7 +77,7 @@ place_at-set slots k l p t within is long i m =
     ]
 
 -- ---- what is kept
-pub IsKept-same : (old new : Store) → IsKept old → SameStore old new → new.unentered ≡ old.unentered → length new.lines.items + new.unentered ≤ new.lines.capacity → new.lines.capacity ≤ 2 ^ 53 → IsKept new
+pub IsKept-same : (old new : Store) → IsKept old → SameStore old new → new.unentered ≡ old.unentered → length new.lines.items + new.unentered ≤ new.lines.capacity → new.lines.capacity ≤ 2 ^ 57 → IsKept new
 IsKept-same old new kept same counted room bounded = record {
   narrow = rw same.width kept.narrow;
   zeros = rw same.lines kept.zeros;

@@ -47,7 +47,7 @@ table_at_end : (width : ℕ) (words more : List ℕ) → length more ≡ width �
 table_at_end width words more long = ap (take width) (drop_at words more (length words) refl) ∙ take_all width more (omega arith)
 
 -- ---- what is kept
-pub IsTabled-same : (old new : Inside) → IsTabled old → new.width ≡ old.width → new.rows.items ≡ old.rows.items → new.words.items ≡ old.words.items → new.untabled ≡ old.untabled → old.words.capacity ≤ new.words.capacity → new.words.capacity ≤ 2 ^ 53 → IsTabled new
+pub IsTabled-same : (old new : Inside) → IsTabled old → new.width ≡ old.width → new.rows.items ≡ old.rows.items → new.words.items ≡ old.words.items → new.untabled ≡ old.untabled → old.words.capacity ≤ new.words.capacity → new.words.capacity ≤ 2 ^ 57 → IsTabled new
 IsTabled-same old new sound width rows words untabled more bounded = record {
   narrow = rw width sound.narrow;
   zeros = rw (width, words) sound.zeros;
@@ -64,7 +64,7 @@ zeros_first a sound =
     let long = ap length sound.zeros ∙ length-replicate {A = ℕ} a.width 0 in
     omega (arith, length-take a.width (drop 0 a.words.items), length-drop 0 a.words.items)
 
-pub IsTabled-new : (a : Inside) → a.width < 2 ^ 32 → a.rows.items ≡ [] → a.words.items ≡ replicate a.width 0 → a.untabled ≡ 0 → a.width ≤ a.words.capacity → a.words.capacity ≤ 2 ^ 53 → IsTabled a
+pub IsTabled-new : (a : Inside) → a.width < 2 ^ 32 → a.rows.items ≡ [] → a.words.items ≡ replicate a.width 0 → a.untabled ≡ 0 → a.width ≤ a.words.capacity → a.words.capacity ≤ 2 ^ 57 → IsTabled a
 IsTabled-new a narrow rows words untabled room bounded = record {
   narrow = narrow;
   zeros = rw words (take_all a.width (replicate a.width 0) (omega (arith, length-replicate {A = ℕ} a.width 0)));

@@ -8,7 +8,7 @@ use Rattle.ddr_row_array.specs.Arena.{Reserved}
 
 -- how many items a block has memory for
 abbrev pub block_items : ℕ
-block_items = 8192
+block_items = 131072
 
 module _ {T : Type 0} where
   -- the items of the blocks, one block behind the other

@@ -32,7 +32,7 @@ pub record IsKept (s : Store) : Type 0 where
   -- there is room for each line that was not entered
   pub counted : s.unentered ≡ sum_by unentered_in s.slots.items
   pub room : length s.lines.items + s.unentered ≤ s.lines.capacity
-  pub bounded : s.lines.capacity ≤ 2 ^ 53
+  pub bounded : s.lines.capacity ≤ 2 ^ 57
 
 -- there is room for one more row, and each of its lines
 pub record HasRoom (s : Store) : Type 0 where

@@ -36,4 +36,4 @@ pub record IsTabled (a : Inside) : Type 0 where
   -- there is room for each table that was not made
   pub counted : a.untabled ≡ sum_by (untabled_in a.width) a.rows.items
   pub room : length a.words.items + a.untabled ≤ a.words.capacity
-  pub bounded : a.words.capacity ≤ 2 ^ 53
+  pub bounded : a.words.capacity ≤ 2 ^ 57

@@ -8,9 +8,10 @@ ghost use Rattle.std.specs.Borrow.{sem};
 use std::alloc::{AllocError, Global};
 use std::marker::Model;
 
-/// How many items have memory in one block: a word for each line of 64 rows of 1,024 columns (this project's
-/// choice).
-const BLOCK_ITEMS: usize = 8192;
+/// How many items have memory in one block: as many as 1,024 rows of 1,024 columns have lines (this project's choice).
+/// Of smaller blocks the C library hands most back to the system once they are let go, which costs page faults where a
+/// process opens another list.
+const BLOCK_ITEMS: usize = 131_072;
 
 /// The most blocks that a list has: as many items as have addresses on no machine (this project's choice).
 const MOST_BLOCKS: usize = 1 << 40;
@@ -65,7 +66,7 @@ impl<T: Drop> Arena<T> {
         requires { room < 2 ^ 63 }
         ensures items { self.new.items ≡ self.old.items }
         ensures kept { self.old.capacity ≤ self.new.capacity }
-        ensures bounded { self.new.capacity ≤ 2 ^ 53 }
+        ensures bounded { self.new.capacity ≤ 2 ^ 57 }
         ensures room { OnOk result (length self.old.items + room ≤ self.new.capacity) }
         ensures full { OnErr result (self.old.capacity < length self.old.items + room) }
     {

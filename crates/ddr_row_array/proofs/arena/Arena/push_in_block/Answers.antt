@@ -20,16 +20,16 @@ taken false x y z there is = absurd (let f : false ≡ true = there in cc)
 pub index_mut-block-requires : goal.index_mut-block-requires
 index_mut-block-requires g c =
     let a = c.self.inside in
-    let asked : length (items_of a.blocks.items) + c.args.count ≤ vec_len a.blocks * 8192 = rw (← c.self.view_is) at c.requires.room in
+    let asked : length (items_of a.blocks.items) + c.args.count ≤ vec_len a.blocks * 131072 = rw (← c.self.view_is) at c.requires.room in
     let some = c.requires.some in
     end_at a c.self.invariant (omega (arith, asked, some))
 
 pub prove-unreachable-requires : goal.prove-unreachable-requires
 prove-unreachable-requires g c =
     let a = c.self.inside in
-    let asked : length (items_of a.blocks.items) + c.args.count ≤ vec_len a.blocks * 8192 = rw (← c.self.view_is) at c.requires.room in
+    let asked : length (items_of a.blocks.items) + c.args.count ≤ vec_len a.blocks * 131072 = rw (← c.self.view_is) at c.requires.room in
     let some = c.requires.some in
-    let room : length (items_of a.blocks.items) < vec_len a.blocks * 8192 = omega (arith, asked, some) in
+    let room : length (items_of a.blocks.items) < vec_len a.blocks * 131072 = omega (arith, asked, some) in
     let b = c.index_mut-block.result.now in
     let is = c.index_mut-block.ensures.value in
     let long = end_long a c.self.invariant room b is in
@@ -44,7 +44,7 @@ prove-unreachable-requires g c =
 pub overflow_add-self : goal.overflow_add-self
 overflow_add-self g c =
     let a = c.self.inside in
-    let asked : length (items_of a.blocks.items) + c.args.count ≤ vec_len a.blocks * 8192 = rw (← c.self.view_is) at c.requires.room in
+    let asked : length (items_of a.blocks.items) + c.args.count ≤ vec_len a.blocks * 131072 = rw (← c.self.view_is) at c.requires.room in
     let long = length_filled a.len a.blocks.items c.self.invariant.filled in
     let pushed = c.min-pushed.ensures in
     let bounded = c.self.invariant.bounded in
@@ -53,9 +53,9 @@ overflow_add-self g c =
 pub invariant_of-self : goal.invariant_of-self
 invariant_of-self g c =
     let a = c.self.inside in
-    let asked : length (items_of a.blocks.items) + c.args.count ≤ vec_len a.blocks * 8192 = rw (← c.self.view_is) at c.requires.room in
+    let asked : length (items_of a.blocks.items) + c.args.count ≤ vec_len a.blocks * 131072 = rw (← c.self.view_is) at c.requires.room in
     let some = c.requires.some in
-    let room : length (items_of a.blocks.items) < vec_len a.blocks * 8192 = omega (arith, asked, some) in
+    let room : length (items_of a.blocks.items) < vec_len a.blocks * 131072 = omega (arith, asked, some) in
     let b = c.index_mut-block.result.now in
     let is = c.index_mut-block.ensures.value in
     let memory = end_capacity a c.self.invariant room b is in
@@ -69,9 +69,9 @@ invariant_of-self g c =
 pub returns-clause-items : goal.returns-clause-items
 returns-clause-items g c =
     let a = c.self.inside in
-    let asked : length (items_of a.blocks.items) + c.args.count ≤ vec_len a.blocks * 8192 = rw (← c.self.view_is) at c.requires.room in
+    let asked : length (items_of a.blocks.items) + c.args.count ≤ vec_len a.blocks * 131072 = rw (← c.self.view_is) at c.requires.room in
     let some = c.requires.some in
-    let room : length (items_of a.blocks.items) < vec_len a.blocks * 8192 = omega (arith, asked, some) in
+    let room : length (items_of a.blocks.items) < vec_len a.blocks * 131072 = omega (arith, asked, some) in
     let b = c.index_mut-block.result.now in
     let is = c.index_mut-block.ensures.value in
     let n = c.min-pushed.result in

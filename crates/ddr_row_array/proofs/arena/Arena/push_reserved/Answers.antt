@@ -21,7 +21,7 @@ overflow_add-self g c =
 pub invariant_of-self : goal.invariant_of-self
 invariant_of-self g c =
     let a = c.self.inside in
-    let room : length (items_of a.blocks.items) < vec_len a.blocks * 8192 = rw (← c.self.view_is) at c.requires in
+    let room : length (items_of a.blocks.items) < vec_len a.blocks * 131072 = rw (← c.self.view_is) at c.requires in
     let b = c.index_mut.result.now in
     let is = c.index_mut.ensures.value in
     let below = small a.len in
@@ -32,7 +32,7 @@ invariant_of-self g c =
 pub returns-clause-items : goal.returns-clause-items
 returns-clause-items g c =
     let a = c.self.inside in
-    let room : length (items_of a.blocks.items) < vec_len a.blocks * 8192 = rw (← c.self.view_is) at c.requires in
+    let room : length (items_of a.blocks.items) < vec_len a.blocks * 131072 = rw (← c.self.view_is) at c.requires in
     let b = c.index_mut.result.now in
     let is = c.index_mut.ensures.value in
     rw (← c.self.view_is) (items_of-pushed a c.self.invariant room b is c.push_reserved.new.self (c.args.item ∷ []) c.push_reserved.ensures.items)

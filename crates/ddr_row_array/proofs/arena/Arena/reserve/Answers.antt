@@ -14,7 +14,7 @@ pub loop-block-preserved : goal.loop-block-preserved
 loop-block-preserved g c =
     let inv = c.loop-block.invariant in
     let block = c.in_ok-block.block in
-    let room : 8192 ≤ vec_capacity block = let exact = c.in_ok-block.ensures.exact in omega arith in
+    let room : 131072 ≤ vec_capacity block = let exact = c.in_ok-block.ensures.exact in omega arith in
     record {
       len = inv.len;
       filled = rw c.in_ok-push.ensures.items (Fills-block c.loop-block.self-inside.len c.loop-block.self-inside.blocks.items block inv.filled c.in_ok-block.ensures.len room);
@@ -37,7 +37,7 @@ on_err (Ok x) p = tt
 on_err (Err e) p = p
 
 -- too few blocks, as the code counts them
-not_enough : (len room had wanted : ℕ) → wanted ≡ (len + room) / 8192 + min 1 ((len + room) % 8192) → had < wanted → had * 8192 < len + room
+not_enough : (len room had wanted : ℕ) → wanted ≡ (len + room) / 131072 + min 1 ((len + room) % 131072) → had < wanted → had * 131072 < len + room
 not_enough len room had wanted is less = omega arith
 
 pub returns-then-blocks-gt-MOST_BLOCKS-clause-full : goal.returns-then-blocks-gt-MOST_BLOCKS-clause-full
@@ -57,7 +57,7 @@ returns-in_err-block-clause-full g c =
     let from = c.loop-block.auto._block in
     let test = c.loop-block-test.true in
     let short = not_enough a.len c.args.room (vec_len a.blocks) c.div_ceil-blocks.result c.div_ceil-blocks.ensures (omega arith) in
-    let full : vec_len a.blocks * 8192 < length (items_of a.blocks.items) + c.args.room = omega (arith, long, short) in
+    let full : vec_len a.blocks * 131072 < length (items_of a.blocks.items) + c.args.room = omega (arith, long, short) in
     rw (← c.self.view_is) (on_err c.from_residual.result full)
 
 pub returns-in_err-push-clause-full : goal.returns-in_err-push-clause-full
@@ -68,5 +68,5 @@ returns-in_err-push-clause-full g c =
     let from = c.loop-block.auto._block in
     let test = c.loop-block-test.true in
     let short = not_enough a.len c.args.room (vec_len a.blocks) c.div_ceil-blocks.result c.div_ceil-blocks.ensures (omega arith) in
-    let full : vec_len a.blocks * 8192 < length (items_of a.blocks.items) + c.args.room = omega (arith, long, short) in
+    let full : vec_len a.blocks * 131072 < length (items_of a.blocks.items) + c.args.room = omega (arith, long, short) in
     rw (← c.self.view_is) (on_err c.from_residual-in_err-push.result full)
