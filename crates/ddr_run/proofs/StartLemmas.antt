@@ -61,7 +61,6 @@ parts_fault text profile sample faults.ScriptLimit is_text refused = not_of_part
 parts_fault text profile sample faults.Read is_text refused = tt
 parts_fault text profile sample faults.Write is_text refused = not_of_parts (parts_of sample profile text) faults.Write refused refl
 parts_fault text profile sample faults.OutOfMemory is_text refused = tt
-parts_fault text profile sample faults.NotDrained is_text refused = not_of_parts (parts_of sample profile text) faults.NotDrained refused refl
 parts_fault text profile sample faults.ClockSpent is_text refused = not_of_parts (parts_of sample profile text) faults.ClockSpent refused refl
 parts_fault text profile sample faults.PortBroken is_text refused = not_of_parts (parts_of sample profile text) faults.PortBroken refused refl
 parts_fault text profile sample faults.ThreadsRefused is_text refused = not_of_parts (parts_of sample profile text) faults.ThreadsRefused refused refl

@@ -77,7 +77,6 @@ text_fault profile text sample trace old faults.ScriptLimit is_text refused = no
 text_fault profile text sample trace old faults.Read is_text refused = tt
 text_fault profile text sample trace old faults.Write is_text refused = not_of_parts (parts_of sample profile text) faults.Write refused refl
 text_fault profile text sample trace old faults.OutOfMemory is_text refused = inl refl
-text_fault profile text sample trace old faults.NotDrained is_text refused = not_of_parts (parts_of sample profile text) faults.NotDrained refused refl
 text_fault profile text sample trace old faults.ClockSpent is_text refused = not_of_parts (parts_of sample profile text) faults.ClockSpent refused refl
 text_fault profile text sample trace old faults.PortBroken is_text refused = not_of_parts (parts_of sample profile text) faults.PortBroken refused refl
 text_fault profile text sample trace old faults.ThreadsRefused is_text refused = not_of_parts (parts_of sample profile text) faults.ThreadsRefused refused refl

@@ -232,7 +232,6 @@ kind_of_config text faults.Read said = kind_of_said (refusal_of (parse_document 
 kind_of_config text faults.Write said = kind_of_said (refusal_of (parse_document text)) faults.Write (said (no_memory faults.Write refl))
 kind_of_config text faults.ClockSpent said = kind_of_said (refusal_of (parse_document text)) faults.ClockSpent (said (no_memory faults.ClockSpent refl))
 kind_of_config text faults.PortBroken said = kind_of_said (refusal_of (parse_document text)) faults.PortBroken (said (no_memory faults.PortBroken refl))
-kind_of_config text faults.NotDrained said = kind_of_said (refusal_of (parse_document text)) faults.NotDrained (said (no_memory faults.NotDrained refl))
 kind_of_config text faults.ThreadsRefused said = kind_of_said (refusal_of (parse_document text)) faults.ThreadsRefused (said (no_memory faults.ThreadsRefused refl))
 
 kind_of_parts : (parts : Option (List ℕ × List ℕ)) (fault : Fault) → IsRefused parts fault → is_of_parts fault ≡ true

@@ -13,7 +13,6 @@ abbrev pub status_of : Fault → ℕ
 status_of faults.Read = 3
 status_of faults.Write = 3
 status_of faults.OutOfMemory = 3
-status_of faults.NotDrained = 3
 status_of (faults.ReplayStuck cycle) = 3
 status_of (faults.RunStuck cycle) = 3
 status_of faults.ClockSpent = 3

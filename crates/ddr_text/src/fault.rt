@@ -97,9 +97,6 @@ pub enum Fault {
     Write,
     #[error("out of memory")]
     OutOfMemory,
-    /// A run came to its end, and its core is not drained.
-    #[error("core not drained")]
-    NotDrained,
     /// A channel's clock has come to its last cycle.
     #[error("clock spent")]
     ClockSpent,
@@ -187,7 +184,6 @@ impl Fault {
             Fault::Read
             | Fault::Write
             | Fault::OutOfMemory
-            | Fault::NotDrained
             | Fault::ReplayStuck { .. }
             | Fault::RunStuck { .. }
             | Fault::ClockSpent

@@ -65,7 +65,6 @@ const TOLD: &[(Fault, &str, u8)] = &[
     (Fault::Read, "read failed", 3),
     (Fault::Write, "write failed", 3),
     (Fault::OutOfMemory, "out of memory", 3),
-    (Fault::NotDrained, "core not drained", 3),
     (
         Fault::ReplayStuck { cycle: 12 },
         "replay stuck at cycle 12",
