@@ -1,5 +1,7 @@
 //! Runs on other configurations than the sample, and traces of channels.
 use super::{Command, Configured, all_write, all_write_in, ends_so, is_refused};
+use ddr_capture::form::Form;
+use ddr_text::command::Format;
 use ddr_text::fault::Fault;
 use std::test::Fail;
 
@@ -84,6 +86,12 @@ fn the_first_fault_is_told(rt: HostRuntime) -> Result<(), Fail> {
     Ok(())
 }
 
+/// Captured commands in this project's own form.
+const CAPTURE: Command = Command::Capture(Form {
+    format: Format::Own,
+    channel: None,
+});
+
 /// Inputs that are at fault before their configuration is read, or by it.
 const UNREAD: &[(Command, &[u8], Fault)] = &[
     (Command::Trace(2), b"\xff\n---\n", Fault::InputNotUtf8),
@@ -91,6 +99,13 @@ const UNREAD: &[(Command, &[u8], Fault)] = &[
     (Command::Map, b"0\n", Fault::InputHasNoMark),
     // The configuration's refusal comes before the body's.
     (Command::Map, b"[\n---\nbad\n", Fault::ConfigSyntax),
+    (CAPTURE, b"[\n---\nbad\n", Fault::ConfigSyntax),
+    (CAPTURE, b"\xff\n---\n", Fault::InputNotUtf8),
+    // A line of 4,097 bytes is too long, and so is an input of which it is all, without a mark.
+    (CAPTURE, &[b'#'; 4096], Fault::InputHasNoMark),
+    (CAPTURE, &[b'#'; 4097], Fault::InputTooLong),
+    (CAPTURE, &[b'#'; 4098], Fault::InputTooLong),
+    (CAPTURE, &[0xff; 4097], Fault::InputTooLong),
 ];
 
 #[test]

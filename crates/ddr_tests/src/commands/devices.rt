@@ -1,5 +1,5 @@
 //! Readers and writers over memory: one that never ends, and ones that fail at a call.
-use super::{Command, REPLIES, TRACE, WRITE_THEN_READ, end_of, is_so};
+use super::{Command, REPLIES, TRACE, WRITE_THEN_READ, end_of, input_of, is_so};
 use ddr_capture::form::Form;
 use ddr_run::run::run;
 use ddr_text::command::Format;
@@ -37,9 +37,14 @@ impl Read for Failing<'_> {
 }
 
 /// How a command ends whose reader fails where no call is left, and what it writes.
-fn read_in(alloc: Global, command: Command, reader: Failing<'_>) -> (Vec<u8>, Result<bool, Fault>) {
+fn read_in(
+    alloc: Global,
+    command: Command,
+    sample: bool,
+    reader: Failing<'_>,
+) -> (Vec<u8>, Result<bool, Fault>) {
     let mut bytes = Vec::new(alloc);
-    let end = end_of(alloc, command, true, &mut Device(reader), &mut bytes);
+    let end = end_of(alloc, command, sample, &mut Device(reader), &mut bytes);
     (bytes, end)
 }
 
@@ -128,7 +133,7 @@ fn fails_unless_all_is_read(
             calls,
             kind: ErrorKind::Other,
         };
-        let ran = read_in(alloc, command, reader);
+        let ran = read_in(alloc, command, true, reader);
         is_so_in(rt, alloc, ran, end_in(calls, needed, text), (calls, text))?;
     }
     Ok(())
@@ -138,6 +143,25 @@ fn fails_unless_all_is_read(
 fn each_read_fails(rt: HostRuntime) -> Result<(), Fail> {
     for (command, input, text, needed, _) in CALLS {
         fails_unless_all_is_read(&rt, rt.alloc(), (*command, *input, *text), *needed)?;
+    }
+    Ok(())
+}
+
+#[test]
+fn each_read_of_a_configuration_and_a_capture_fails(rt: HostRuntime) -> Result<(), Fail> {
+    let alloc = rt.alloc();
+    let rest = format!(in alloc; "---\n{TRACE}")?;
+    let input = input_of(alloc, &[], rest.as_str())?;
+    // 376 bytes of the sample configuration, 4 of the mark and 92 are read in 59 calls, and their end by one more.
+    for calls in 0..63 {
+        let reader = Failing {
+            text: input.as_bytes(),
+            calls,
+            kind: ErrorKind::Other,
+        };
+        let ran = read_in(alloc, OWN, false, reader);
+        let wanted = end_in(calls, 60, "legal\n");
+        is_so_in(&rt, alloc, ran, wanted, (calls, "configuration"))?;
     }
     Ok(())
 }
@@ -155,7 +179,7 @@ fn reads_on(
             calls,
             kind: ErrorKind::Interrupted,
         };
-        let ran = read_in(alloc, command, reader);
+        let ran = read_in(alloc, command, true, reader);
         is_so_in(rt, alloc, ran, (Ok(true), text), (calls, text))?;
     }
     Ok(())
