@@ -1,10 +1,11 @@
 -- One command more of a trace of which a part is kept.
 use Rattle.std.proofs.Common.{◌≡◌, ℕ, zero, suc, ◌+◌, ◌-◌, ◌<◌, ◌≤◌, ◌⊎◌, Bool, true, false, ◌&&◌, cond, List, [], ◌∷◌, ◌++◌, length, take, drop, Option, Some, None, inl, inr, refl, sym, ap, ◌∙◌, arith, append_assoc, add-one, length-append, length-drop}
-use Rattle.std.specs.Prelude.{codes, flat_map, slice_get}
-use Rattle.std.specs.List.{list_any, range_with_len}
+use Rattle.std.specs.Prelude.{codes, flat_map, not, slice_get}
+use Rattle.std.specs.List.{list_all, list_any, range_with_len}
 use Rattle.std.specs.Option.{option_map_or}
 use Rattle.std.proofs.lemmas.Bool.{cond-false}
 use Rattle.std.proofs.lemmas.List.{append-nil, take-append-drop, take-append-le}
+use Rattle.std.proofs.lemmas.List.Folds.{list_all-append}
 use Rattle.std.proofs.Math.Seq.{drop-append-add, take-append_seam}
 use Rattle.ddr_timing.specs.declared.config.Config.{Config}
 use Rattle.ddr_trace.specs.declared.command.Entry.{Entry}
@@ -20,7 +21,7 @@ use Rattle.ddr_draw.specs.Held.{held_by}
 use Rattle.ddr_draw.specs.Lanes.{bank_box, bars, bus_box, busy_until, command_at, command_of, commands, ground, picture_text, title}
 use Rattle.ddr_draw.specs.Names.{after}
 use Rattle.ddr_draw.specs.Scale.{is_seen}
-use Rattle.ddr_draw.specs.Sketch.{AreLast, IsWithin, Shows, bar_by, bars_alone, bars_before, behind, box_by, boxes_of, first_of, has_box, held_among, is_ended_by, is_ending, is_gone, may_have_bar, next_ending, sketch_text, title_by}
+use Rattle.ddr_draw.specs.Sketch.{AreLast, IsWithin, Shows, are_bars_kept, are_boxes_kept, bar_by, bars_alone, bars_before, behind, box_by, boxes_of, first_of, has_box, held_among, is_bar_kept, is_ended_by, is_ending, is_gone, may_have_bar, next_ending, sketch_text, title_by}
 use Rattle.ddr_draw.proofs.BankLemmas.{number_more}
 use Rattle.ddr_draw.proofs.SketchLemmas.{bar_first, gone_text, no_bar, or_left, or_right, unseen}
 
@@ -275,3 +276,36 @@ module _ (c : Config) where
   pictured s entries v within shows =
       ap (λ text. ground c.geometry v ++ (text ++ (boxes_of c v s.boxes.items ++ codes "</svg>\n"))) (shown_bars s entries v within shows)
       ∙ ap (λ text. ground c.geometry v ++ (bars c v entries ++ (text ++ codes "</svg>\n"))) (sym (shows.boxes v within))
+
+-- ---- no more is kept
+
+both : (a b : Bool) → a ≡ true → b ≡ true → (a && b) ≡ true
+both true true p q = refl
+both true false p q = absurd cc
+both false b p q = absurd cc
+
+left_true : (a b : Bool) → (a && b) ≡ true → a ≡ true
+left_true true b h = refl
+left_true false b h = absurd cc
+
+right_true : (a b : Bool) → (a && b) ≡ true → b ≡ true
+right_true true b h = h
+right_true false b h = absurd cc
+
+all_more : {X : Type 0} (p : X → Bool) (xs : List X) (x : X) → list_all p xs ≡ true → p x ≡ true → list_all p (xs ++ x ∷ []) ≡ true
+all_more p xs x all here = list_all-append p xs (x ∷ []) ∙ both (list_all p xs) (p x && true) all (both (p x) true here refl)
+
+pub box_more : (c : Config) (v : View) (bs : List CommandBox) (b : CommandBox) → are_boxes_kept c v bs ≡ true → has_box c v b.entry ≡ true → are_boxes_kept c v (bs ++ b ∷ []) ≡ true
+box_more c v bs b all here = all_more (λ k. has_box c v k.entry) bs b all here
+
+pub open_bar : (c : Config) (v : View) (bs : List Bar) (e : Entry) → are_bars_kept c v bs ≡ true → may_have_bar c v e ≡ true → are_bars_kept c v (bs ++ record { entry = e; next = None } ∷ []) ≡ true
+open_bar c v bs e all here = all_more (is_bar_kept c v) bs (record { entry = e; next = None }) all (both (may_have_bar c v e) true here refl)
+
+pub first_kept : (c : Config) (v : View) (b : Bar) (bs : List Bar) → are_bars_kept c v (b ∷ bs) ≡ true → may_have_bar c v b.entry ≡ true
+first_kept c v b bs all = left_true (may_have_bar c v b.entry) (not (is_gone c v b.entry b.next)) (left_true (is_bar_kept c v b) (are_bars_kept c v bs) all)
+
+pub rest_kept : (c : Config) (v : View) (b : Bar) (bs : List Bar) → are_bars_kept c v (b ∷ bs) ≡ true → are_bars_kept c v bs ≡ true
+rest_kept c v b bs all = right_true (is_bar_kept c v b) (are_bars_kept c v bs) all
+
+pub ended_bar : (c : Config) (v : View) (bs : List Bar) (b : Bar) → are_bars_kept c v bs ≡ true → may_have_bar c v b.entry ≡ true → is_gone c v b.entry b.next ≡ false → are_bars_kept c v (bs ++ b ∷ []) ≡ true
+ended_bar c v bs b all may stays = all_more (is_bar_kept c v) bs b all (both (may_have_bar c v b.entry) (not (is_gone c v b.entry b.next)) may (ap not stays))

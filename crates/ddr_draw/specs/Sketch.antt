@@ -1,5 +1,6 @@
 -- A picture of a trace of which only a part is kept, whatever its length: what the commands read so far show of the cycles asked for.
-use Rattle.std.specs.Prelude.{◌≡◌, ℕ, ◌≤◌, ◌⊎◌, Bool, false, ◌&&◌, ◌||◌, not, if◌then◌else◌, List, [], ◌∷◌, ◌++◌, codes, length, Option, Some, None}
+use Rattle.std.specs.Prelude.{◌≡◌, ℕ, ◌≤◌, ◌⊎◌, Bool, true, false, ◌&&◌, ◌||◌, not, if◌then◌else◌, List, [], ◌∷◌, ◌++◌, codes, length, Option, Some, None}
+use Rattle.std.specs.List.{list_all}
 use Rattle.std.specs.Option.{unwrap_or}
 use Rattle.ddr_timing.specs.declared.config.Config.{Config}
 use Rattle.ddr_timing.specs.declared.timing.Timing.{Timing}
@@ -11,6 +12,7 @@ use Rattle.ddr_draw.specs.declared.held.TheConstants.{MOST_BACK}
 use Rattle.ddr_draw.specs.declared.kept_bars.Bar.{Bar}
 use Rattle.ddr_draw.specs.declared.kept_boxes.CommandBox.{CommandBox}
 use Rattle.ddr_draw.specs.declared.sketch.Sketch.{Sketch}
+use Rattle.ddr_draw.specs.declared.sketch.TheConstants.{MOST_RECENT}
 use Rattle.ddr_draw.specs.declared.view.View.{View}
 use Rattle.ddr_draw.specs.Changes.{burst_end, burst_start, burst_until_of, closed_at_of, closed_by, is_closing, next_closing, next_column}
 use Rattle.ddr_draw.specs.Held.{wait_from, wait_of_starts}
@@ -82,6 +84,13 @@ abbrev pub is_gone : Config → View → Entry → Option Entry → Bool
 is_gone c v e None = false
 is_gone c v e (Some next) = is_activate e.command && not (is_seen v e.cycle (closed_by c.timing e next))
 
+-- a bar that is kept: of a row that is open or in the view, or of a burst in the view
+abbrev pub is_bar_kept : Config → View → Bar → Bool
+is_bar_kept c v b = may_have_bar c v b.entry && not (is_gone c v b.entry b.next)
+
+abbrev pub are_bars_kept : Config → View → List Bar → Bool
+are_bars_kept c v = list_all (is_bar_kept c v)
+
 -- ---- boxes
 
 -- what the entry waited for, by these entries before it, the first of which stands at the place
@@ -103,6 +112,9 @@ boxes_of c v (b ∷ bs) = box_by c v b.place b.entry b.held ++ boxes_of c v bs
 abbrev pub has_box : Config → View → Entry → Bool
 has_box c v e = is_seen v e.cycle (after e.cycle 1) || (is_in c.geometry e.command && is_seen v e.cycle (busy_until c.timing e))
 
+abbrev pub are_boxes_kept : Config → View → List CommandBox → Bool
+are_boxes_kept c v = list_all (λ b. has_box c v b.entry)
+
 -- ---- the whole
 
 -- what is kept, with nothing behind it, as a picture
@@ -121,3 +133,9 @@ pub record Shows (c : Config) (s : Sketch) (entries : List Entry) : Type 0 where
   pub last : AreLast s.recent.items entries
   pub bars : (v : View) (later : List Entry) → IsWithin v s.view → bars c v (entries ++ later) ≡ bars_before c v s.bars.items later ++ bars c v later
   pub boxes : (v : View) → IsWithin v s.view → commands c v entries ≡ boxes_of c v s.boxes.items
+
+-- no more is kept than that: besides the last commands the rows that are open, and what the view shows
+pub record IsSmall (c : Config) (s : Sketch) : Type 0 where
+  pub recent : length s.recent.items ≤ MOST_RECENT
+  pub bars : are_bars_kept c s.view s.bars.items ≡ true
+  pub boxes : are_boxes_kept c s.view s.boxes.items ≡ true

@@ -1,11 +1,11 @@
 //! The bars of commands, while a trace is read: each is kept until it can't be in the picture any more.
 //!
 //! `bars`, `period` and `scale` stand below, and `sketch` above.
-ghost use Rattle.std.specs.Prelude.{◌≡◌, ◌∷◌, ◌++◌, IfOk, List, OnOk, string_bytes};
+ghost use Rattle.std.specs.Prelude.{◌≡◌, ◌∷◌, ◌++◌, IfOk, List, OnOk, string_bytes, true};
 ghost use Rattle.std.specs.List.{list_any};
 ghost use Rattle.ddr_trace.specs.declared.command.Entry.{Entry};
 ghost use Rattle.ddr_draw.specs.declared.view.View as views;
-ghost use Rattle.ddr_draw.specs.Sketch.{IsWithin, bar_by, bars_alone, bars_before, behind, burst_by, is_ended_by, is_ending, is_gone, may_have_bar, next_ending, row_by};
+ghost use Rattle.ddr_draw.specs.Sketch.{IsWithin, are_bars_kept, bar_by, bars_alone, bars_before, behind, burst_by, is_ended_by, is_ending, is_gone, may_have_bar, next_ending, row_by};
 
 use crate::bars::{burst_shape, row_bar};
 use crate::names::{is_activate, is_column};
@@ -31,8 +31,9 @@ pub(crate) fn end_bars(
     entry: &Entry,
     bars: &mut Vec<Bar>,
 ) -> Result<(), AllocError>
-    ensures { OnOk result ((v : views.View) (later : List Entry) → IsWithin v view.now
+    ensures shown { OnOk result ((v : views.View) (later : List Entry) → IsWithin v view.now
         → bars_before config.now v bars.new.items later ≡ bars_before config.now v bars.old.items (entry.now ∷ later)) }
+    ensures kept { OnOk result (are_bars_kept config.now view.now bars.old.items ≡ true → are_bars_kept config.now view.now bars.new.items ≡ true) }
 {
     if is_any_ended(bars.as_slice(), entry) {
         *bars = ended(alloc, config, view, entry, bars.as_slice())?;
@@ -55,8 +56,9 @@ fn ended(
     entry: &Entry,
     bars: &[Bar],
 ) -> Result<Vec<Bar>, AllocError>
-    ensures { IfOk result (λ kept. (v : views.View) (later : List Entry) → IsWithin v view.now
+    ensures shown { IfOk result (λ kept. (v : views.View) (later : List Entry) → IsWithin v view.now
         → bars_before config.now v kept.items later ≡ bars_before config.now v bars.now (entry.now ∷ later)) }
+    ensures kept { IfOk result (λ kept. are_bars_kept config.now view.now bars.now ≡ true → are_bars_kept config.now view.now kept.items ≡ true) }
 {
     let mut kept = Vec::new(alloc);
     let mut rest = bars;
@@ -126,8 +128,9 @@ pub(crate) fn add_bar(
     entry: &Entry,
     bars: &mut Vec<Bar>,
 ) -> Result<(), AllocError>
-    ensures { OnOk result ((v : views.View) (later : List Entry) → IsWithin v view.now
+    ensures shown { OnOk result ((v : views.View) (later : List Entry) → IsWithin v view.now
         → bars_before config.now v bars.new.items later ≡ bars_before config.now v bars.old.items later ++ bar_by config.now v entry.now (next_ending entry.now later)) }
+    ensures kept { OnOk result (are_bars_kept config.now view.now bars.old.items ≡ true → are_bars_kept config.now view.now bars.new.items ≡ true) }
 {
     if !may_have_bar(config, view, entry) {
         return Ok(());

@@ -1,11 +1,11 @@
 //! The boxes of commands, while a trace is read: those in the view are kept.
 //!
 //! `boxes` and `waited` stand below, and `sketch` above.
-ghost use Rattle.std.specs.Prelude.{◌≡◌, ◌<◌, ◌^◌, ◌∷◌, ◌++◌, IfOk, List, OnOk, length, string_bytes};
+ghost use Rattle.std.specs.Prelude.{◌≡◌, ◌<◌, ◌^◌, ◌∷◌, ◌++◌, IfOk, List, OnOk, length, string_bytes, true};
 ghost use Rattle.ddr_trace.specs.declared.command.Entry.{Entry};
 ghost use Rattle.ddr_draw.specs.declared.view.View as views;
 ghost use Rattle.ddr_draw.specs.Lanes.{command_at};
-ghost use Rattle.ddr_draw.specs.Sketch.{AreLast, IsWithin, box_by, boxes_of};
+ghost use Rattle.ddr_draw.specs.Sketch.{AreLast, IsWithin, are_boxes_kept, box_by, boxes_of};
 
 use crate::boxes::{box_by, has_box};
 use crate::held::{Held, MOST_BACK};
@@ -33,8 +33,9 @@ pub(crate) fn add_box(
     boxes: &mut Vec<CommandBox>,
 ) -> Result<(), AllocError>
     requires { place < 2 ^ 62 }
-    ensures { OnOk result ((v : views.View) (entries : List Entry) → IsWithin v view.now → AreLast recent.now entries → place ≡ length entries
+    ensures shown { OnOk result ((v : views.View) (entries : List Entry) → IsWithin v view.now → AreLast recent.now entries → place ≡ length entries
         → boxes_of config.now v boxes.new.items ≡ boxes_of config.now v boxes.old.items ++ command_at config.now v entries place entry.now) }
+    ensures kept { OnOk result (are_boxes_kept config.now view.now boxes.old.items ≡ true → are_boxes_kept config.now view.now boxes.new.items ≡ true) }
 {
     if !has_box(config, view, entry) {
         return Ok(());

@@ -11,7 +11,7 @@ ghost use Rattle.ddr_capture.specs.Feed.{Along, HasFound, IsWell, left};
 ghost use Rattle.ddr_capture.specs.Lines.{text_of};
 ghost use Rattle.ddr_draw.specs.Long.{long_trace, row_of};
 ghost use Rattle.ddr_draw.specs.Ahead.{EndsAt, IsBodyFault, IsEnd, IsHeader, IsRow, StandsAt, end_fault, header_fault, row_fault};
-ghost use Rattle.ddr_draw.specs.Sketch.{Shows};
+ghost use Rattle.ddr_draw.specs.Sketch.{IsSmall, Shows};
 
 use crate::sketch::Sketch;
 use ddr_capture::feed::{Feed, Found, LONGEST_LINE, Refusal, without_return};
@@ -52,7 +52,9 @@ pub(crate) fn read_long<R: Source>(
     requires well { IsWell feed.old }
     requires unread { sketch.old.count ≡ 0 }
     requires none { Shows config.now sketch.old [] }
+    requires small { IsSmall config.now sketch.old }
     ensures view { OnOk result (sketch.new.view ≡ sketch.old.view) }
+    ensures small { OnOk result (IsSmall config.now sketch.new) }
     ensures read { IfOk result (λ end. (entries : List Entry) × Shows config.now sketch.new entries
         × IfSome (left feed.old (R.remaining reader.old)) (λ body. long_trace (lines body) ≡ Ok (record { start = 0; end = end; entries = entries }))) }
     ensures refused { IfErr result (λ fault. IfSome (left feed.old (R.remaining reader.old)) (λ body. IsBodyFault body fault)) }

@@ -4,7 +4,7 @@
 ghost use Rattle.std.specs.Prelude.{◌≡◌, ◌<◌, ◌≤◌, ◌+◌, ◌-◌, ◌^◌, ◌∷◌, ◌++◌, [], IfOk, List, OnOk, drop, length, string_bytes};
 ghost use Rattle.ddr_timing.specs.declared.config.Config.{Config};
 ghost use Rattle.ddr_trace.specs.declared.command.Entry.{Entry};
-ghost use Rattle.ddr_draw.specs.Sketch.{AreLast, Shows, sketch_text};
+ghost use Rattle.ddr_draw.specs.Sketch.{AreLast, IsSmall, Shows, sketch_text};
 
 use crate::ground::ground;
 use crate::held::MOST_BACK;
@@ -39,6 +39,7 @@ impl Sketch {
         ensures view { result.view ≡ view }
         ensures count { result.count ≡ 0 }
         ensures none { (config : Config) → Shows config result [] }
+        ensures small { (config : Config) → IsSmall config result }
     {
         Sketch {
             view,
@@ -60,6 +61,7 @@ impl Sketch {
         ensures view { OnOk result (self.new.view ≡ self.old.view) }
         ensures count { OnOk result (self.new.count ≡ self.old.count + 1) }
         ensures shows { OnOk result ((entries : List Entry) → Shows config.now self.old entries → Shows config.now self.new (entries ++ entry.now ∷ [])) }
+        ensures small { OnOk result (IsSmall config.now self.old → IsSmall config.now self.new) }
     {
         let recent = self.recent.as_slice();
         add_box(
@@ -96,7 +98,8 @@ impl Sketch {
 
 /// Keeps a command as the last one.
 fn remember(recent: &mut Vec<Entry>, entry: &Entry) -> Result<(), AllocError>
-    ensures { OnOk result ((entries : List Entry) → AreLast recent.old.items entries → AreLast recent.new.items (entries ++ entry.now ∷ [])) }
+    ensures last { OnOk result ((entries : List Entry) → AreLast recent.old.items entries → AreLast recent.new.items (entries ++ entry.now ∷ [])) }
+    ensures few { OnOk result (length recent.old.items ≤ MOST_RECENT → length recent.new.items ≤ MOST_RECENT) }
 {
     shorten(recent);
     recent.push(*entry)?;
@@ -105,7 +108,8 @@ fn remember(recent: &mut Vec<Entry>, entry: &Entry) -> Result<(), AllocError>
 
 /// Lets go the commands before the `MOST_BACK` that are looked at, once there are as many of them.
 fn shorten(recent: &mut Vec<Entry>)
-    ensures { (entries : List Entry) → AreLast recent.old.items entries → AreLast recent.new.items entries }
+    ensures last { (entries : List Entry) → AreLast recent.old.items entries → AreLast recent.new.items entries }
+    ensures few { length recent.old.items ≤ MOST_RECENT → length recent.new.items < MOST_RECENT }
 {
     if recent.len() >= MOST_RECENT {
         keep_last(recent, MOST_BACK);

@@ -17,6 +17,9 @@ returns-in_err-config-clause-fault g c =
 pub read_long-requires-clause-none : goal.read_long-requires-clause-none
 read_long-requires-clause-none g c = c.new-sketch.ensures.none c.in_ok-config.config
 
+pub read_long-requires-clause-small : goal.read_long-requires-clause-small
+read_long-requires-clause-small g c = c.new-sketch.ensures.small c.in_ok-config.config
+
 pub returns-in_err-end-clause-fault : goal.returns-in_err-end-clause-fault
 returns-in_err-end-clause-fault g c =
     let p = err_from_is_err_and c.from_residual-in_err-end.result c.from_residual-in_err-end.ensures.1 in
