@@ -1,7 +1,7 @@
 //! The commands on configurations, traces and addresses, which need no scheduler.
 //!
 //! Nothing of the crate stands below, and the programs above.
-ghost use Rattle.std.specs.Prelude.{◌≡◌, IfOk, is_some, not};
+ghost use Rattle.std.specs.Prelude.{◌≡◌, IfOk, None, Ok, is_some, not, true};
 ghost use Rattle.ddr_shell.specs.Needs.{needs_scheduler};
 
 use ddr_capture::capture::capture;
