@@ -97,9 +97,11 @@ pub const DRAW: &str = "\
 Input: a configuration, a line `---` and a trace; with --sample the trace alone.
   A trace is the text that `ddr sim --trace` writes.
 Output: a value change dump (IEEE 1364), which a wave viewer shows: what stands on the
-  command bus and on the data bus, and which banks have a row open, cycle by cycle.
+  command bus and on the data bus, and which banks have a row open, cycle by cycle. Its
+  values are strings, which IEEE 1364 doesn't know: they are GTKWave's extension of it.
   With --svg a timeline as SVG in its place, of the commands from the cycle of --from on
-  and before that of --to; these two need --svg.
+  and before that of --to; these two need --svg. With one of them a trace may have any
+  length, and else 65,536 commands.
 Status: 0; 2 for a bad input or command line; 3 where the device or the memory fails.
 
 To paste:
