@@ -1,8 +1,9 @@
 //! The start of an input, and the whole of it joined again.
 //!
 //! `ddr_text` stands below, and `part` above.
-ghost use Rattle.std.specs.Prelude.{◌≡◌, ◌≤◌, ◌⊎◌, IfErr, IfOk, IsErrOf, IsTrue, length, true};
-ghost use Rattle.std.specs.Io.KnownBytes.{prepend_known};
+ghost use Rattle.std.specs.Prelude.{◌≡◌, ◌≤◌, ◌⊎◌, IfErr, IfOk, IsErrOf, IsTrue, OnErr, length, true};
+ghost use Rattle.std.specs.Io.{ReadsAtMost};
+ghost use Rattle.std.specs.Io.KnownBytes.{ReadConsumes, prepend_known};
 ghost use Rattle.ddr_draw.specs.Part.{IsStart};
 
 use ddr_text::fault::Fault;
@@ -62,7 +63,11 @@ pub(crate) struct Joined<'a, R> {
 impl<R: Source> Read for Joined<'_, R> {
     ghost remaining = { λ joined. prepend_known joined.start.now (R.remaining joined.reader.now) };
 
-    fn read(&mut self, buf: &mut [u8]) -> io::Result<usize> {
+    fn read(&mut self, buf: &mut [u8]) -> io::Result<usize>
+        ensures bound { ReadsAtMost result buf.new }
+        ensures bytes { ReadConsumes (prepend_known self.old.start.now (R.remaining self.old.reader.now)) (prepend_known self.new.start.now (R.remaining self.new.reader.now)) result buf.new }
+        ensures sure { OnErr result (IsTrue R.may_fail) }
+    {
         self.read_some(buf)
     }
 }
