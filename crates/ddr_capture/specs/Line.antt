@@ -1,9 +1,10 @@
 -- A line of a captured trace, in this project's own form or in another simulator's.
-use Rattle.std.specs.Prelude.{ℕ, ◌≤◌, ◌^◌, Bool, ◌&&◌, ◌||◌, if◌then◌else◌, List, [], ◌∷◌, codes, Option, Some, None, Result, Ok, Err}
+use Rattle.std.specs.Prelude.{ℕ, ◌≤◌, ◌^◌, Bool, ◌&&◌, ◌||◌, if◌then◌else◌, List, [], ◌∷◌, codes, Option, Some, None, option_map, Result, Ok, Err}
 use Rattle.std.specs.Option.{ok_or, option_map_or}
 use Rattle.std.specs.Str.{bytes_eq}
-use Rattle.ddr_trace.specs.Parse as trace
-use Rattle.ddr_trace.specs.Parse.{◌>>=◌, are_empty, cycle_of, is_empty, is_header}
+use Rattle.ddr_trace.specs.declared.parse.Parsed.{Parsed}
+use Rattle.ddr_trace.specs.declared.parse.Parsed.TheVariants as record_says
+use Rattle.ddr_trace.specs.Parse.{◌>>=◌, cycle_of, is_header, record_of}
 use Rattle.ddr_text.specs.declared.command.Format.{Format}
 use Rattle.ddr_text.specs.declared.command.Format.TheVariants.{Own, Dramsim3, Ramulator2}
 use Rattle.ddr_text.specs.declared.fault.LineFault.{LineFault}
@@ -19,27 +20,10 @@ use Rattle.ddr_capture.specs.declared.place.Place.{Place}
 use Rattle.ddr_capture.specs.declared.tool.Tool as tools
 use Rattle.ddr_capture.specs.declared.tool.Tool.TheVariants as tool
 
--- END has its cycle alone
-unfoldable pub end_at : ℕ → List ℕ → List ℕ → List ℕ → List ℕ → List ℕ → Option Said
-end_at cycle rank group bank row column =
-    if is_empty rank && are_empty group bank row column then Some (says.End cycle) else None
-
--- a command of the one channel
-unfoldable pub entry_at : ℕ → List ℕ → List ℕ → List ℕ → List ℕ → List ℕ → List ℕ → Option Said
-entry_at cycle name rank group bank row column = do
-  command ← trace.command_of name rank group bank row column
-  Some (says.Command (Some 0) (record { cycle = cycle; command = command }))
-
-unfoldable pub said_at : ℕ → List ℕ → List ℕ → List ℕ → List ℕ → List ℕ → List ℕ → Option Said
-said_at cycle name rank group bank row column =
-    if bytes_eq name (codes "END") then end_at cycle rank group bank row column
-    else entry_at cycle name rank group bank row column
-
--- what the fields of a record of a trace's text say, if each is as the name wants it
-unfoldable pub record_at : List ℕ → List ℕ → List ℕ → List ℕ → List ℕ → List ℕ → List ℕ → Option Said
-record_at cycle name rank group bank row column = do
-  at ← cycle_of cycle
-  said_at at name rank group bank row column
+-- what a record of a trace's text says of the one channel
+abbrev pub said_of_one : Parsed → Said
+said_of_one (record_says.Command e) = says.Command (Some 0) e
+said_of_one (record_says.End cycle) = says.End cycle
 
 -- a command of a trace, or END
 abbrev pub is_name : List ℕ → Bool
@@ -51,7 +35,7 @@ is_name name =
 -- a record of a trace's text
 abbrev pub of_seven : List (List ℕ) → Result Said LineFault
 of_seven (cycle ∷ name ∷ rank ∷ group ∷ bank ∷ row ∷ column ∷ []) =
-    if is_name name then ok_or (record_at cycle name rank group bank row column) Number else Err Word
+    if is_name name then ok_or (option_map said_of_one (record_of (cycle ∷ name ∷ rank ∷ group ∷ bank ∷ row ∷ column ∷ []))) Number else Err Word
 of_seven _ = Err Fields
 
 abbrev pub kind_of_dramsim3 : List ℕ → Option Kind

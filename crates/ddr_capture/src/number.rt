@@ -2,10 +2,10 @@
 //!
 //! `ddr_text` reads them, and nothing of this crate stands below.
 ghost use Rattle.std.specs.Prelude.{◌≡◌, ◌≤◌, IfSome};
-ghost use Rattle.ddr_trace.specs.Parse.{cycle_of, index_of, line_of};
+ghost use Rattle.ddr_trace.specs.Parse.{cycle_of, index_of};
 
 use ddr_text::digits::number_in;
-use ddr_timing::units::{CLOCK_STOP, LINE_COLUMNS};
+use ddr_timing::units::CLOCK_STOP;
 
 /// The cycle that a field spells, at most `CLOCK_STOP`.
 pub(crate) fn cycle_of(field: &[u8]) -> Option<u64>
@@ -13,15 +13,6 @@ pub(crate) fn cycle_of(field: &[u8]) -> Option<u64>
     ensures small { IfSome result (λ cycle. cycle ≤ CLOCK_STOP) }
 {
     number_in(field, CLOCK_STOP)
-}
-
-/// The line that a field's device column begins; none where none begins there.
-#[tactic(auto, unfolding(ddr_trace::specs::Parse::line_of))]
-pub(crate) fn line_of(field: &[u8]) -> Option<u32>
-    ensures { result ≡ line_of field.now }
-{
-    let column = index_of(field)?;
-    (column % LINE_COLUMNS == 0).then_some(column / LINE_COLUMNS)
 }
 
 /// The number below 2^32 that a field spells.

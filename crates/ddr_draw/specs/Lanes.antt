@@ -20,10 +20,11 @@ use Rattle.ddr_draw.specs.Changes.{burst_start, burst_until, closed_at}
 use Rattle.ddr_draw.specs.Colours.{fill_of}
 use Rattle.ddr_draw.specs.Held.{held_by}
 use Rattle.ddr_draw.specs.Legend.{legend}
-use Rattle.ddr_draw.specs.Names.{after, bank_name, bank_numbered, command_name, name_of_bank}
+use Rattle.ddr_draw.specs.Names.{after, bank_name, bank_numbered, name_of_bank}
 use Rattle.ddr_draw.specs.Scale.{bank_top, is_seen, lane_top, picture_height, picture_width, width_of, x_of}
 use Rattle.ddr_draw.specs.Shapes.{area, label, line_down, line_right, rectangle, words_at}
 use Rattle.ddr_draw.specs.Told.{at_text, held_text}
+use Rattle.ddr_trace.specs.Names.{command_name}
 
 -- ---- the ground
 

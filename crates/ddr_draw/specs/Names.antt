@@ -7,17 +7,6 @@ use Rattle.ddr_trace.specs.declared.command.Command.{Command}
 use Rattle.ddr_trace.specs.declared.command.Command.TheVariants.{Act, Rd, Wr, RdAuto, WrAuto, Pre, PreAll, Refresh}
 use Rattle.ddr_trace.specs.Commands.{bank_of, group_of, rank_of}
 
--- the command's name in a trace's text
-abbrev pub command_name : Command → List ℕ
-command_name (Act rank group bank row) = codes "ACT"
-command_name (Rd rank group bank row line) = codes "RD"
-command_name (Wr rank group bank row line) = codes "WR"
-command_name (RdAuto rank group bank row line) = codes "RDA"
-command_name (WrAuto rank group bank row line) = codes "WRA"
-command_name (Pre rank group bank) = codes "PRE"
-command_name (PreAll rank) = codes "PREA"
-command_name (Refresh rank) = codes "REF"
-
 -- a bank, as `r0g1b2`
 unfoldable pub bank_name : ℕ → ℕ → ℕ → List ℕ
 bank_name rank group bank = codes "r" ++ (decimal rank ++ (codes "g" ++ (decimal group ++ (codes "b" ++ decimal bank))))

@@ -4,7 +4,7 @@ use Rattle.std.specs.Fmt.{decimal}
 use Rattle.ddr_trace.specs.declared.command.Entry.{Entry}
 use Rattle.ddr_trace.specs.Names.{name_of}
 use Rattle.ddr_draw.specs.declared.held.Held.{Held}
-use Rattle.ddr_draw.specs.Names.{command_name}
+use Rattle.ddr_trace.specs.Names.{command_name}
 
 unfoldable pub clocks_text : ℕ → List ℕ
 clocks_text n = if n == 1 then codes "1 clock" else decimal n ++ codes " clocks"

@@ -12,8 +12,9 @@ use Rattle.ddr_draw.specs.declared.change.Change.{Change}
 use Rattle.ddr_draw.specs.declared.change.Shown.{Shown}
 use Rattle.ddr_draw.specs.declared.change.Shown.TheVariants.{Named, Quiet, Burst, Free, Open, Idle, End}
 use Rattle.ddr_draw.specs.Changes.{all_changes}
-use Rattle.ddr_draw.specs.Names.{bank_numbered, command_name, name_of_bank}
+use Rattle.ddr_draw.specs.Names.{bank_numbered, name_of_bank}
 use Rattle.ddr_draw.specs.Order.{in_order}
+use Rattle.ddr_trace.specs.Names.{command_name}
 
 -- something of each bank
 abbrev pub each_bank : Geometry → (List ℕ → List ℕ) → List ℕ

@@ -6,7 +6,7 @@ ghost use Rattle.ddr_trace.specs.Rules.{is_in};
 ghost use Rattle.ddr_draw.specs.Lanes.{bars, burst, burst_shape, burst_title, open_row, row_bar, row_name, row_shape, row_title, way};
 
 use crate::colours::{OPEN_ROW, fill_of};
-use crate::names::{is_activate, is_column, is_read, name_of_bank, row_of};
+use crate::names::name_of_bank;
 use crate::period::{burst_start, burst_until, closed_at};
 use crate::scale::{DATA_LANE, LANE_HEIGHT, lane_top, top_of};
 use crate::shapes::{area, label, rectangle};
@@ -48,7 +48,7 @@ fn open_row(
 ) -> Result<String, AllocError>
     ensures { IfOk result (λ text. string_bytes text ≡ open_row config.now view.now entry.now later.now) }
 {
-    if !(is_activate(&entry.command) && entry.command.is_in(&config.geometry)) {
+    if !(entry.command.is_activate() && entry.command.is_in(&config.geometry)) {
         return Ok(String::new(alloc));
     }
     let closed = closed_at(&config.timing, entry, later).unwrap_or(view.to);
@@ -102,7 +102,7 @@ fn row_shape(
 fn row_name(alloc: Global, command: &Command) -> Result<String, AllocError>
     ensures { IfOk result (λ text. string_bytes text ≡ row_name command.now) }
 {
-    let row = row_of(command);
+    let row = command.row();
     format!(in alloc; "row {row}")
 }
 
@@ -129,7 +129,7 @@ fn burst(
 {
     let start = burst_start(timing, entry);
     let end = burst_until(timing, entry, later);
-    if !(is_column(&entry.command) && view.is_seen(start, end)) {
+    if !(entry.command.is_column() && view.is_seen(start, end)) {
         return Ok(String::new(alloc));
     }
     burst_shape(
@@ -165,7 +165,7 @@ pub(crate) fn burst_shape(
 fn way(command: &Command) -> &'static str
     ensures { result.now ≡ way command.now }
 {
-    if is_read(command) { "RD" } else { "WR" }
+    if command.is_read() { "RD" } else { "WR" }
 }
 
 /// Which way the data go, and the bank.

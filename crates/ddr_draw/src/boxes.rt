@@ -11,7 +11,7 @@ ghost use Rattle.ddr_draw.specs.Sketch.{box_by, has_box, title_by};
 
 use crate::colours::fill_of;
 use crate::held::Held;
-use crate::names::{after, bank_name, command_name};
+use crate::names::{after, bank_name};
 use crate::scale::{CLOCK_WIDTH, COMMAND_LANE, LANE_HEIGHT, lane_top, top_of};
 use crate::shapes::{area, label, rectangle};
 use crate::told::{at_text, held_text};
@@ -125,7 +125,7 @@ fn bus_shape(alloc: Global, x: u64, command: &Command, title: &str) -> Result<St
     let y = lane_top(COMMAND_LANE);
     let area = area(alloc, x, y + 2, CLOCK_WIDTH, LANE_HEIGHT - 4)?;
     let shape = rectangle(alloc, area.as_str(), fill_of(command), title)?;
-    let words = label(alloc, x + 1, y + 18, CLOCK_WIDTH, command_name(command))?;
+    let words = label(alloc, x + 1, y + 18, CLOCK_WIDTH, command.name())?;
     format!(in alloc; "{shape}{words}")
 }
 
@@ -168,7 +168,7 @@ fn bank_shape(
 {
     let area = area(alloc, x, y + 2, width, height)?;
     let shape = rectangle(alloc, area.as_str(), fill_of(command), title)?;
-    let words = label(alloc, x + 1, y + 12, width, command_name(command))?;
+    let words = label(alloc, x + 1, y + 12, width, command.name())?;
     format!(in alloc; "{shape}{words}")
 }
 

@@ -5,7 +5,7 @@ ghost use Rattle.std.specs.Prelude.{◌≡◌, ◌++◌, IfOk, OnOk};
 ghost use Rattle.ddr_draw.specs.Changes.{all_changes, bank_changes, bus_changes, changes_of, data_changes, entry_changes, is_next_at};
 
 use crate::change::{Change, Shown};
-use crate::names::{after, is_activate, is_column};
+use crate::names::after;
 use crate::period::{burst_end, burst_start, closed_at, is_followed, next_column};
 use ddr_timing::config::Config;
 use ddr_timing::timing::Timing;
@@ -102,7 +102,7 @@ fn add_data(
 ) -> Result<(), AllocError>
     ensures { OnOk result (changes.new.items ≡ changes.old.items ++ data_changes timing.now entry.now later.now) }
 {
-    if !is_column(&entry.command) {
+    if !entry.command.is_column() {
         return Ok(());
     }
     changes.push(Change {
@@ -129,7 +129,7 @@ fn add_bank(
 ) -> Result<(), AllocError>
     ensures { OnOk result (changes.new.items ≡ changes.old.items ++ bank_changes config.now entry.now later.now) }
 {
-    if !(is_activate(&entry.command) && entry.command.is_in(&config.geometry)) {
+    if !(entry.command.is_activate() && entry.command.is_in(&config.geometry)) {
         return Ok(());
     }
     changes.push(Change {

@@ -8,7 +8,6 @@ ghost use Rattle.ddr_draw.specs.declared.view.View as views;
 ghost use Rattle.ddr_draw.specs.Sketch.{IsWithin, are_bars_kept, bar_by, bars_alone, bars_before, behind, burst_by, is_ended_by, is_ending, is_gone, may_have_bar, next_ending, row_by};
 
 use crate::bars::{burst_shape, row_bar};
-use crate::names::{is_activate, is_column};
 use crate::period::{burst_end, burst_start, burst_until_next, closed_by, is_closing};
 use crate::view::View;
 use ddr_timing::config::Config;
@@ -98,10 +97,10 @@ fn is_ended_by(bar: &Bar, entry: &Entry) -> bool
 fn is_ending(entry: &Entry, later: &Entry) -> bool
     ensures { result ≡ is_ending entry.now later.now }
 {
-    if is_activate(&entry.command) {
+    if entry.command.is_activate() {
         is_closing(&entry.command, &later.command)
     } else {
-        is_column(&later.command)
+        later.command.is_column()
     }
 }
 
@@ -111,7 +110,7 @@ fn is_gone(config: &Config, view: &View, bar: &Bar) -> bool
 {
     match bar.next {
         Some(next) => {
-            is_activate(&bar.entry.command)
+            bar.entry.command.is_activate()
                 && !view.is_seen(
                     bar.entry.cycle,
                     closed_by(&config.timing, &bar.entry, &next),
@@ -148,8 +147,8 @@ fn may_have_bar(config: &Config, view: &View, entry: &Entry) -> bool
 {
     let timing = &config.timing;
     let command = &entry.command;
-    is_activate(command) && command.is_in(&config.geometry) && view.is_seen(entry.cycle, view.to)
-        || is_column(command) && view.is_seen(burst_start(timing, entry), burst_end(timing, entry))
+    command.is_activate() && command.is_in(&config.geometry) && view.is_seen(entry.cycle, view.to)
+        || command.is_column() && view.is_seen(burst_start(timing, entry), burst_end(timing, entry))
 }
 
 /// The bars, where no command comes behind them.
@@ -179,7 +178,7 @@ fn row_by(alloc: Global, config: &Config, view: &View, bar: &Bar) -> Result<Stri
     ensures { IfOk result (λ text. string_bytes text ≡ row_by config.now view.now bar.now.entry bar.now.next) }
 {
     let entry = &bar.entry;
-    if !(is_activate(&entry.command) && entry.command.is_in(&config.geometry)) {
+    if !(entry.command.is_activate() && entry.command.is_in(&config.geometry)) {
         return Ok(String::new(alloc));
     }
     let closed = match bar.next {
@@ -196,7 +195,7 @@ fn burst_by(alloc: Global, timing: &Timing, view: &View, bar: &Bar) -> Result<St
     let entry = &bar.entry;
     let start = burst_start(timing, entry);
     let end = burst_until_next(timing, entry, bar.next);
-    if !(is_column(&entry.command) && view.is_seen(start, end)) {
+    if !(entry.command.is_column() && view.is_seen(start, end)) {
         return Ok(String::new(alloc));
     }
     burst_shape(

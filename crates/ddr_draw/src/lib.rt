@@ -8,7 +8,7 @@
 //! length: `joined` reads what `check` would, `long` reads what is longer line by line, and `sketch` keeps of its commands what the
 //! picture shows, over `kept_bars` and `kept_boxes`. `waited` says what a command waited for, which `held` is, over `pairs` by earlier
 //! commands and `starts` by auto-precharges, and `told` puts it into words. Both stand on `period`, which says when a row is closed
-//! and when data are on the bus, and on `names` for banks and kinds of commands. `rows` has the law that the open rows are those that
+//! and when data are on the bus, and on `names` for banks. `rows` has the law that the open rows are those that
 //! the rules of traces speak of, and `waits` the one that what a command is told to have waited for is what allowed it last.
 #![tactic(auto)]
 

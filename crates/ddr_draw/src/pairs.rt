@@ -7,7 +7,6 @@ ghost use Rattle.ddr_trace.specs.Rules.{spacing_of, speaks_of};
 ghost use Rattle.ddr_draw.specs.Held.{asks, is_rank_act, least_of, wait_at, wait_from, wait_under};
 
 use crate::held::{Held, later_of};
-use crate::names::{is_activate, is_column};
 use ddr_timing::timing::Timing;
 use ddr_trace::command::{Command, Entry};
 use ddr_trace::ranks::rank_switch;
@@ -84,10 +83,10 @@ fn asks(timing: &Timing, rule: Rule, earlier: &Command, later: &Command, between
     ensures { result ≡ asks timing.now rule earlier.now later.now between.now }
 {
     match rule {
-        Rule::Rtrs => is_column(earlier) && is_column(later) && earlier.rank() != later.rank(),
+        Rule::Rtrs => earlier.is_column() && later.is_column() && earlier.rank() != later.rank(),
         Rule::Faw => {
-            is_activate(earlier)
-                && is_activate(later)
+            earlier.is_activate()
+                && later.is_activate()
                 && earlier.rank() == later.rank()
                 && activates(later, between) == 3
         }
@@ -108,7 +107,7 @@ fn activates(command: &Command, entries: &[Entry]) -> usize
 fn is_rank_act(command: &Command, entry: &Entry) -> bool
     ensures { result ≡ is_rank_act command.now entry.now }
 {
-    is_activate(&entry.command) && entry.command.rank() == command.rank()
+    entry.command.is_activate() && entry.command.rank() == command.rank()
 }
 
 /// The clocks that the rule asks for between two such commands.

@@ -5,7 +5,7 @@ ghost use Rattle.std.specs.Prelude.{◌≡◌};
 ghost use Rattle.ddr_trace.specs.Banks.{recovery};
 ghost use Rattle.ddr_draw.specs.Changes.{burst_end, burst_start, burst_until, burst_until_of, closed_at, closed_by, is_closing, is_followed, next_closing, next_column};
 
-use crate::names::{after, is_activate, is_auto, is_column, is_precharge, is_read, is_same_bank};
+use crate::names::after;
 use ddr_timing::timing::Timing;
 use ddr_timing::units::BURST_CLOCKS;
 use ddr_trace::command::{Command, Entry};
@@ -35,15 +35,15 @@ fn next_closing(act: &Command, later: &[Entry]) -> Option<Entry>
 pub(crate) fn is_closing(act: &Command, command: &Command) -> bool
     ensures { result ≡ is_closing act.now command.now }
 {
-    is_same_bank(command, act)
-        && (is_activate(command) || is_precharge(command) || is_auto(command))
+    command.is_same_bank(act)
+        && (command.is_activate() || command.is_precharge() || command.is_auto())
 }
 
 /// The cycle at which the entry closes the row of the ACT.
 pub(crate) fn closed_by(timing: &Timing, act: &Entry, entry: &Entry) -> u64
     ensures { result ≡ closed_by timing.now act.now entry.now }
 {
-    if is_auto(&entry.command) {
+    if entry.command.is_auto() {
         after(entry.cycle, recovery(timing, &entry.command)).max(after(act.cycle, timing.ras))
     } else {
         entry.cycle
@@ -54,7 +54,7 @@ pub(crate) fn closed_by(timing: &Timing, act: &Entry, entry: &Entry) -> u64
 pub(crate) fn recovery(timing: &Timing, command: &Command) -> u32
     ensures { result ≡ recovery timing.now command.now }
 {
-    if is_read(command) {
+    if command.is_read() {
         timing.rtp
     } else {
         timing.cwl + BURST_CLOCKS + timing.wr
@@ -65,7 +65,7 @@ pub(crate) fn recovery(timing: &Timing, command: &Command) -> u32
 pub(crate) fn burst_start(timing: &Timing, entry: &Entry) -> u64
     ensures { result ≡ burst_start timing.now entry.now }
 {
-    let latency = if is_read(&entry.command) {
+    let latency = if entry.command.is_read() {
         timing.cl
     } else {
         timing.cwl
@@ -118,5 +118,5 @@ pub(crate) fn next_column(later: &[Entry]) -> Option<Entry>
     later
         .iter()
         .copied()
-        .find(|entry| is_column(&entry.command))
+        .find(|entry| entry.command.is_column())
 }

@@ -6,7 +6,7 @@ ghost use Rattle.ddr_trace.specs.Rules.{is_in};
 ghost use Rattle.ddr_draw.specs.Lanes.{top_of};
 ghost use Rattle.ddr_draw.specs.Scale.{end_shown, first_shown, is_seen, lane_top, picture_height, picture_width, width_of, x_of};
 
-use crate::names::{after, bank_of, group_of};
+use crate::names::after;
 use crate::view::{MOST_CLOCKS, View};
 use ddr_timing::bank::BankId;
 use ddr_timing::geometry::Geometry;
@@ -108,8 +108,8 @@ pub(crate) fn top_of(geometry: &Geometry, command: &Command) -> u64
 {
     let id = BankId {
         rank: command.rank(),
-        group: group_of(command),
-        bank: bank_of(command),
+        group: command.group(),
+        bank: command.bank(),
     };
     lane_top(id.number(geometry) + FIRST_BANK_LANE)
 }

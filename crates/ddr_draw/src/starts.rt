@@ -6,7 +6,7 @@ ghost use Rattle.ddr_trace.specs.Banks.{bank_after, bank_behind};
 ghost use Rattle.ddr_draw.specs.Held.{auto_place, bank_at, start_of, wait_closing, wait_of_bank, wait_of_rank, wait_of_starts};
 
 use crate::held::{Held, later_of};
-use crate::names::{after, is_auto, is_same_bank};
+use crate::names::after;
 use crate::period::recovery;
 use ddr_timing::config::Config;
 use ddr_timing::timing::Timing;
@@ -115,7 +115,7 @@ fn auto_place(bank: &Command, first: usize, recent: &[Entry]) -> usize
     let mut place = first;
     let mut rest = recent;
     'entries: while let Some((entry, later)) = rest.split_first() {
-        if is_auto(&entry.command) && is_same_bank(&entry.command, bank) {
+        if entry.command.is_auto() && entry.command.is_same_bank(bank) {
             found = place;
         }
         place += 1;
@@ -139,7 +139,7 @@ fn bank_behind(command: &Command, entries: &[Entry]) -> Option<OpenBank>
 fn bank_after(command: &Command, bank: Option<OpenBank>, entry: &Entry) -> Option<OpenBank>
     ensures { result ≡ bank_after command.now bank entry.now }
 {
-    if is_same_bank(&entry.command, command) {
+    if entry.command.is_same_bank(command) {
         changed_by(entry, bank)
     } else {
         bank

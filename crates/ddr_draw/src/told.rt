@@ -5,7 +5,6 @@ ghost use Rattle.std.specs.Prelude.{◌≡◌, IfOk, string_bytes};
 ghost use Rattle.ddr_draw.specs.Told.{at_text, clocks_text, from_text, held_text, wait_text};
 
 use crate::held::Held;
-use crate::names::command_name;
 use ddr_trace::command::Entry;
 use std::alloc::{AllocError, Global};
 
@@ -53,7 +52,7 @@ fn from_text(alloc: Global, held: &Held) -> Result<String, AllocError>
 pub(crate) fn at_text(alloc: Global, place: usize, entry: &Entry) -> Result<String, AllocError>
     ensures { IfOk result (λ text. string_bytes text ≡ at_text place entry.now) }
 {
-    let name = command_name(&entry.command);
+    let name = entry.command.name();
     let cycle = entry.cycle;
     let line = place as u128 + 2;
     format!(in alloc; "{name} at cycle {cycle} (line {line})")

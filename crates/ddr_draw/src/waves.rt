@@ -6,7 +6,7 @@ ghost use Rattle.ddr_draw.specs.Waves.{change_line, declarations, declared_bank,
 
 use crate::change::{Change, Shown};
 use crate::changes::all_changes;
-use crate::names::{bank_numbered, command_name, is_read, name_of_bank, row_of};
+use crate::names::{bank_numbered, name_of_bank};
 use crate::order::put_in_order;
 use ddr_timing::config::Config;
 use ddr_timing::geometry::Geometry;
@@ -126,18 +126,18 @@ fn change_line(alloc: Global, shown: &Shown) -> Result<String, AllocError>
 {
     match shown {
         Shown::Named(command) => {
-            let name = command_name(command);
+            let name = command.name();
             format!(in alloc; "s{name} command\n")
         }
         Shown::Quiet => String::from_str(alloc, "s- command\n"),
         Shown::Burst(command) => {
-            let kind = if is_read(command) { "RD_" } else { "WR_" };
+            let kind = if command.is_read() { "RD_" } else { "WR_" };
             let bank = name_of_bank(alloc, command)?;
             format!(in alloc; "s{kind}{bank} data\n")
         }
         Shown::Free => String::from_str(alloc, "s- data\n"),
         Shown::Open(command) => {
-            let row = row_of(command);
+            let row = command.row();
             let bank = name_of_bank(alloc, command)?;
             format!(in alloc; "srow_{row} {bank}\n")
         }

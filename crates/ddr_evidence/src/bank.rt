@@ -8,7 +8,6 @@ ghost use Rattle.ddr_evidence.specs.Places.{IsLastChange, IsLastChangeAt, change
 ghost use Rattle.ddr_evidence.specs.Recent.{StartsAtAct, decides, opens};
 
 use crate::evidence::Placed;
-use crate::kind::{is_activate, is_auto, is_precharge, is_same_bank};
 use ddr_timing::timing::Timing;
 use ddr_timing::units::BURST_CLOCKS;
 use ddr_trace::bank::{OpenBank, changed_by};
@@ -95,7 +94,7 @@ fn last_opened(history: &[Entry], command: &Command) -> Option<usize>
     let mut earlier = history;
     while let Some((last, before)) = earlier.split_last() {
         if decides(last, command) {
-            if is_activate(&last.command) {
+            if last.command.is_activate() {
                 return Some(before.len());
             }
             return None;
@@ -109,15 +108,15 @@ fn last_opened(history: &[Entry], command: &Command) -> Option<usize>
 fn opens(entry: &Entry, command: &Command) -> bool
     ensures { result ≡ opens command.now entry.now }
 {
-    is_activate(&entry.command) && is_same_bank(&entry.command, command)
+    entry.command.is_activate() && entry.command.is_same_bank(command)
 }
 
 /// Whether the entry decides what the bank that the command is for is, whatever it was.
 fn decides(entry: &Entry, command: &Command) -> bool
     ensures { result ≡ decides command.now entry.now }
 {
-    (is_activate(&entry.command) || is_precharge(&entry.command))
-        && is_same_bank(&entry.command, command)
+    (entry.command.is_activate() || entry.command.is_precharge())
+        && entry.command.is_same_bank(command)
 }
 
 /// The entry at the place.
@@ -147,7 +146,7 @@ impl SoFar {
         ensures changed { result.changed
             ≡ (if is_same_bank entry.now.command command.now && changes entry.now self.bank then Some place else self.changed) }
     {
-        if !is_same_bank(&entry.command, command) {
+        if !entry.command.is_same_bank(command) {
             return self;
         }
         let changed = if changes(entry, &self.bank) {
@@ -182,8 +181,8 @@ fn walk(history: &[Entry], command: &Command) -> SoFar
 fn changes(entry: &Entry, bank: &Option<OpenBank>) -> bool
     ensures { result ≡ changes entry.now bank.now }
 {
-    is_activate(&entry.command)
-        || (bank.is_some() && (is_precharge(&entry.command) || is_auto(&entry.command)))
+    entry.command.is_activate()
+        || (bank.is_some() && (entry.command.is_precharge() || entry.command.is_auto()))
 }
 
 /// How many clocks the cycle stands behind the start of the bank's auto-precharge; 0 before it.

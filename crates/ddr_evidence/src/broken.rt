@@ -9,7 +9,6 @@ ghost use Rattle.ddr_evidence.specs.Places.{pair_breaks};
 ghost use Rattle.ddr_evidence.specs.Recent.{IsGreatest, IsReach, is_later, is_of_near, span_of};
 
 use crate::find::{evidence_of, too_close};
-use crate::kind::{is_activate, is_column, is_of_kind};
 use crate::refresh::breaks_gap;
 use crate::state;
 use ddr_timing::config::Config;
@@ -86,8 +85,8 @@ fn is_later(rule: Rule, command: &Command, timing: &Timing) -> bool
     ensures { result ≡ is_later timing.now rule command.now }
 {
     match rule {
-        Rule::Rtrs => is_column(command),
-        Rule::Faw => is_activate(command),
+        Rule::Rtrs => command.is_column(),
+        Rule::Faw => command.is_activate(),
         _ => is_later_of_two(rule, command, timing),
     }
 }
@@ -97,7 +96,7 @@ fn is_later_of_two(rule: Rule, command: &Command, timing: &Timing) -> bool
     ensures { result ≡ (spacing_of timing.now rule).later command.now }
 {
     match rule.spacing(timing) {
-        Some(spacing) => is_of_kind(spacing.later, command),
+        Some(spacing) => spacing.later.has(command),
         None => false,
     }
 }

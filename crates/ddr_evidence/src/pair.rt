@@ -7,7 +7,6 @@ ghost use Rattle.ddr_trace.specs.Rules.{is_too_close, spacing_of};
 ghost use Rattle.ddr_evidence.specs.Places.{IsLast, are_breaking, breaks_from, counts, least_of};
 
 use crate::evidence::Placed;
-use crate::kind::{is_activate, is_column, is_refresh};
 use ddr_timing::timing::Timing;
 use ddr_trace::command::{Command, Entry, is_before};
 use ddr_trace::ranks::rank_switch;
@@ -49,21 +48,21 @@ fn are_breaking(rule: Rule, a: &Entry, entry: &Entry, between: usize, timing: &T
     let (first, last) = (&a.command, &entry.command);
     match rule {
         Rule::Rtrs => {
-            is_column(first)
-                && is_column(last)
+            first.is_column()
+                && last.is_column()
                 && first.rank() != last.rank()
                 && is_before(entry.cycle, a.cycle, rank_switch(first, last, timing))
         }
         Rule::Faw => {
-            is_activate(first)
-                && is_activate(last)
+            first.is_activate()
+                && last.is_activate()
                 && first.rank() == last.rank()
                 && between == 3
                 && is_before(entry.cycle, a.cycle, timing.faw)
         }
         Rule::RefGap => {
-            is_refresh(first)
-                && is_refresh(last)
+            first.is_refresh()
+                && last.is_refresh()
                 && first.rank() == last.rank()
                 && between == 0
                 && is_gap_too_long(a.cycle, entry.cycle, timing)
@@ -90,8 +89,8 @@ fn counts(rule: Rule, between: &Entry, entry: &Entry) -> bool
     ensures { result ≡ counts rule entry.now between.now }
 {
     let is_counted = match rule {
-        Rule::Faw => is_activate(&between.command),
-        Rule::RefGap => is_refresh(&between.command),
+        Rule::Faw => between.command.is_activate(),
+        Rule::RefGap => between.command.is_refresh(),
         _ => false,
     };
     is_counted && between.command.rank() == entry.command.rank()

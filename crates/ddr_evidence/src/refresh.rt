@@ -7,7 +7,6 @@ ghost use Rattle.ddr_evidence.specs.declared.evidence.Evidence.TheVariants.{Late
 ghost use Rattle.ddr_evidence.specs.Evidence.{IsLate};
 
 use crate::evidence::Evidence;
-use crate::kind::{is_refresh, is_refresh_of_rank};
 use ddr_timing::timing::Timing;
 use ddr_trace::command::{Command, Entry};
 use ddr_trace::refresh::is_gap_too_long;
@@ -22,7 +21,7 @@ pub(crate) fn ref_late(
     ensures broken { is_some result ≡ breaks_ref_late timing.now start history.now entry.now }
     ensures some { IfSome result (IsLate timing.now start entry.now.cycle (refresh_count history.now entry.now.command)) }
 {
-    if !is_refresh(&entry.command) {
+    if !entry.command.is_refresh() {
         return None;
     }
     let (refreshes, due) = late(history, &entry.command, timing, start, entry.cycle)?;
@@ -33,12 +32,12 @@ pub(crate) fn ref_late(
 pub(crate) fn breaks_gap(history: &[Entry], entry: &Entry, timing: &Timing) -> bool
     ensures { result ≡ breaks_ref_gap timing.now history.now entry.now }
 {
-    if !is_refresh(&entry.command) {
+    if !entry.command.is_refresh() {
         return false;
     }
     let mut earlier = history;
     while let Some((last, before)) = earlier.split_last() {
-        if is_refresh_of_rank(&last.command, &entry.command) {
+        if last.command.is_refresh_of_rank(&entry.command) {
             return is_gap_too_long(last.cycle, entry.cycle, timing);
         }
         earlier = before;
@@ -82,6 +81,6 @@ fn refresh_count(history: &[Entry], command: &Command) -> usize
 {
     history
         .iter()
-        .filter(|a| is_refresh_of_rank(&a.command, command))
+        .filter(|a| a.command.is_refresh_of_rank(command))
         .count()
 }

@@ -4,7 +4,7 @@
 ghost use Rattle.std.specs.Prelude.{◌≡◌, ℕ, ◌*◌, ◌<◌, ◌&&◌, ◌||◌, IfSome, MatchOption, false, is_none, is_some};
 ghost use Rattle.ddr_timing.specs.declared.units.TheConstants.{GROUP_BANKS};
 ghost use Rattle.ddr_trace.specs.Banks.{any_bank, bank_behind, is_active, is_auto_within, open_row, ready_row};
-ghost use Rattle.ddr_trace.specs.Commands.{bank_of, group_of, is_activate, is_column, is_refresh, rank_of, row_of};
+ghost use Rattle.ddr_trace.specs.Commands.{bank_of, group_of, is_activate, is_column, rank_of, row_of};
 ghost use Rattle.ddr_trace.specs.Rules.{breaks_row, breaks_state};
 ghost use Rattle.ddr_evidence.specs.declared.evidence.Evidence.TheVariants.{Bank};
 ghost use Rattle.ddr_evidence.specs.Evidence.{IsActiveBank, IsFirstBank, IsOwnBank, IsStartOf, IsStartOfRank, IsState, bank_test, is_behind_start, is_behind_start_of_rank};
@@ -12,7 +12,6 @@ ghost use Rattle.ddr_evidence.specs.Places.{bank_at};
 
 use crate::bank::{BankHistory, bank_of, clocks_since_start, history_of};
 use crate::evidence::Evidence;
-use crate::kind::{is_activate, is_column, is_refresh};
 use ddr_timing::config::Config;
 use ddr_timing::timing::Timing;
 use ddr_timing::units::GROUP_BANKS;
@@ -89,10 +88,10 @@ pub(crate) fn state(history: &[Entry], entry: &Entry, config: &Config) -> Option
     ensures some { IfSome result (IsState config.now history.now entry.now) }
 {
     let command = &entry.command;
-    if is_refresh(command) {
+    if command.is_refresh() {
         return active_bank(history, entry, config);
     }
-    if !is_activate(command) && !is_column(command) {
+    if !command.is_activate() && !command.is_column() {
         return None;
     }
     let seen = history_of(history, command);
@@ -108,10 +107,10 @@ pub(crate) fn breaks_state(history: &[Entry], entry: &Entry, config: &Config) ->
     ensures { result ≡ breaks_state config.now history.now entry.now }
 {
     let command = &entry.command;
-    if is_refresh(command) {
+    if command.is_refresh() {
         return some_bank(history, entry, config, BankTest::Active);
     }
-    if !is_activate(command) && !is_column(command) {
+    if !command.is_activate() && !command.is_column() {
         return false;
     }
     is_at_odds(entry, &bank_of(history, command), &config.timing)
@@ -123,8 +122,8 @@ fn is_at_odds(entry: &Entry, bank: &Option<OpenBank>, timing: &Timing) -> bool
         || (is_column entry.now.command && is_none (ready_row bank.now))) }
 {
     let command = &entry.command;
-    (is_activate(command) && BankTest::Active.holds(bank, entry.cycle, timing))
-        || (is_column(command) && !is_ready(bank))
+    (command.is_activate() && BankTest::Active.holds(bank, entry.cycle, timing))
+        || (command.is_column() && !is_ready(bank))
 }
 
 /// The first active bank of the entry's rank, if there is one.
@@ -150,7 +149,7 @@ pub(crate) fn row(history: &[Entry], entry: &Entry, timing: &Timing) -> Option<E
     ensures some { IfSome result (IsOwnBank history.now entry.now) }
 {
     let command = &entry.command;
-    if !is_column(command) {
+    if !command.is_column() {
         return None;
     }
     let seen = history_of(history, command);
@@ -166,7 +165,7 @@ pub(crate) fn breaks_row(history: &[Entry], entry: &Entry, timing: &Timing) -> b
     ensures { result ≡ breaks_row timing.now history.now entry.now }
 {
     let command = &entry.command;
-    if !is_column(command) {
+    if !command.is_column() {
         return false;
     }
     let bank = bank_of(history, command);
@@ -178,7 +177,7 @@ pub(crate) fn rp_start(history: &[Entry], entry: &Entry, timing: &Timing) -> Opt
     ensures broken { is_some result ≡ is_behind_start timing.now history.now entry.now }
     ensures some { IfSome result (IsStartOf timing.now entry.now.command history.now entry.now) }
 {
-    if is_activate(&entry.command) {
+    if entry.command.is_activate() {
         start_of(&entry.command, history, entry, timing)
     } else {
         None
@@ -189,7 +188,7 @@ pub(crate) fn rp_start(history: &[Entry], entry: &Entry, timing: &Timing) -> Opt
 pub(crate) fn is_behind_start(history: &[Entry], entry: &Entry, timing: &Timing) -> bool
     ensures { result ≡ is_behind_start timing.now history.now entry.now }
 {
-    if !is_activate(&entry.command) {
+    if !entry.command.is_activate() {
         return false;
     }
     let bank = bank_of(history, &entry.command);
@@ -201,7 +200,7 @@ pub(crate) fn rp_ref_start(history: &[Entry], entry: &Entry, config: &Config) ->
     ensures broken { is_some result ≡ is_behind_start_of_rank config.now history.now entry.now }
     ensures some { IfSome result (IsStartOfRank config.now history.now entry.now) }
 {
-    if !is_refresh(&entry.command) {
+    if !entry.command.is_refresh() {
         return None;
     }
     let rank = entry.command.rank();
@@ -213,7 +212,7 @@ pub(crate) fn rp_ref_start(history: &[Entry], entry: &Entry, config: &Config) ->
 pub(crate) fn is_behind_start_of_rank(history: &[Entry], entry: &Entry, config: &Config) -> bool
     ensures { result ≡ is_behind_start_of_rank config.now history.now entry.now }
 {
-    is_refresh(&entry.command) && some_bank(history, entry, config, BankTest::WithinStart)
+    entry.command.is_refresh() && some_bank(history, entry, config, BankTest::WithinStart)
 }
 
 /// That the entry stands too close behind the start of an auto-precharge of the command's bank, if so.

@@ -8,7 +8,7 @@ use Rattle.ddr_trace.specs.declared.rule.Rule.TheVariants as rule
 use Rattle.ddr_trace.specs.Commands.{is_read}
 use Rattle.ddr_trace.specs.Rules.{latency}
 
--- the key that is a rule's distance; of other rules none
+-- the key that is a rule's distance; of a rule that has none, or a formula of several keys, no key
 abbrev pub key_of : Rule → List ℕ
 key_of rule.Rcd = codes "rcd"
 key_of rule.Ras = codes "ras"
@@ -23,7 +23,16 @@ key_of rule.Rtp = codes "rtp"
 key_of rule.Rtw = codes "rtw"
 key_of rule.RpRef = codes "rp"
 key_of rule.Rfc = codes "rfc"
-key_of _ = []
+key_of rule.Order = []
+key_of rule.Place = []
+key_of rule.State = []
+key_of rule.Row = []
+key_of rule.WtrL = []
+key_of rule.WtrS = []
+key_of rule.Wr = []
+key_of rule.RefLate = []
+key_of rule.RefGap = []
+key_of rule.Rtrs = []
 
 -- where a write's data count: from the write to the end of its data, and from there on the key's clocks
 unfoldable pub data_text : Timing → List ℕ → ℕ → List ℕ

@@ -6,21 +6,11 @@ use Rattle.ddr_trace.specs.declared.command.Command.TheVariants.{Act, Rd, Wr, Rd
 use Rattle.ddr_trace.specs.declared.command.Entry.{Entry}
 use Rattle.ddr_trace.specs.declared.rule.Rule.{Rule}
 use Rattle.ddr_trace.specs.declared.rule.Rule.TheVariants as rule
+use Rattle.ddr_trace.specs.Names.{command_name}
 
 -- The line of an entry in a trace's text, by its place from 0: lines count records from 1, and the header is the first.
 abbrev pub line_of : ℕ → ℕ
 line_of place = place + 2
-
--- the command's name in a trace's text
-abbrev pub command_name : Command → List ℕ
-command_name (Act rank group bank row) = codes "ACT"
-command_name (Rd rank group bank row line) = codes "RD"
-command_name (Wr rank group bank row line) = codes "WR"
-command_name (RdAuto rank group bank row line) = codes "RDA"
-command_name (WrAuto rank group bank row line) = codes "WRA"
-command_name (Pre rank group bank) = codes "PRE"
-command_name (PreAll rank) = codes "PREA"
-command_name (Refresh rank) = codes "REF"
 
 -- an entry: its command, its cycle, and its line
 unfoldable pub at_text : ℕ → Entry → List ℕ

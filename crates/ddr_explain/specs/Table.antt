@@ -15,7 +15,8 @@ use Rattle.ddr_evidence.specs.declared.evidence.Evidence.TheVariants.{TooClose, 
 use Rattle.ddr_evidence.specs.declared.evidence.Placed.{Placed}
 use Rattle.ddr_evidence.specs.Evidence.{IsEvidence, IsLateAtEnd, is_of_one_bank}
 use Rattle.ddr_explain.specs.AllFaults.{all_faults, told_of}
-use Rattle.ddr_explain.specs.Names.{command_name, line_of}
+use Rattle.ddr_explain.specs.Names.{line_of}
+use Rattle.ddr_trace.specs.Names.{command_name}
 
 -- the fields `rank,group,bank`: of a bank
 unfoldable pub bank_fields : ℕ → ℕ → ℕ → List ℕ

@@ -2,11 +2,11 @@
 //!
 //! `ddr_timing` and `ddr_trace` stand below, and `sentence` above.
 ghost use Rattle.std.specs.Prelude.{◌≡◌, IfOk, string_bytes};
-ghost use Rattle.ddr_trace.specs.Rules.{latency};
 ghost use Rattle.ddr_explain.specs.Limits.{data_text, key_of, latency_key, limit_text, switch_text};
 
 use ddr_timing::timing::Timing;
 use ddr_trace::command::Command;
+use ddr_trace::ranks::latency;
 use ddr_trace::rule::Rule;
 use std::alloc::{AllocError, Global};
 
@@ -47,7 +47,16 @@ fn key_of(rule: Rule) -> &'static str
         Rule::Rtp => "rtp",
         Rule::Rtw => "rtw",
         Rule::Rfc => "rfc",
-        _ => "",
+        Rule::Order
+        | Rule::Place
+        | Rule::State
+        | Rule::Row
+        | Rule::WtrL
+        | Rule::WtrS
+        | Rule::Wr
+        | Rule::RefLate
+        | Rule::RefGap
+        | Rule::Rtrs => "",
     }
 }
 
@@ -82,20 +91,5 @@ fn switch_text(
 fn latency_key(command: &Command) -> &'static str
     ensures { result.now ≡ latency_key command.now }
 {
-    if matches!(command, Command::Rd { .. } | Command::RdAuto { .. }) {
-        "cl"
-    } else {
-        "cwl"
-    }
-}
-
-/// The clocks from a read or a write to its data.
-fn latency(command: &Command, timing: &Timing) -> u32
-    ensures { result ≡ latency timing.now command.now }
-{
-    if matches!(command, Command::Rd { .. } | Command::RdAuto { .. }) {
-        timing.cl
-    } else {
-        timing.cwl
-    }
+    if command.is_read() { "cl" } else { "cwl" }
 }

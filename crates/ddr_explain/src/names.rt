@@ -2,7 +2,7 @@
 //!
 //! `ddr_evidence` and `ddr_trace` stand below, and the other modules of the crate above.
 ghost use Rattle.std.specs.Prelude.{◌≡◌, ◌<◌, ◌^◌, IfOk, string_bytes};
-ghost use Rattle.ddr_explain.specs.Names.{at_text, clocks_text, command_name, label_of, line_of};
+ghost use Rattle.ddr_explain.specs.Names.{at_text, clocks_text, label_of, line_of};
 
 use ddr_evidence::evidence::Placed;
 use ddr_trace::command::Command;
@@ -17,28 +17,12 @@ pub(crate) fn line_of(place: usize) -> u64
     place as u64 + 2
 }
 
-/// The command's name in a trace's text.
-pub(crate) fn command_name(command: &Command) -> &'static str
-    ensures { result.now ≡ command_name command.now }
-{
-    match command {
-        Command::Act { .. } => "ACT",
-        Command::Rd { .. } => "RD",
-        Command::Wr { .. } => "WR",
-        Command::RdAuto { .. } => "RDA",
-        Command::WrAuto { .. } => "WRA",
-        Command::Pre { .. } => "PRE",
-        Command::PreAll { .. } => "PREA",
-        Command::Refresh { .. } => "REF",
-    }
-}
-
 /// An entry: its command, its cycle, and its line.
 #[tactic(auto, unfolding(crate::specs::Names::at_text))]
 pub(crate) fn at_text(alloc: Global, placed: &Placed) -> Result<String, AllocError>
     ensures { IfOk result (λ text. string_bytes text ≡ at_text placed.now.place placed.now.entry) }
 {
-    let name = command_name(&placed.entry.command);
+    let name = placed.entry.command.name();
     let cycle = placed.entry.cycle;
     let line = line_of(placed.place);
     format!(in alloc; "{name} at cycle {cycle} (line {line})")

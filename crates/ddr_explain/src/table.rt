@@ -8,7 +8,7 @@ ghost use Rattle.ddr_trace.specs.Rules.{breaks, ends_late};
 ghost use Rattle.ddr_evidence.specs.Evidence.{is_of_one_bank};
 ghost use Rattle.ddr_explain.specs.Table.{IsEndLine, IsEntryLine, IsLine, IsTable, bank_fields, command_fields, count_line, count_of, counts_text, distance_fields, earlier_fields, end_line, entry_line, evidence_fields, place_fields};
 
-use crate::names::{command_name, line_of};
+use crate::names::line_of;
 use ddr_evidence::evidence::{Evidence, Placed};
 use ddr_evidence::find::{evidence_at_end, evidence_of};
 use ddr_timing::config::Config;
@@ -123,7 +123,7 @@ fn entry_line(
 {
     let line = line_of(here.place);
     let cycle = here.entry.cycle;
-    let cmd = command_name(&here.entry.command);
+    let cmd = here.entry.command.name();
     let bank = place_fields(alloc, &here.entry.command, evidence)?;
     let name = rule.name();
     let rest = evidence_fields(alloc, evidence)?;

@@ -1,7 +1,6 @@
 //! The last read and the last write of a rank, as much as the rule on two ranks asks of them, and the first cycles that
 //! they leave the other rank.
 ghost use Rattle.std.specs.Prelude.{◌≡◌};
-ghost use Rattle.ddr_trace.specs.Commands.{is_column};
 ghost use Rattle.ddr_legality.specs.Columns.{behind_columns, behind_switch, columns_noted, is_switched_soon, switch_behind, switches_soon};
 
 use ddr_timing::timing::Timing;
@@ -40,7 +39,7 @@ impl Columns {
     pub fn are_left_too_soon(&self, entry: &Entry, timing: &Timing) -> bool
         ensures { result ≡ switches_soon timing.now self.now entry.now }
     {
-        is_column(&entry.command)
+        entry.command.is_column()
             && (is_switched_soon(&self.read, entry, timing)
                 || is_switched_soon(&self.write, entry, timing))
     }
@@ -59,7 +58,7 @@ impl Columns {
     fn allowed_at(&self, command: &Command, timing: &Timing) -> u64
         ensures { result ≡ behind_columns timing.now self.now command.now }
     {
-        if !is_column(command) {
+        if !command.is_column() {
             return 0;
         }
         let read = behind_switch(&self.read, command, timing);
@@ -121,14 +120,4 @@ fn is_switched_soon(last: &Option<Entry>, entry: &Entry, timing: &Timing) -> boo
         ),
         None => false,
     }
-}
-
-/// Whether the command is a read or a write.
-pub(crate) fn is_column(command: &Command) -> bool
-    ensures { result ≡ is_column command.now }
-{
-    matches!(
-        command,
-        Command::Rd { .. } | Command::Wr { .. } | Command::RdAuto { .. } | Command::WrAuto { .. }
-    )
 }

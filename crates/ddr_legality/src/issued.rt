@@ -12,7 +12,7 @@ ghost use Rattle.ddr_rank.specs.Ready.{LAST_CYCLE, after};
 ghost use Rattle.ddr_rank.specs.Stands.{IsAfter, lowest_on_rank};
 ghost use Rattle.ddr_legality.specs.Columns.{columns_noted, switch_behind};
 
-use crate::columns::{Columns, Switch, is_column};
+use crate::columns::{Columns, Switch};
 use ddr_rank::rank::Rank;
 use ddr_timing::config::Config;
 use ddr_trace::command::{Command, Entry};
@@ -318,7 +318,7 @@ fn note_column(columns: &mut Columns, switch: &mut Switch, entry: &Entry, config
     ensures columns { columns.new ≡ columns_noted entry.now columns.old }
     ensures switch { switch.old ≡ switch_behind config.now.timing columns.old → switch.new ≡ switch_behind config.now.timing columns.new }
 {
-    if is_column(&entry.command) {
+    if entry.command.is_column() {
         columns.note(entry);
         *switch = columns.switch(&config.timing);
     }

@@ -2,12 +2,12 @@
 ghost use Rattle.std.specs.Prelude.{◌≡◌, ℕ, ◌+◌, ◌*◌, nat_lt, List, [], ◌∷◌, ◌++◌};
 ghost use Rattle.ddr_trace.specs.declared.command.Command.TheVariants.{Refresh};
 ghost use Rattle.ddr_trace.specs.declared.command.Entry.{Entry};
-ghost use Rattle.ddr_trace.specs.Commands.{is_refresh, rank_of};
+ghost use Rattle.ddr_trace.specs.Commands.{rank_of};
 ghost use Rattle.ddr_trace.specs.Rules.{refresh_count};
 ghost use Rattle.ddr_legality.specs.Refreshes.{HasCounted, breaks_gap, refresh_broken};
 
 use ddr_timing::timing::Timing;
-use ddr_trace::command::{Command, Entry};
+use ddr_trace::command::Entry;
 use ddr_trace::refresh::{is_gap_too_long, is_overdue};
 use ddr_trace::rule::Rule;
 
@@ -31,7 +31,7 @@ impl Refreshes {
         ensures { (history : List Entry) → HasCounted (rank_of entry.now.command) self.now history
             → result ≡ refresh_broken timing.now start history entry.now }
     {
-        if !is_refresh(entry) {
+        if !entry.command.is_refresh() {
             return None;
         }
         if is_overdue(self.count, timing, start, entry.cycle) {
@@ -66,15 +66,9 @@ impl Refreshes {
         ensures { (history : List Entry) → HasCounted (rank_of entry.now.command) self.old history
             → HasCounted (rank_of entry.now.command) self.new (history ++ entry.now ∷ []) }
     {
-        if is_refresh(entry) {
+        if entry.command.is_refresh() {
             self.count = self.count.saturating_add(1);
             self.last = Some(entry.cycle);
         }
     }
-}
-
-fn is_refresh(entry: &Entry) -> bool
-    ensures { result ≡ is_refresh entry.now.command }
-{
-    matches!(entry.command, Command::Refresh { .. })
 }

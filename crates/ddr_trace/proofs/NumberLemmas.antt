@@ -1,36 +1,29 @@
--- Numbers in decimal digits.
-use Rattle.std.proofs.Common.{◌≡◌, ℕ, ◌^◌, ◌<◌, ◌≤◌, Bool, true, false, ◌&&◌, cond, List, length, None, Some, Err, refl, arith, rules}
-use Rattle.std.specs.Char.{is_ascii_digit}
+-- Numbers in decimal digits, read digit by digit.
+use Rattle.std.proofs.Common.{◌≡◌, ℕ, ◌+◌, ◌*◌, ◌^◌, ◌<◌, ◌≤◌, Bool, true, false, List, length, get_or, take, Option, Some, None, refl, sym, ◌∙◌, arith, rules}
+use Rattle.std.specs.Prelude.{IfNone}
+use Rattle.std.specs.Char.{digit_value, is_ascii_digit}
 use Rattle.std.specs.List.{list_all}
-use Rattle.std.specs.Str.{IsUtf8}
-use Rattle.std.proofs.lemmas.Str.{IsUtf8-from_ascii}
-use Rattle.std.proofs.lemmas.Fmt.{IsAscii-from_digits}
-use Rattle.std.specs.Str.Parse.{digits_value, ParsesUnsigned}
-use Rattle.std.proofs.lemmas.Str.Parse.{IsNumeralModel, numerals_by_value, parse_digits}
-use Rattle.std.proofs.lemmas.Bool.{leb-true, ltb-true}
-use Rattle.ddr_trace.specs.Numbers.{number_of}
+use Rattle.std.specs.Str.Parse.{digits_value}
+use Rattle.std.proofs.lemmas.Int.Digits.{digits_value_more}
+use Rattle.std.proofs.lemmas.List.Folds.{list_all_at}
+use Rattle.std.proofs.lemmas.Str.Parse.{IsNumeralModel, digits_value-take-le, numerals_by_value}
 
 -- `list_all is_ascii_digit` tells the texts of digits
 pub digits_are : IsNumeralModel (λ ds. list_all is_ascii_digit ds ≡ true) (digits_value 10)
 digits_are = numerals_by_value _ (search rules)
 
-none_of_four : {X : Type 0} (a b c d : Bool) (x : X) → ((a ≡ true) × (d ≡ true) → ⊥) → cond (a && b && c && d) (Some x) None ≡ None
-none_of_four false _ _ _ x h = refl
-none_of_four true false _ _ x h = refl
-none_of_four true true false _ x h = refl
-none_of_four true true true false x h = refl
-none_of_four true true true true x h = absurd (h (refl, refl))
+true_unless_false : (b : Bool) → (b ≡ false → false ≡ true) → b ≡ true
+true_unless_false true not_false = refl
+true_unless_false false not_false = not_false refl
 
--- a text is no number where it is empty, or what it spells is too great
-number_none : (most : ℕ) (field : List ℕ) → ((0 < length field) × (digits_value 10 field ≤ most) → ⊥) → number_of most field ≡ None
-unfolding number_of
-number_none most field none = none_of_four _ _ _ _ _ (λ p. none (ltb-true _ _ p.0, leb-true _ _ p.1))
+-- a byte among digits is one
+digit_at : (xs : List ℕ) (i : ℕ) → i < length xs → list_all is_ascii_digit xs ≡ true → is_ascii_digit (get_or xs i 0) ≡ true
+digit_at xs i below digits = true_unless_false _ (λ other. sym (list_all_at is_ascii_digit xs i 0 below other) ∙ digits)
 
--- a text of digits is no number below 2^64 where `parse` refuses it
-pub number_of-unparsed : {E : Type 0} (most : ℕ) (field : List ℕ) (e : E) → most < 2 ^ 64 → list_all is_ascii_digit field ≡ true → ParsesUnsigned 64 10 field (Err e) → number_of most field ≡ None
-number_of-unparsed most field e small digits refused =
-    number_none most field (λ p. parse_digits digits_are 64 field (Err e) refused digits (p.0, omega arith))
-
--- digits are text
-pub digits_text : (field : List ℕ) → list_all is_ascii_digit field ≡ true → IsUtf8 field
-digits_text field digits = IsUtf8-from_ascii field (IsAscii-from_digits field (digits_are.to field digits))
+-- where the digits up to here spell a number that is too great, all of them do
+pub too_great : (r : Option ℕ) (xs : List ℕ) (i number : ℕ) → i < length xs → number ≡ digits_value 10 (take i xs) → (is_ascii_digit (get_or xs i 0) ≡ true → 2 ^ 64 ≤ number * 10 + digit_value (get_or xs i 0))
+    → IfNone r (list_all is_ascii_digit xs ≡ true → 2 ^ 64 ≤ digits_value 10 xs)
+too_great (Some n) xs i number below so_far great = search rules
+too_great None xs i number below so_far great = λ digits.
+    let here = great (digit_at xs i below digits) in
+    omega (arith, here, digits_value_more 10 xs i below, digits_value-take-le 10 xs (i + 1) (omega arith))

@@ -1,7 +1,19 @@
--- The names of the rules, as reports print them, and their numbers.
+-- The names of commands, as a trace's text has them, and those of the rules, as reports print them, with their numbers.
 use Rattle.std.specs.Prelude.{ℕ, List, codes}
+use Rattle.ddr_trace.specs.declared.command.Command.{Command}
+use Rattle.ddr_trace.specs.declared.command.Command.TheVariants.{Act, Rd, Wr, RdAuto, WrAuto, Pre, PreAll, Refresh}
 use Rattle.ddr_trace.specs.declared.rule.Rule.{Rule}
 use Rattle.ddr_trace.specs.declared.rule.Rule.TheVariants as rule
+
+abbrev pub command_name : Command → List ℕ
+command_name (Act rank group bank row) = codes "ACT"
+command_name (Rd rank group bank row line) = codes "RD"
+command_name (Wr rank group bank row line) = codes "WR"
+command_name (RdAuto rank group bank row line) = codes "RDA"
+command_name (WrAuto rank group bank row line) = codes "WRA"
+command_name (Pre rank group bank) = codes "PRE"
+command_name (PreAll rank) = codes "PREA"
+command_name (Refresh rank) = codes "REF"
 
 abbrev pub name_of : Rule → List ℕ
 name_of rule.Order = codes "ORDER"

@@ -1,11 +1,12 @@
 -- One record of a trace's text behind its header: seven fields, and the command or the END that they say.
-use Rattle.std.specs.Prelude.{ℕ, ◌-◌, ◌^◌, ◌/◌, ◌%◌, ◌==◌, Bool, false, ◌&&◌, if◌then◌else◌, List, [], ◌∷◌, length, get_or, codes, Option, Some, None, option_and_then}
+use Rattle.std.specs.Prelude.{ℕ, ◌≤◌, ◌-◌, ◌^◌, ◌/◌, ◌%◌, ◌==◌, Bool, false, ◌&&◌, if◌then◌else◌, List, [], ◌∷◌, length, get_or, codes, Option, Some, None, option_and_then}
 use Rattle.std.specs.Str.{bytes_eq}
 use Rattle.ddr_timing.specs.declared.units.TheConstants.{CLOCK_STOP, LINE_COLUMNS}
 use Rattle.ddr_trace.specs.declared.command.Command.{Command}
 use Rattle.ddr_trace.specs.declared.command.Command.TheVariants.{Act, Rd, Wr, RdAuto, WrAuto, Pre, PreAll, Refresh}
 use Rattle.ddr_trace.specs.declared.parse.Parsed.{Parsed}
 use Rattle.ddr_trace.specs.declared.parse.Parsed.TheVariants as says
+use Rattle.ddr_trace.specs.declared.parse.Record.{Record}
 use Rattle.ddr_trace.specs.Numbers.{number_of}
 
 infixl 10 ◌>>=◌
@@ -139,3 +140,12 @@ is_header _ = false
 abbrev pub seven_of : List (List ℕ) → List (List ℕ)
 seven_of fields =
     get_or fields 0 [] ∷ get_or fields 1 [] ∷ get_or fields 2 [] ∷ get_or fields 3 [] ∷ get_or fields 4 [] ∷ get_or fields 5 [] ∷ get_or fields 6 [] ∷ []
+
+-- the fields of a record, in the order of the header
+abbrev pub fields_in : Record → List (List ℕ)
+fields_in r = r.cycle.now ∷ r.name.now ∷ r.address.rank.now ∷ r.address.group.now ∷ r.address.bank.now ∷ r.address.row.now ∷ r.address.column.now ∷ []
+
+-- a cycle at which a clock has not stopped
+abbrev pub IsEarly : Parsed → Type 0
+IsEarly (says.Command e) = e.cycle ≤ CLOCK_STOP
+IsEarly (says.End cycle) = cycle ≤ CLOCK_STOP

@@ -1,6 +1,7 @@
 //! Commands on a channel's command bus.
 ghost use Rattle.std.specs.Prelude.{◌≡◌, ◌+◌, ◌&&◌, ◌==◌, nat_lt};
 ghost use Rattle.ddr_trace.specs.Commands.{bank_of, group_of, is_activate, is_auto, is_column, is_of_all_banks, is_other_bank, is_other_group, is_precharge, is_read, is_refresh, is_same_bank, is_same_group, is_same_kind, is_same_rank, is_write, rank_of, row_of};
+ghost use Rattle.ddr_trace.specs.Names.{command_name};
 ghost use Rattle.ddr_trace.specs.Rules.{is_bank_in, is_in};
 
 use ddr_timing::geometry::Geometry;
@@ -117,48 +118,69 @@ impl Command {
         }
     }
 
-    pub(crate) fn is_activate(&self) -> bool
+    /// Whether this is an ACT.
+    pub fn is_activate(&self) -> bool
         ensures { result ≡ is_activate self.now }
     {
         matches!(self, Command::Act { .. })
     }
 
-    pub(crate) fn is_read(&self) -> bool
+    /// Whether this is a read, with auto-precharge or without.
+    pub fn is_read(&self) -> bool
         ensures { result ≡ is_read self.now }
     {
         matches!(self, Command::Rd { .. } | Command::RdAuto { .. })
     }
 
-    pub(crate) fn is_write(&self) -> bool
+    /// Whether this is a write, with auto-precharge or without.
+    pub fn is_write(&self) -> bool
         ensures { result ≡ is_write self.now }
     {
         matches!(self, Command::Wr { .. } | Command::WrAuto { .. })
     }
 
     /// Whether this is a read or a write.
-    pub(crate) fn is_column(&self) -> bool
+    pub fn is_column(&self) -> bool
         ensures { result ≡ is_column self.now }
     {
         self.is_read() || self.is_write()
     }
 
     /// Whether this is a read or a write with auto-precharge.
-    pub(crate) fn is_auto(&self) -> bool
+    pub fn is_auto(&self) -> bool
         ensures { result ≡ is_auto self.now }
     {
         matches!(self, Command::RdAuto { .. } | Command::WrAuto { .. })
     }
 
-    pub(crate) fn is_precharge(&self) -> bool
+    /// Whether this is a precharge of one bank or of all.
+    pub fn is_precharge(&self) -> bool
         ensures { result ≡ is_precharge self.now }
     {
         matches!(self, Command::Pre { .. } | Command::PreAll { .. })
     }
 
-    pub(crate) fn is_refresh(&self) -> bool
+    /// Whether this is a REF.
+    pub fn is_refresh(&self) -> bool
         ensures { result ≡ is_refresh self.now }
     {
         matches!(self, Command::Refresh { .. })
+    }
+
+    /// The name that a trace's text has for the command.
+    pub fn name(&self) -> &'static str
+        ensures { result.now ≡ command_name self.now }
+    {
+        match self {
+            Command::Act { .. } => "ACT",
+            Command::Rd { .. } => "RD",
+            Command::Wr { .. } => "WR",
+            Command::RdAuto { .. } => "RDA",
+            Command::WrAuto { .. } => "WRA",
+            Command::Pre { .. } => "PRE",
+            Command::PreAll { .. } => "PREA",
+            Command::Refresh { .. } => "REF",
+        }
     }
 
     /// The rank that the command is of.
@@ -178,7 +200,7 @@ impl Command {
     }
 
     /// The bank group, 0 where the command names none.
-    fn group(&self) -> u32
+    pub fn group(&self) -> u32
         ensures { result ≡ group_of self.now }
     {
         match *self {
@@ -193,7 +215,7 @@ impl Command {
     }
 
     /// The bank in its group, 0 where the command names none.
-    fn bank(&self) -> u32
+    pub fn bank(&self) -> u32
         ensures { result ≡ bank_of self.now }
     {
         match *self {
@@ -208,7 +230,7 @@ impl Command {
     }
 
     /// The row, 0 where the command names none.
-    pub(crate) fn row(&self) -> u32
+    pub fn row(&self) -> u32
         ensures { result ≡ row_of self.now }
     {
         match *self {
@@ -221,61 +243,64 @@ impl Command {
         }
     }
 
-    fn is_of_all_banks(&self) -> bool
+    /// Whether this is a PREA.
+    pub fn is_of_all_banks(&self) -> bool
         ensures { result ≡ is_of_all_banks self.now }
     {
         matches!(self, Command::PreAll { .. })
     }
 
-    pub(crate) fn is_same_rank(&self, other: &Command) -> bool
+    /// Whether both are of one rank.
+    pub fn is_same_rank(&self, other: &Command) -> bool
         ensures { result ≡ is_same_rank self.now other.now }
     {
         self.rank() == other.rank()
     }
 
     /// Whether this is an ACT of the other command's rank.
-    pub(crate) fn is_activate_of_rank(&self, other: &Command) -> bool
+    pub fn is_activate_of_rank(&self, other: &Command) -> bool
         ensures { result ≡ (is_activate self.now && is_same_rank self.now other.now) }
     {
         self.is_activate() && self.is_same_rank(other)
     }
 
     /// Whether this is a REF of the other command's rank.
-    pub(crate) fn is_refresh_of_rank(&self, other: &Command) -> bool
+    pub fn is_refresh_of_rank(&self, other: &Command) -> bool
         ensures { result ≡ (is_refresh self.now && is_same_rank self.now other.now) }
     {
         self.is_refresh() && self.is_same_rank(other)
     }
 
-    pub(crate) fn is_same_group(&self, other: &Command) -> bool
+    /// Whether both are of one bank group of one rank.
+    pub fn is_same_group(&self, other: &Command) -> bool
         ensures { result ≡ is_same_group self.now other.now }
     {
         self.is_same_rank(other) && self.group() == other.group()
     }
 
     /// Whether both are of one rank and not of one group.
-    pub(crate) fn is_other_group(&self, other: &Command) -> bool
+    pub fn is_other_group(&self, other: &Command) -> bool
         ensures { result ≡ is_other_group self.now other.now }
     {
         self.is_same_rank(other) && self.group() != other.group()
     }
 
     /// Whether both are of one group and not of one bank number.
-    pub(crate) fn is_other_bank(&self, other: &Command) -> bool
+    pub fn is_other_bank(&self, other: &Command) -> bool
         ensures { result ≡ is_other_bank self.now other.now }
     {
         self.is_same_group(other) && self.bank() != other.bank()
     }
 
     /// Whether both are reads, or both writes.
-    pub(crate) fn is_same_kind(&self, other: &Command) -> bool
+    pub fn is_same_kind(&self, other: &Command) -> bool
         ensures { result ≡ is_same_kind self.now other.now }
     {
         (self.is_read() && other.is_read()) || (self.is_write() && other.is_write())
     }
 
     /// Whether both are of one bank; PREA is of every bank of its rank.
-    pub(crate) fn is_same_bank(&self, other: &Command) -> bool
+    pub fn is_same_bank(&self, other: &Command) -> bool
         ensures { result ≡ is_same_bank self.now other.now }
     {
         self.is_same_rank(other)
@@ -287,7 +312,7 @@ impl Command {
 
 impl Entry {
     /// Whether the entry stands fewer than `clocks` after the earlier one.
-    pub(crate) fn is_within(&self, clocks: u32, earlier: &Entry) -> bool
+    pub fn is_within(&self, clocks: u32, earlier: &Entry) -> bool
         ensures { result ≡ nat_lt self.now.cycle (earlier.now.cycle + clocks) }
     {
         is_before(self.cycle, earlier.cycle, clocks)

@@ -13,7 +13,7 @@ mod banks;
 pub mod checker;
 pub mod command;
 pub mod number;
-mod parse;
+pub mod parse;
 pub mod ranks;
 pub mod reader;
 pub mod refresh;

@@ -1,10 +1,10 @@
 //! One record of a trace's text behind its header: a command with its cycle, or END.
 //!
 //! `specs/Parse.antt` has the fields of each command. `number` stands below, and `reader` above, which reads a text of
-//! records.
-ghost use Rattle.std.specs.Prelude.{◌≡◌, ◌&&◌, [], get_or};
+//! records. A crate above that cuts a line into its fields by itself hands them over as a `Record`.
+ghost use Rattle.std.specs.Prelude.{◌≡◌, ◌&&◌, [], IfSome, get_or};
 ghost use Rattle.csv.specs.Records.{fields_of};
-ghost use Rattle.ddr_trace.specs.Parse.{act_of, are_empty, command_of, index_of, is_empty, is_header, line_of, pre_of, prea_of, rd_of, rda_of, record_of, ref_of, seven_of, wr_of, wra_of};
+ghost use Rattle.ddr_trace.specs.Parse.{IsEarly, act_of, are_empty, command_of, fields_in, index_of, is_empty, is_header, line_of, pre_of, prea_of, rd_of, rda_of, record_of, ref_of, seven_of, wr_of, wra_of};
 
 use crate::command::{Command, Entry};
 use crate::number::parse_number;
@@ -16,20 +16,30 @@ const FIELDS: usize = 7;
 
 /// What a record behind the header says.
 #[derive(Clone, Copy, Debug, PartialEq, Eq)]
-pub(crate) enum Parsed {
+pub enum Parsed {
     Command(Entry),
     /// END, with the trace's end.
     End(u64),
 }
 
+/// The seven fields of a record, as the text has them.
+#[derive(Clone, Copy)]
+pub struct Record<'a> {
+    pub cycle: &'a [u8],
+    /// The name of a command, or END.
+    pub name: &'a [u8],
+    pub address: Address<'a>,
+}
+
 /// The fields that say where a command goes.
 #[derive(Clone, Copy)]
-struct Address<'a> {
-    rank: &'a [u8],
-    group: &'a [u8],
-    bank: &'a [u8],
-    row: &'a [u8],
-    column: &'a [u8],
+pub struct Address<'a> {
+    pub rank: &'a [u8],
+    pub group: &'a [u8],
+    pub bank: &'a [u8],
+    pub row: &'a [u8],
+    /// The device column at which a burst begins, a multiple of 8.
+    pub column: &'a [u8],
 }
 
 /// Whether the record is the header.
@@ -37,20 +47,7 @@ struct Address<'a> {
 pub(crate) fn is_header(fields: &ByteRecord) -> bool
     ensures { result ≡ is_header (fields_of fields.now) }
 {
-    fields.len() == FIELDS && names_columns(fields)
-}
-
-/// Whether the seven fields are the names of the header.
-fn names_columns(fields: &ByteRecord) -> bool
-    ensures { result ≡ is_header (seven_of (fields_of fields.now)) }
-{
-    field(fields, 0) == b"cycle".as_slice()
-        && field(fields, 1) == b"cmd".as_slice()
-        && field(fields, 2) == b"rank".as_slice()
-        && field(fields, 3) == b"group".as_slice()
-        && field(fields, 4) == b"bank".as_slice()
-        && field(fields, 5) == b"row".as_slice()
-        && field(fields, 6) == b"col".as_slice()
+    fields.len() == FIELDS && seven(fields).is_header()
 }
 
 /// What the record says; none where it is not one of a trace.
@@ -61,28 +58,24 @@ pub(crate) fn parse_record(fields: &ByteRecord) -> Option<Parsed>
     if fields.len() != FIELDS {
         return None;
     }
-    parse_seven(fields)
+    seven(fields).parsed()
 }
 
-/// What the seven fields say.
-#[tactic(auto, unfolding(crate::specs::Parse::record_of, crate::specs::Parse::with_cycle, crate::specs::Parse::entry_of, crate::specs::Parse::end_of))]
-fn parse_seven(fields: &ByteRecord) -> Option<Parsed>
-    ensures { result ≡ record_of (seven_of (fields_of fields.now)) }
+/// The first seven fields.
+fn seven(fields: &ByteRecord) -> Record<'_>
+    ensures { fields_in result ≡ seven_of (fields_of fields.now) }
 {
-    let cycle = parse_number(field(fields, 0), CLOCK_STOP)?;
-    let name = field(fields, 1);
-    let address = Address {
-        rank: field(fields, 2),
-        group: field(fields, 3),
-        bank: field(fields, 4),
-        row: field(fields, 5),
-        column: field(fields, 6),
-    };
-    if name == b"END".as_slice() {
-        return address.is_empty().then_some(Parsed::End(cycle));
+    Record {
+        cycle: field(fields, 0),
+        name: field(fields, 1),
+        address: Address {
+            rank: field(fields, 2),
+            group: field(fields, 3),
+            bank: field(fields, 4),
+            row: field(fields, 5),
+            column: field(fields, 6),
+        },
     }
-    let command = address.command(name)?;
-    Some(Parsed::Command(Entry { cycle, command }))
 }
 
 #[tactic(auto, using(crate::proofs::FieldLemmas::field_there, crate::proofs::FieldLemmas::field_absent))]
@@ -96,10 +89,39 @@ fn field(fields: &ByteRecord, number: usize) -> &[u8]
     }
 }
 
+impl Record<'_> {
+    /// Whether the seven fields are the names of the header.
+    pub fn is_header(&self) -> bool
+        ensures { result ≡ is_header (fields_in self.now) }
+    {
+        self.cycle == b"cycle".as_slice()
+            && self.name == b"cmd".as_slice()
+            && self.address.rank == b"rank".as_slice()
+            && self.address.group == b"group".as_slice()
+            && self.address.bank == b"bank".as_slice()
+            && self.address.row == b"row".as_slice()
+            && self.address.column == b"col".as_slice()
+    }
+
+    /// What the seven fields say; none where they are no record of a trace.
+    #[tactic(auto, unfolding(crate::specs::Parse::record_of, crate::specs::Parse::with_cycle, crate::specs::Parse::entry_of, crate::specs::Parse::end_of))]
+    pub fn parsed(&self) -> Option<Parsed>
+        ensures exact { result ≡ record_of (fields_in self.now) }
+        ensures early { IfSome result IsEarly }
+    {
+        let cycle = parse_number(self.cycle, CLOCK_STOP)?;
+        if self.name == b"END".as_slice() {
+            return self.address.is_empty().then_some(Parsed::End(cycle));
+        }
+        let command = self.address.command(self.name)?;
+        Some(Parsed::Command(Entry { cycle, command }))
+    }
+}
+
 impl Address<'_> {
     /// The command of this name; none where there is none of it, or a field is not as it wants it.
     #[tactic(auto, unfolding(crate::specs::Parse::command_of))]
-    fn command(&self, name: &[u8]) -> Option<Command>
+    pub fn command(&self, name: &[u8]) -> Option<Command>
         ensures { result ≡ command_of name.now self.now.rank.now self.now.group.now self.now.bank.now self.now.row.now self.now.column.now }
     {
         if name == b"ACT".as_slice() {
@@ -226,7 +248,8 @@ impl Address<'_> {
             && self.column.is_empty()
     }
 
-    fn is_empty(&self) -> bool
+    /// Whether all five fields are empty.
+    pub fn is_empty(&self) -> bool
         ensures { result ≡ (is_empty self.now.rank.now && are_empty self.now.group.now self.now.bank.now self.now.row.now self.now.column.now) }
     {
         self.rank.is_empty() && self.names_no_bank()

@@ -36,8 +36,8 @@ pub fn rank_switch(earlier: &Command, later: &Command, timing: &Timing) -> u32
         .max(BURST_CLOCKS)
 }
 
-/// The clocks from a read or a write to its data.
-fn latency(command: &Command, timing: &Timing) -> u32
+/// The clocks from a read or a write to its data: CL or CWL.
+pub fn latency(command: &Command, timing: &Timing) -> u32
     ensures { result ≡ latency timing.now command.now }
 {
     if command.is_read() {

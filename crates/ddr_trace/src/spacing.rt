@@ -104,7 +104,7 @@ impl Rule {
 
 impl CommandKind {
     /// Whether the command is of this kind.
-    fn has(&self, command: &Command) -> bool
+    pub fn has(&self, command: &Command) -> bool
         ensures { result ≡ is_of_kind self.now command.now }
     {
         match self {

@@ -2,8 +2,8 @@ use Rattle.std.proofs.Common.{ℕ, ◌+◌, ◌*◌, ◌&&◌, get_or, sym, ap, 
 use Rattle.std.specs.Char.{digit_value, is_ascii_digit}
 use Rattle.std.proofs.lemmas.Int.Digits.{digits_value_more}
 use Rattle.std.proofs.lemmas.List.Folds.{list_all_more}
-use Rattle.ddr_text.proofs.DigitLemmas.{too_great}
-use Rattle.ddr_text.proofs.digits.value_of.Goals as goal
+use Rattle.ddr_trace.proofs.NumberLemmas.{too_great}
+use Rattle.ddr_trace.proofs.number.value_of.Goals as goal
 
 pub returns-in_err-number-clause-none : goal.returns-in_err-number-clause-none
 returns-in_err-number-clause-none c =
