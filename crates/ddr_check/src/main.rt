@@ -7,11 +7,11 @@
 use ddr_shell::ended::ended;
 use ddr_shell::traces::perform_on_traces;
 use ddr_shell::words::{tells_of_itself, words};
-use ddr_text::ending::Ending;
 use ddr_text::fault::Fault;
-use ddr_text::job::job;
 use ddr_text::source::Device;
 use ddr_text::writing::flush;
+use ddr_words::ending::Ending;
+use ddr_words::job::job;
 use std::io;
 use std::io::BufWriter;
 use std::process::ExitCode;

@@ -1,7 +1,7 @@
 -- Which commands need the scheduler.
 use Rattle.std.specs.Prelude.{Bool, true, false}
-use Rattle.ddr_text.specs.declared.command.Job.{Job}
-use Rattle.ddr_text.specs.declared.command.Job.TheVariants as job
+use Rattle.ddr_words.specs.declared.command.Job.{Job}
+use Rattle.ddr_words.specs.declared.command.Job.TheVariants as job
 
 -- the command runs a script or a stream
 abbrev pub needs_scheduler : Job → Bool

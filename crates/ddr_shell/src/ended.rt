@@ -1,7 +1,7 @@
 //! How a program ends before its command is done.
 //!
 //! Nothing of the crate stands below, and the programs above.
-use ddr_text::ending::Ending;
+use ddr_words::ending::Ending;
 use std::process::ExitCode;
 
 /// Says on standard error what ended the program, and gives its status. Where standard error can't be written to, the status alone

@@ -11,11 +11,11 @@ use ddr_explain::all::check_all;
 use ddr_explain::explain::explain;
 use ddr_lint::lint::lint;
 use ddr_text::check::check;
-use ddr_text::command::{Job, Picture};
 use ddr_text::fault::Fault;
 use ddr_text::map::map;
 use ddr_text::sink::Sink;
 use ddr_text::source::Source;
+use ddr_words::command::{Job, Picture};
 use std::alloc::Global;
 
 /// The status of a trace that is not legal.

@@ -1,13 +1,13 @@
 //! The words of the command line, and those that ask the program for itself.
 //!
 //! Nothing of the crate stands below, and the programs above.
-use ddr_text::ending::Ending;
 use ddr_text::fault::Fault;
-use ddr_text::job::{JobError, job};
+use ddr_words::ending::Ending;
+use ddr_words::job::{JobError, job};
 use std::{env, io};
 
 /// The program, and the kit that it was proved with.
-const VERSION: &str = "ddr 1.0 (rattle-kit-13b logic dac8208d650f15bf)";
+const VERSION: &str = "ddr 1.0 (rattle-kit-13f logic dac8208d650f15bf)";
 
 /// The words of the command line, the program's name first. Fails as `NotText` where one is not UTF-8, and as `OutOfMemory`.
 pub fn words(rt: &HostRuntime) -> Result<Vec<String>, Ending> {

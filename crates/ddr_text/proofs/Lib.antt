@@ -1,12 +1,9 @@
 pub mod BodyLemmas
 pub mod CanonicalLemmas
 pub mod CheckLemmas
-pub mod DigitLemmas
 pub mod FieldLemmas
 pub mod HexadecimalLemmas
 pub mod Inputs
-pub mod JobLemmas
 pub mod Lines
 pub mod MapLemmas
-pub mod PassLemmas
 pub mod RequestLemmas

@@ -1,11 +1,9 @@
 pub mod Body
 pub mod Canonical
 pub mod Check
-pub mod Ending
 pub mod Fault
 pub mod Input
 pub mod Instructions
-pub mod Job
 pub mod Lines
 pub mod MapText
 pub mod Replies

@@ -1,9 +1,9 @@
 //! The texts of the faults, and the statuses that they end the program with.
-use ddr_text::ending::Ending;
 use ddr_text::fault::{Fault, LineFault, RequestError};
-use ddr_text::job::job;
-use ddr_text::misuse::Misuse;
 use ddr_timing::key::Key;
+use ddr_words::ending::Ending;
+use ddr_words::job::job;
+use ddr_words::misuse::Misuse;
 use std::alloc::{AllocError, Global};
 use std::process::Abort;
 use std::test::Fail;

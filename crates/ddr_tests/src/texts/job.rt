@@ -1,8 +1,9 @@
 //! Command lines, and the jobs that they state.
 use clap::error::ErrorKind;
-use ddr_text::command::{Format, Job, Picture, Reading, Told};
-use ddr_text::job::{JobError, job};
-use ddr_text::misuse::Misuse;
+use ddr_text::command::{Format, Reading, Told};
+use ddr_words::command::{Job, Picture};
+use ddr_words::job::{JobError, job};
+use ddr_words::misuse::Misuse;
 use std::alloc::{AllocError, Global};
 use std::process::Abort;
 use std::test::Fail;

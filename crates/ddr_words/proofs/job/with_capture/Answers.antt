@@ -1,0 +1,20 @@
+use Rattle.std.proofs.Common.{◌||◌, ap₂, ◌∙◌, refl}
+use Rattle.std.proofs.lemmas.Result.{IfOk-weaker}
+use Rattle.clap.specs.Words.{with_rule}
+use Rattle.ddr_words.proofs.job.with_capture.Goals as goal
+
+pub returns-clause-app : goal.returns-clause-app
+returns-clause-app c =
+    let stream_is = c.in_ok-streaming.ensures.shape c.flag.ensures.local ∙ ap₂ with_rule refl c.flag.ensures.rule in
+    let dramsim3_is = c.in_ok-with_dramsim3.ensures.shape c.flag-2.ensures.local ∙ ap₂ with_rule stream_is c.flag-2.ensures.rule in
+    let ramulator2_is = c.in_ok-with_ramulator2.ensures.shape c.flag-3.ensures.local ∙ ap₂ with_rule dramsim3_is c.flag-3.ensures.rule in
+    let start_is = c.in_ok-with_start.ensures.shape c.cycle_option.ensures.local ∙ ap₂ with_rule ramulator2_is c.cycle_option.ensures.rule in
+    IfOk-weaker c.arg-5.result _ _ (λ all h. h.shape c.number_option.ensures.local ∙ ap₂ with_rule start_is c.number_option.ensures.rule) c.arg-5.ensures
+
+pub returns-clause-local : goal.returns-clause-local
+returns-clause-local c =
+    let stream_local = c.in_ok-streaming.ensures.globals ∙ ap₂ ◌||◌ c.requires.local c.flag.ensures.local in
+    let dramsim3_local = c.in_ok-with_dramsim3.ensures.globals ∙ ap₂ ◌||◌ stream_local c.flag-2.ensures.local in
+    let ramulator2_local = c.in_ok-with_ramulator2.ensures.globals ∙ ap₂ ◌||◌ dramsim3_local c.flag-3.ensures.local in
+    let start_local = c.in_ok-with_start.ensures.globals ∙ ap₂ ◌||◌ ramulator2_local c.cycle_option.ensures.local in
+    IfOk-weaker c.arg-5.result _ _ (λ all h. h.globals ∙ ap₂ ◌||◌ start_local c.number_option.ensures.local) c.arg-5.ensures
