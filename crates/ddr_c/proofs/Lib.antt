@@ -1,5 +1,3 @@
-pub mod ContinueLemmas
 pub mod OpenLemmas
-pub mod RoundLemmas
 pub mod TraceLemmas
 pub mod Values

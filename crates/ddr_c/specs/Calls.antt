@@ -19,10 +19,10 @@ use Rattle.ddr_c.specs.declared.slot.Slot.{Slot}
 use Rattle.ddr_c.specs.declared.trace.BusCommand.{BusCommand}
 use Rattle.ddr_c.specs.declared.codes.TheConstants as code
 use Rattle.ddr_c.specs.Codes.{answer_code, code_of, number_told}
-use Rattle.ddr_c.specs.Continues.{Continues}
+use Rattle.ddr_rounds.specs.Continues.{Continues}
 use Rattle.ddr_c.specs.Front.{IsNextOf}
 use Rattle.ddr_c.specs.Heads.{head_of}
-use Rattle.ddr_c.specs.Rounds.{IsRefusedBehind, IsStopped, rounds}
+use Rattle.ddr_rounds.specs.Rounds.{IsRefusedBehind, IsStopped, rounds}
 use Rattle.ddr_c.specs.Trace.{traced}
 
 -- the core that a slot holds, if it is open

@@ -1,28 +1,30 @@
 //! A core that a host drives by calls: that of `ddr_world`, with rounds, and with when its requests were accepted.
 //!
 //! `ddr_world` and `stamps` stand below, and `lib` above, whose exports call this.
-ghost use Rattle.std.specs.Prelude.{◌≡◌, ◌+◌, ◌<◌, ◌≤◌, [], ◌∷◌, ◌++◌, List, true, false, IfErr, IfNone, IfOk, IfSome, IsTrue, OnOk, None, Ok, Some, length, slice_get};
+ghost use Rattle.std.specs.Prelude.{◌≡◌, ◌+◌, ◌<◌, ◌≤◌, [], ◌∷◌, ◌++◌, List, true, false, IfNone, IfOk, IfSome, None, Ok, Some, length, slice_get};
 ghost use Rattle.std.specs.Option.{option_copied, option_map};
 ghost use Rattle.ddr_ports.specs.Asked.{asked_of};
 ghost use Rattle.ddr_world.specs.Answer.{IsAnswered};
-ghost use Rattle.ddr_world.specs.Events.{Submit, event_of};
+ghost use Rattle.ddr_world.specs.Events.{Submit};
 ghost use Rattle.ddr_world.specs.History.{front_of};
 ghost use Rattle.ddr_world.specs.Kept.{state_of};
 ghost use Rattle.ddr_world.specs.Quiet.{IsQuiet};
 ghost use Rattle.ddr_world.specs.Record.{IsNext, StandsFor};
 ghost use Rattle.ddr_world.specs.State.{opened};
 ghost use Rattle.ddr_world.specs.Told.{counts_of};
-ghost use Rattle.ddr_c.specs.Continues.{Continues};
+ghost use Rattle.ddr_rounds.specs.Continues.{Continues};
+ghost use Rattle.ddr_rounds.specs.Rounds.{IsRefusedBehind, IsStopped, rounds};
 ghost use Rattle.ddr_c.specs.Front.{IsNextOf};
-ghost use Rattle.ddr_c.specs.Rounds.{IsCycleRefused, IsRefusedBehind, IsRoundRefused, IsStopped, channel_served, channels_served, is_popping, ports_collected, round, rounds, until_refused};
 
 use crate::stamps::Stamps;
 use ddr_address_map::request::Echo;
 use ddr_ports::request::Request;
 use ddr_reorder::reply::Service;
+use ddr_rounds::ports::{release, submit};
+use ddr_rounds::rounds::{Rounds, make_rounds};
 use ddr_timing::config::Config;
 use ddr_trace::command::Entry;
-use ddr_world::event::{Event, Outcome, Refusal};
+use ddr_world::event::{Outcome, Refusal};
 use ddr_world::world::{Counts, World};
 use std::alloc::{AllocError, Global};
 
@@ -35,13 +37,6 @@ pub(crate) struct Core {
     stamps: Stamps,
     ghost ports_are: { ports ≡ world.config.limits.ports },
     ghost channels_are: { channels ≡ world.config.geometry.channels },
-}
-
-/// How many rounds were made, and why no more.
-#[derive(Clone, Copy)]
-pub(crate) struct Rounds {
-    pub(crate) made: u64,
-    pub(crate) stopped: Option<Refusal>,
 }
 
 /// The oldest reply of a port, without its bytes.
@@ -88,7 +83,7 @@ impl Core {
         ensures answer { IsAnswered self.old.world self.new.world (Submit port (asked_of request.entry)) result }
         ensures continues { Continues self.old.world self.new.world }
     {
-        let outcome = self.world.step(Event::Submit(port, request))?;
+        let outcome = submit(&mut self.world, port, request, &mut ())?;
         if let Outcome::Accepted { number } = outcome {
             let clock = self.clock();
             self.stamps.accept(port, number, clock);
@@ -123,103 +118,7 @@ impl Core {
         ensures config { self.new.world.config ≡ self.old.world.config }
         ensures continues { Continues self.old.world self.new.world }
     {
-        let mut made = 0u64;
-        'rounds: while made < count {
-            match self.advance(count - made) {
-                Ok(more) => made += more,
-                Err(cause) => {
-                    return Rounds {
-                        made,
-                        stopped: Some(cause),
-                    };
-                }
-            }
-        }
-        Rounds {
-            made,
-            stopped: None,
-        }
-    }
-
-    /// Makes one round, or as many quiet ones as there are, but no more than `most`. Tells how many.
-    fn advance(&mut self, most: u64) -> Result<u64, Refusal>
-        requires { 0 < most }
-        ensures some { IfOk result (λ made. (0 < made) × (made ≤ most)) }
-        ensures made { IfOk result (λ made. rounds self.old.world.config made (state_of self.old.world) ≡ Some (state_of self.new.world)) }
-        ensures stopped { IfErr result (λ cause. IsStopped cause (round self.old.world.config (state_of self.old.world))) }
-        ensures refused { IfErr result (λ cause. IsRoundRefused cause self.old.world.config (state_of self.old.world) (state_of self.new.world)) }
-        ensures config { self.new.world.config ≡ self.old.world.config }
-        ensures continues { Continues self.old.world self.new.world }
-    {
-        let quiet = self.world.still().min(most);
-        if quiet == 0 {
-            self.round()?;
-            return Ok(1);
-        }
-        self.world.pass(quiet);
-        Ok(quiet)
-    }
-
-    /// Makes a round: each channel's part in order, then each port's.
-    fn round(&mut self) -> Result<(), Refusal>
-        ensures made { OnOk result (round self.old.world.config (state_of self.old.world) ≡ Some (state_of self.new.world)) }
-        ensures stopped { IfErr result (λ cause. IsStopped cause (round self.old.world.config (state_of self.old.world))) }
-        ensures refused { IfErr result (λ cause. IsRoundRefused cause self.old.world.config (state_of self.old.world) (state_of self.new.world)) }
-        ensures config { self.new.world.config ≡ self.old.world.config }
-        ensures continues { Continues self.old.world self.new.world }
-    {
-        self.serve_all()?;
-        self.collect_all();
-        Ok(())
-    }
-
-    /// The channels' part of a round.
-    fn serve_all(&mut self) -> Result<(), Refusal>
-        ensures made { OnOk result (channels_served self.old.world.config.geometry.channels (state_of self.old.world) ≡ Some (state_of self.new.world)) }
-        ensures stopped { IfErr result (λ cause. IsStopped cause (round self.old.world.config (state_of self.old.world))) }
-        ensures refused { IfErr result (λ cause. IsRoundRefused cause self.old.world.config (state_of self.old.world) (state_of self.new.world)) }
-        ensures config { self.new.world.config ≡ self.old.world.config }
-        ensures continues { Continues self.old.world self.new.world }
-    {
-        for channel in 0..self.channels {
-            self.serve(channel)?;
-        }
-        Ok(())
-    }
-
-    /// The ports' part of a round.
-    fn collect_all(&mut self)
-        ensures collected { state_of self.new.world ≡ ports_collected self.old.world.config.limits.ports (state_of self.old.world) }
-        ensures config { self.new.world.config ≡ self.old.world.config }
-        ensures continues { Continues self.old.world self.new.world }
-    {
-        for port in 0..self.ports {
-            self.repeat(Event::Collect(port));
-        }
-    }
-
-    /// A channel's part of a round: it takes what there is room for, makes a cycle, and delivers what is done.
-    fn serve(&mut self, channel: u32) -> Result<(), Refusal>
-        ensures served { OnOk result (channel_served channel (state_of self.old.world) ≡ Some (state_of self.new.world)) }
-        ensures stopped { IfErr result (λ cause. IsStopped cause (channel_served channel (state_of self.old.world))) }
-        ensures refused { IfErr result (λ cause. IsCycleRefused cause channel (state_of self.old.world) (state_of self.new.world)) }
-        ensures config { self.new.world.config ≡ self.old.world.config }
-        ensures continues { Continues self.old.world self.new.world }
-    {
-        self.repeat(Event::Take(channel));
-        self.world.cycle(channel)?;
-        self.repeat(Event::Deliver(channel));
-        Ok(())
-    }
-
-    /// Makes an event that pops something until it is refused.
-    fn repeat(&mut self, event: Event<'_>)
-        requires { IsTrue (is_popping (event_of event)) }
-        ensures state { state_of self.new.world ≡ until_refused (event_of event.entry) (state_of self.old.world) }
-        ensures config { self.new.world.config ≡ self.old.world.config }
-        ensures continues { Continues self.old.world self.new.world }
-    {
-        'items: while self.world.step(event).is_ok() {}
+        make_rounds(&mut self.world, self.ports, self.channels, count, &mut ())
     }
 
     /// Copies the bytes of the port's oldest reply, where it is ready and the buffer has room, and gives it up.
@@ -246,7 +145,7 @@ impl Core {
             return Next::TooShort(front);
         }
         buffer[..length].copy_from_slice(reply.bytes);
-        let _ = self.world.step(Event::Release(port));
+        let _ = release(&mut self.world, port, &mut ());
         Next::Given(front)
     }
 

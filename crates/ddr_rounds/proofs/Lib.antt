@@ -1,0 +1,6 @@
+pub mod ContinueLemmas
+pub mod EventLemmas
+pub mod PartLemmas
+pub mod QuietLemmas
+pub mod StepCounts
+pub mod TraceLemmas

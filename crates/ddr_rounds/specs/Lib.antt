@@ -1,0 +1,3 @@
+pub mod Continues
+pub mod Rounds
+pub mod Telling
