@@ -49,7 +49,9 @@ enum ddr_code {
     DDR_BUSY = 15,         /* the queue of the request's channel is full: make a round and ask again */
     DDR_QUEUE_FULL = 16,   /* no call of this library answers it */
     DDR_CLOCK_SPENT = 17,  /* a channel's clock has come to 2^62 */
-    DDR_NOT_EMPTY = 18     /* no call of this library answers it */
+    DDR_NOT_EMPTY = 18,    /* no call of this library answers it */
+    DDR_ILLEGAL = 19,      /* a rule is broken (ddr_judge.h) */
+    DDR_NOT_JUDGED = 20    /* the rules do not speak of such a command (ddr_judge.h) */
 };
 
 /* A reply's head: the request's number at its port, its first address, how many bytes were copied (for a write none), the
@@ -79,7 +81,18 @@ enum ddr_command_kind {
     DDR_WRA = 4,
     DDR_PRE = 5,
     DDR_PREA = 6,
-    DDR_REF = 7
+    DDR_REF = 7,
+    /* What a bus may carry and the rules do not speak of: a judge refuses each (ddr_judge.h), and no channel issues one. */
+    DDR_MRS = 8,
+    DDR_ZQCS = 9,
+    DDR_ZQCL = 10,
+    DDR_NOP = 11,
+    DDR_DES = 12,
+    DDR_PDE = 13,
+    DDR_PDX = 14,
+    DDR_SRE = 15,
+    DDR_SRX = 16,
+    DDR_RFU = 17
 };
 
 #define DDR_NONE UINT32_MAX

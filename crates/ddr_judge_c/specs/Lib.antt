@@ -1,0 +1,5 @@
+pub mod Bus
+pub mod Calls
+pub mod Faults
+pub mod Held
+pub mod Opens

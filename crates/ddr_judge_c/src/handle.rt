@@ -1,0 +1,59 @@
+//! A box that C can hold as a pointer, or nothing. Contracts see the judge that it holds.
+//!
+//! `loose` stands below, and `slot` above. The pointer that C sees has no type, since no pointer to a vector may cross.
+ghost use Rattle.std.specs.Prelude.{◌≡◌, true, IsSome, None, Option, Some};
+ghost use Rattle.ddr_judge_c.specs.Held.{held, held_coded};
+ghost use Rattle.ddr_judge_c.specs.declared.judge.Judge.{Judge};
+
+use crate::judge::Judge;
+use crate::loose::Loose;
+use std::alloc::Global;
+use std::marker::Model;
+
+/// A pointer to the block of a judge, or none.
+#[repr(C)]
+#[derive(Drop)]
+pub struct Handle {
+    at: *mut (),
+    alloc: Global,
+    pub ghost holds: { Option Judge } by { held_coded },
+}
+
+impl Model for Handle {
+    ghost also_owns = { λ h. held h.holds h.alloc h.at };
+}
+
+impl Handle {
+    /// Holds nothing.
+    pub(crate) fn empty(alloc: Global) -> Handle
+        ensures { result.holds ≡ None }
+    {
+        Handle {
+            at: std::ptr::null_mut(),
+            alloc,
+        }
+    }
+
+    /// Holds the judge of a box.
+    pub(crate) fn of(loose: Loose<Judge, Global>) -> Handle
+        ensures { result.holds ≡ Some loose.value }
+    {
+        let Loose { at, alloc } = loose;
+        Handle {
+            at: at as *mut (),
+            alloc,
+        }
+    }
+
+    /// The box of the judge that it holds.
+    pub(crate) fn into_loose(self) -> Loose<Judge, Global>
+        requires { IsSome self.holds }
+        ensures { self.holds ≡ Some result.value }
+    {
+        let Handle { at, alloc } = self;
+        Loose {
+            at: at as *mut Judge,
+            alloc,
+        }
+    }
+}
