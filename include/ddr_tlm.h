@@ -64,6 +64,7 @@
 
 namespace ddr {
 
+// The width of the bus is that of the socket, in bits, and changes nothing else.
 template <unsigned int BUSWIDTH = 32>
 class Target : public sc_core::sc_module, public tlm::tlm_fw_transport_if<> {
 public:
@@ -87,7 +88,7 @@ public:
         sensitive << wake;
     }
 
-    // The core, with all rounds made that end by now: for its traces, and its other ports.
+    // The core, with all rounds made that end by now: for its traces, and its other ports. No one else makes rounds.
     Core &under() {
         catch_up();
         return core;
@@ -273,7 +274,8 @@ private:
         tlm::tlm_phase phase = tlm::BEGIN_RESP;
         sc_core::sc_time delay = sc_core::SC_ZERO_TIME;
         const tlm::tlm_sync_enum answer = socket->nb_transport_bw(payload, phase, delay);
-        if (answer == tlm::TLM_COMPLETED || (answer == tlm::TLM_UPDATED && phase == tlm::END_RESP)) end_response(delay);
+        const bool ends = answer == tlm::TLM_COMPLETED || (answer == tlm::TLM_UPDATED && phase == tlm::END_RESP);
+        if (ends && responding == &payload) end_response(delay);
     }
 
     void end_response(const sc_core::sc_time &delay) {

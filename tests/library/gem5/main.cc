@@ -185,6 +185,10 @@ others(const std::string &config)
     bench.until(curTick() + 10000);
     wants("one that is neither read nor write", bench.requester.answered, 1);
     bench.requester.functional(Kind::Read, START, Bytes(8));
+    bench.requester.send(new Packet(Kind::Read, START, Bytes(8)));
+    bench.requester.functional(Kind::Write, START + 2, {90, 91});
+    bench.until(curTick() + 50000);
+    wants("a read that a functional write changed on its way", bench.requester.answered, 2);
     bool thrown = false;
     try {
         Bench large(config, CAPACITY + 64);

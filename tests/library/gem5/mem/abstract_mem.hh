@@ -3,6 +3,7 @@
 #define STUB_MEM_ABSTRACT_MEM_HH
 
 #include <cassert>
+#include <stdexcept>
 #include <string>
 #include <vector>
 
