@@ -3,42 +3,43 @@
 //     ddr::Target<> memory("memory", text_of_a_configuration, sc_core::sc_time(833, sc_core::SC_PS));
 //     initiator.socket.bind(memory.socket);
 //
-// Time. The constructor is told the period of a DRAM clock. Cycle n of the core begins at n periods: at that time exactly n rounds
-// were made, also behind a time in which nothing was asked. The target acts at the edges of this clock alone: what comes between two
-// edges, by its time and its delay, is taken at the later one. At an edge the round that ends there is made first, then replies are
-// taken, then requests are submitted. So a request at an edge is accepted in the cycle that begins there. The process wakes at the
-// edges behind which there is something to do: quiet cycles are passed at once, and while nothing is outstanding it doesn't wake.
+// Time. The constructor is told the period of a DRAM clock, as SystemC's resolution has it. Cycle n of the core begins at n periods:
+// who looks at the core then finds exactly n rounds made, also behind a time in which nothing was asked. The target acts at the
+// edges of this clock alone: what comes between two edges, by its time and its delay, is taken at the later one. At an edge the
+// round that ends there is made first, then replies are taken, then requests are submitted. So a request at an edge is accepted in
+// the cycle that begins there. The process wakes at the edges behind which there is something to do: quiet cycles are passed at
+// once, and while nothing is outstanding it doesn't wake.
 //
 // Requests. All payloads go to one port: 0, unless the constructor names another. A payload of any length is taken. It becomes a
 // request for each part of it that lies in one line of 64 bytes, in the order of its bytes. With a streaming width below the length
-// it begins again at its address so often, each time with requests of its own. A write that has bytes in a line which are not enabled is a
-// masked write of that line. A read asks for all bytes, and copies those that are enabled. Before any part of it is submitted, a
-// payload is refused with
+// it begins again at its address so often, each time with requests of its own. A write that has bytes in a line which are not
+// enabled is a masked write of that line. A read asks for all bytes, and copies those that are enabled. Before any part of it is
+// submitted, a payload is refused with
 //   TLM_COMMAND_ERROR_RESPONSE      where it is neither a read nor a write: TLM_IGNORE_COMMAND is refused;
 //   TLM_BURST_ERROR_RESPONSE        where its length or its streaming width is 0;
 //   TLM_BYTE_ENABLE_ERROR_RESPONSE  where it has enables of length 0, or one that is neither 0 nor 0xff;
 //   TLM_ADDRESS_ERROR_RESPONSE      where a byte of it is not below the memory's capacity;
 //   TLM_GENERIC_ERROR_RESPONSE      where the pointer to its data is null.
 //
-// b_transport waits for the delay that it is handed, sets it to 0, and returns when the payload's last reply is taken. Several threads may
-// wait in it, and both styles may be mixed. A payload that is refused comes back at once.
+// b_transport waits for the delay that it is handed, sets it to 0, and returns when the payload's last reply is taken. Several
+// threads may wait in it, and both styles may be mixed. A payload that is refused comes back at once.
 //
-// nb_transport_fw answers BEGIN_REQ with TLM_ACCEPTED, or with TLM_COMPLETED where the payload is refused. END_REQ is sent at the edge
-// at which the port has accepted the last part, so that a full port holds the initiator. BEGIN_RESP is sent at the edge at which the last
-// reply is taken; and the next one not before END_RESP came, or TLM_COMPLETED or END_RESP was answered to it, and the delay that was told
-// there is over. Until then replies stay in the port and fill its window. A port's replies come in the order of its requests,
-// and so do responses: one that can't begin holds those behind it, of b_transport too. A payload with a memory manager is acquired at
-// BEGIN_REQ, and released when its response ends. What breaks the base protocol is an SC_REPORT_ERROR: BEGIN_REQ before the END_REQ of
-// the one before, END_RESP of another payload than that which responds, and END_REQ or BEGIN_RESP on the forward path. Other phases are
-// ignored.
+// nb_transport_fw answers BEGIN_REQ with TLM_ACCEPTED, or with TLM_COMPLETED where the payload is refused. END_REQ is sent at the
+// edge at which the port has accepted the last part, so that a full port holds the initiator. BEGIN_RESP is sent at the edge at
+// which the last reply is taken, and the next one not before that response ended: by END_RESP, or by TLM_COMPLETED or END_RESP in
+// answer to BEGIN_RESP, and the delay that is told with these. Until then replies stay in the port and fill its window. A port's
+// replies come in the order of its requests, and so do responses: one that can't begin holds those behind it, of b_transport too. A
+// payload with a memory manager is acquired at BEGIN_REQ, and released when its response ends. What breaks the base protocol is an
+// SC_REPORT_ERROR: BEGIN_REQ before the END_REQ of the one before, END_RESP of another payload than that which responds, and END_REQ
+// or BEGIN_RESP on the forward path. Other phases are ignored.
 //
-// Debug. The core has no call that takes no time, so the target keeps the bytes of lines that were written beside it. A write changes
-// them when its request is accepted, and transport_dbg reads them. A write by transport_dbg changes them too: the core doesn't see it, and its
-// bytes are laid over what the core replies to reads that are accepted behind it, until a request writes them. So payloads get the bytes of a memory in
-// which each debug write stands where it was made, in the order in which requests are accepted. But those bytes come from here: what is
-// proved of the core's bytes isn't said of them. Writes of other ports, by `under()`, aren't seen. As the standard has it,
-// transport_dbg looks at command, address, data and length alone. It answers how many bytes lie below the capacity, and 0 for other
-// commands.
+// Debug. The core has no call that takes no time, so the target keeps the bytes of lines that were written beside it, 72 bytes a
+// line. A write changes them when its request is accepted, and transport_dbg reads them. A write by transport_dbg changes them too:
+// the core doesn't see it, and its bytes are laid over what the core replies to reads that are accepted behind it, until a request
+// writes them. So payloads get the bytes of a memory in which each debug write stands where it was made, in the order in which
+// requests are accepted. But those bytes come from here: what is proved of the core's bytes isn't said of them. Writes of other
+// ports, by `under()`, aren't seen. As the standard has it, transport_dbg looks at command, address, data and length alone. It
+// answers how many bytes lie below the capacity, and 0 for other commands.
 //
 // DMI is refused for the whole memory, since only requests take time, and dmi_allowed is never set.
 //

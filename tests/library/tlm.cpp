@@ -3,10 +3,10 @@
 //
 //     tlm CONFIG              CONFIG is examples/sample.config
 //
-// Each scenario has a memory of its own, with a clock of 1 ns, so that cycle n begins at n ns. A read of a closed bank has its ACT in the cycle
-// in which it is accepted, its RD rcd = 4 later, and is complete cl + 4 = 8 behind that, in cycle 12. That cycle is made by its end, at
-// 13 ns. Addresses 0 to 511 are a row of bank 0, whose next row begins at 8192. RDs of a row come no closer than ccd_l = 5. The first refresh falls due at
-// 200, and the memory has 262,144 bytes.
+// Each scenario has a memory of its own, with a clock of 1 ns, so that cycle n begins at n ns. A read of a closed bank has its ACT in the
+// cycle in which it is accepted, its RD rcd = 4 later, and is complete cl + 4 = 8 behind that, in cycle 12. That cycle is over at 13 ns.
+// Addresses 0 to 511 are a row of bank 0, whose next row begins at 8192. RDs of a row come no closer than ccd_l = 5. The first refresh
+// falls due at 200. The memory has 262,144 bytes.
 #include "ddr_tlm.h"
 
 #include <cstdio>
@@ -180,8 +180,8 @@ void window(Host &host) {
     for (unsigned int i = 0; i < 5; i++) wants("BEGIN_RESP of a row", host.when(*asks[i], true), 13000 + 5000 * i);
 }
 
-// Two reads of one row, whose replies are there at 13 and 18, and the second response not before the first one ended; and one behind them by b_transport,
-// which waits for both.
+// Two reads of one row, whose replies are there at 13 and 18, and the second response not before the first one ended; and one behind
+// them by b_transport, which waits for both.
 void responses(Host &host, tlm::tlm_sync_enum answer, double delay, double end, double end_delay, std::int64_t second_at) {
     Ask first(READ, 0, Bytes(64)), second(READ, 64, Bytes(64)), third(READ, 128, Bytes(64));
     host.answer = answer;

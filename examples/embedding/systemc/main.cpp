@@ -28,7 +28,8 @@ int run(const std::string &config, std::uint64_t count, const std::string &folde
     const std::uint64_t cycles = sc_core::sc_time_stamp().value() / period.value();
     for (ddr::Target<> *memory : {&prompt_memory, &slow_memory, &blocking_memory})
         expect(memory->under().cycle(0) == cycles, "as many cycles as periods");
-    std::cout << prompt_record.count() + slow_record.count() + blocking_record.count() << " requests in " << cycles << " cycles, with all bytes right\n";
+    const std::uint64_t requests = prompt_record.count() + slow_record.count() + blocking_record.count();
+    std::cout << requests << " requests in " << cycles << " cycles, with all bytes right\n";
     return 0;
 }
 
