@@ -43,7 +43,8 @@
 //
 // DMI is refused for the whole memory, since only requests take time, and dmi_allowed is never set.
 //
-// Faults of the core, such as want of memory, throw `ddr::Error`, in a simulation from the call or the process in which they came.
+// Faults of the core, such as want of memory, throw `ddr::Error`. From the target's process SystemC makes an SC_REPORT_ERROR of it, which
+// says which call answered which code.
 #ifndef DDR_TLM_H
 #define DDR_TLM_H
 
