@@ -69,6 +69,8 @@ struct Host : sc_core::sc_module {
     std::vector<ddr_reply> replies;
     tlm::tlm_sync_enum answer = tlm::TLM_COMPLETED; // to BEGIN_RESP
     sc_core::sc_time answer_delay;
+    std::vector<Ask *> within; // each asked in the call that brings an END_REQ
+    bool ends_within = false;  // whether END_RESP is sent in the call that brings BEGIN_RESP
 
     SC_HAS_PROCESS(Host);
 
@@ -114,9 +116,19 @@ private:
         came.push_back({&payload, phase == tlm::BEGIN_RESP, now()});
         if (phase != tlm::BEGIN_RESP) {
             end_req.notify(sc_core::SC_ZERO_TIME);
+            if (!within.empty()) {
+                Ask &next = *within.back();
+                within.pop_back();
+                wants("BEGIN_REQ in the call of END_REQ", forward(next, tlm::BEGIN_REQ), tlm::TLM_ACCEPTED);
+            }
             return tlm::TLM_ACCEPTED;
         }
         wants("status of a response", payload.get_response_status(), tlm::TLM_OK_RESPONSE);
+        if (ends_within) {
+            tlm::tlm_phase end = tlm::END_RESP;
+            sc_core::sc_time none;
+            wants("END_RESP in the call of BEGIN_RESP", socket->nb_transport_fw(payload, end, none), tlm::TLM_COMPLETED);
+        }
         if (answer != tlm::TLM_ACCEPTED) delay = answer_delay;
         if (answer == tlm::TLM_UPDATED) phase = tlm::END_RESP;
         return answer;
@@ -208,6 +220,24 @@ void answered_at_an_edge(Host &host) { responses(host, tlm::TLM_ACCEPTED, 0, 40,
 void answered_later_with_a_delay(Host &host) { responses(host, tlm::TLM_ACCEPTED, 0, 40, 3.5, 44000); }
 void completed(Host &host) { responses(host, tlm::TLM_COMPLETED, 20.5, 0, 0, 34000); }
 void updated(Host &host) { responses(host, tlm::TLM_UPDATED, 20, 0, 0, 33000); }
+
+// Calls within calls, in the way of initiators that have no process of their own.
+void nested(Host &host) {
+    Ask first(READ, 0, Bytes(64)), second(READ, 64, Bytes(64)), third(READ, 128, Bytes(64));
+    host.answer = tlm::TLM_ACCEPTED;
+    host.ends_within = true;
+    host.within = {&third, &second};
+    for (Ask *ask : {&second, &third}) ask->payload.acquire();
+    host.begin(first);
+    host.until(100);
+    std::int64_t at = 13000;
+    for (Ask *ask : {&first, &second, &third}) {
+        wants("END_REQ in a row", host.when(*ask, false), 0);
+        wants("BEGIN_RESP in a row", host.when(*ask, true), at);
+        wants("given back in a row", ask->payload.get_ref_count(), 1);
+        at += 5000;
+    }
+}
 
 // A payload that is refused comes back at once, in both styles.
 void refuse(Host &host, const char *what, Ask &ask, tlm::tlm_response_status status) {
@@ -363,7 +393,7 @@ int sc_main(int argc, char **argv) {
     sc_core::sc_report_handler::set_actions(sc_core::SC_ERROR, sc_core::SC_THROW);
     constructors();
     void (*const scenarios[])(Host &) = {two_rows, times, window, answered_later, answered_at_an_edge, answered_later_with_a_delay,
-                                         completed, updated, refusals, bytes, debug, faults};
+                                         completed, updated, nested, refusals, bytes, debug, faults};
     std::vector<std::unique_ptr<Host>> hosts;
     for (const auto scenario : scenarios) hosts.push_back(std::make_unique<Host>(sc_core::sc_gen_unique_name("host"), scenario));
     sc_core::sc_start();
