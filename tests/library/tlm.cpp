@@ -169,7 +169,7 @@ void times(Host &host) {
     host.until(97.25);
     host.call(ask, 2.5);
     wants("with a delay, accepted at 100", now(), 109000);
-    host.until(200);
+    host.until(1000); // by which the other scenarios are over
     const std::uint64_t before = sc_core::sc_delta_count();
     host.until(1000100);
     wants("nothing is done in idle time", sc_core::sc_delta_count() - before < 10, 1);
@@ -327,6 +327,14 @@ void debug(Host &host) {
     host.call(half);
     host.call(after);
     wants("a read behind a request for one of its bytes", after.data == Bytes{1, 7, 9, 4}, 1);
+    // A byte that a request wrote is the core's again, so that what another port writes there is read; debug doesn't see it.
+    std::uint64_t number = 0;
+    wants("a write of another port", host.memory.under().write(1, 64, "\x0b", number), DDR_OK);
+    sc_core::wait(ns(50));
+    host.call(after);
+    wants("a read behind a write of another port", after.data == Bytes{1, 7, 11, 4}, 1);
+    host.debug(peek);
+    wants("debug behind a write of another port", peek.data == Bytes{1, 7, 9, 4}, 1);
     Ask end(READ, 262140, Bytes(10)), ignored(tlm::TLM_IGNORE_COMMAND, 0, Bytes(4)), beyond(WRITE, 262144, Bytes(4));
     wants("debug up to the capacity", host.debug(end), 4);
     wants("debug beyond it", host.debug(beyond), 0);
