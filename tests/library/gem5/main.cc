@@ -226,6 +226,8 @@ chance(const std::string &config, std::uint64_t count, std::uint64_t refuses_one
     wants("answers", requester.answered, answers);
     wants("requests were refused", requester.requests_refused != 0, 1);
     wants("responses were refused", requester.responses_refused != 0, refuses_one_in != 0);
+    std::printf("%" PRIu64 " packets answered, %" PRIu64 " requests and %" PRIu64 " responses refused meanwhile\n", requester.answered,
+                requester.requests_refused, requester.responses_refused);
 }
 
 } // anonymous namespace
