@@ -47,6 +47,7 @@ class Requester : public RequestPort
 {
   public:
     std::uint64_t refuses_one_in = 0; // of the responses
+    bool refuses_all = false;         // until `resume`
     std::uint64_t answered = 0, requests_refused = 0, responses_refused = 0;
     Tick last = 0; // when the last response came
     PacketPtr held = nullptr; // a request that was refused
@@ -65,6 +66,12 @@ class Requester : public RequestPort
             held = packet;
             requests_refused++;
         }
+    }
+    void
+    resume()
+    {
+        refuses_all = false;
+        sendRetryResp();
     }
     // No request may be held.
     void
@@ -88,8 +95,10 @@ class Requester : public RequestPort
     bool
     recvTimingResp(PacketPtr packet) override
     {
-        if (refuses_one_in && draw(refuses_one_in) == 0) {
+        if (refuses_all || (refuses_one_in && draw(refuses_one_in) == 0)) {
             responses_refused++;
+            if (refuses_all)
+                return false;
             EventQueue::get().insert(retry, curTick() + draw(20 * PERIOD));
             return false;
         }
@@ -148,8 +157,8 @@ times(const std::string &config)
     requester.send(new Packet(Kind::Read, START, Bytes(64)));
     bench.until(50000);
     wants("a read's answer", requester.last, 13000);
-    // The row is open: an RD at once, and its line in cycle 108. It asks at the edge at 100,000, since it comes at 99,300, and 600 later on the bus.
-    bench.until(99300);
+    // The row is open: an RD at once, and its line in cycle 108. It asks at the edge at 100,000, since it comes at 98,700 and is 600 on the bus.
+    bench.until(98700);
     auto *delayed = new Packet(Kind::Read, START + 64, Bytes(64));
     delayed->headerDelay = 400;
     delayed->payloadDelay = 200;
@@ -185,10 +194,6 @@ others(const std::string &config)
     bench.until(curTick() + 10000);
     wants("one that is neither read nor write", bench.requester.answered, 1);
     bench.requester.functional(Kind::Read, START, Bytes(8));
-    bench.requester.send(new Packet(Kind::Read, START, Bytes(8)));
-    bench.requester.functional(Kind::Write, START + 2, {90, 91});
-    bench.until(curTick() + 50000);
-    wants("a read that a functional write changed on its way", bench.requester.answered, 2);
     bool thrown = false;
     try {
         Bench large(config, CAPACITY + 64);
@@ -196,6 +201,41 @@ others(const std::string &config)
         thrown = true;
     }
     wants("a range that is too long", thrown, 1);
+}
+
+// While a response is refused, one packet is there to be sent, 4 fill the window, and one waits for the port: the seventh is refused.
+// On each step of its way a read is changed by functional writes.
+void
+refused(const std::string &config)
+{
+    Bench bench(config);
+    Requester &requester = bench.requester;
+    requester.refuses_all = true;
+    unsigned sent = 0;
+    while (!requester.held && sent < 20) {
+        requester.send(new Packet(Kind::Read, START + 64 * sent++, Bytes(64)));
+        if (sent == 1)
+            requester.functional(Kind::Write, START + 1, {91});
+        bench.until(curTick() + 1000);
+        if (sent == 1)
+            requester.functional(Kind::Write, START + 2, {92});
+        bench.until(curTick() + 50000);
+    }
+    wants("packets sent while a response is refused", sent, 7);
+    wants("answered meanwhile", requester.answered, 0);
+    wants("responses refused", requester.responses_refused, 1);
+    requester.resume();
+    bench.until(curTick() + 50000);
+    wants("answered then", requester.answered, 7);
+
+    requester.refuses_all = true;
+    requester.send(new Packet(Kind::Read, START, Bytes(8)));
+    bench.until(curTick() + 50000);
+    requester.functional(Kind::Write, START + 3, {93});
+    wants("a response is refused", requester.responses_refused, 2);
+    requester.resume();
+    bench.until(curTick() + 50000);
+    wants("a read that a functional write changed on its way", requester.answered, 8);
 }
 
 void
@@ -241,6 +281,7 @@ main(int argc, char **argv)
     }
     times(argv[1]);
     others(argv[1]);
+    refused(argv[1]);
     chance(argv[1], std::stoull(argv[2]), 0);
     chance(argv[1], std::stoull(argv[2]), 4);
     wants("packets left", static_cast<std::uint64_t>(Packet::alive), 0);

@@ -16,6 +16,7 @@ class EventFunctionWrapper
 {
   public:
     EventFunctionWrapper(const std::function<void()> &callback, const std::string &) : callback(callback) {}
+    ~EventFunctionWrapper() { assert(!is_scheduled); }
     bool scheduled() const { return is_scheduled; }
     Tick when() const { return tick; }
 
