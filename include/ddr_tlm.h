@@ -60,6 +60,7 @@
 #include <functional>
 #include <optional>
 #include <stdexcept>
+#include <string>
 #include <string_view>
 #include <unordered_map>
 #include <utility>
@@ -83,7 +84,7 @@ public:
     Target(sc_core::sc_module_name name, std::string_view config, const sc_core::sc_time &period, std::uint32_t port = 0)
         : sc_module(name), socket("socket"), core(config), period(period), port(port) {
         if (period == sc_core::SC_ZERO_TIME) throw std::invalid_argument("ddr::Target: the period is 0");
-        core.outstanding(port);
+        if (port >= core.ports()) throw Error(DDR_NO_SUCH, "ddr::Target: the configuration has no port " + std::to_string(port));
         socket.bind(*this);
         SC_METHOD(work);
         dont_initialize();
