@@ -1,10 +1,9 @@
 //! The numbers of one place of a trace: of a bank, of a rank or of the whole channel.
 //!
-//! `kind` stands below, and `bank`, `rank` and `statistics` above.
+//! `ddr_trace` stands below, and `bank`, `rank` and `statistics` above.
 ghost use Rattle.std.specs.Prelude.{◌≡◌};
 ghost use Rattle.ddr_statistics.specs.Noted.{busy_noted, counts_noted, found_noted, kind_noted, raised, raised_if};
 
-use crate::kind::is_column;
 use ddr_timing::units::BURST_CLOCKS;
 use ddr_trace::command::Command;
 
@@ -106,7 +105,7 @@ impl Counts {
     fn note_burst(&mut self, command: &Command)
         ensures { self.new ≡ busy_noted command.now self.old }
     {
-        if is_column(command) {
+        if command.is_column() {
             raise(&mut self.busy_clocks, u64::from(BURST_CLOCKS));
         }
     }

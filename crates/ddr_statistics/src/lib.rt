@@ -3,8 +3,8 @@
 //! Each number is defined as a function of the trace (`specs/Counts.antt`, `specs/Visits.antt`, `specs/Turns.antt`), and
 //! what is counted here is proved to be that number. Below stand `ddr_timing` and `ddr_trace`; `ddr_replay` stands above.
 //! `statistics` is what takes a trace's commands one by one; it stands on `rank`, what is kept of a rank, that on `bank`,
-//! and both on `counts`, the numbers of one place. `debt` has the refreshes that a rank owes, `turns` the numbers of the data bus as a whole, `kind` says which
-//! commands move data, and `text` prints the numbers of commands and of turns. `findings` and `sums` are laws: how a read or a write finds its bank is
+//! and both on `counts`, the numbers of one place. `debt` has the refreshes that a rank owes, `turns` the numbers of the data bus as a whole, and `text`
+//! prints the numbers of a place. `findings` and `sums` are laws: how a read or a write finds its bank is
 //! told by looking back, and the numbers of places add up.
 #![tactic(auto)]
 
@@ -12,7 +12,6 @@ mod bank;
 pub mod counts;
 mod debt;
 pub mod findings;
-mod kind;
 mod rank;
 pub mod statistics;
 pub mod sums;

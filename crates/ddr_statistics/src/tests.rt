@@ -1,7 +1,7 @@
 //! Statistics of small traces, whose numbers are counted by hand.
 use crate::counts::Counts;
 use crate::statistics::Statistics;
-use crate::text::text;
+use crate::text::{counts_text, is_unused};
 use ddr_timing::bank::BankId;
 use ddr_timing::config::Config;
 use ddr_timing::profile::PROFILE_S2;
@@ -170,14 +170,33 @@ fn turns_are_counted_over_ranks(rt: HostRuntime) -> Result<(), Fail> {
 
 // Of rank 0 a bank had an ACT and a WR, and rank 1 a REF alone.
 #[test]
-fn the_text_lists_ranks_and_used_banks(rt: HostRuntime) -> Result<(), Fail> {
+fn the_text_lists_the_numbers_of_a_place(rt: HostRuntime) -> Result<(), Fail> {
     let config = Config::read(rt.alloc(), PROFILE_S2)?;
     let trace = [act(0), wr(0), Command::Refresh { rank: 1 }];
     let statistics = statistics_of(&rt, &config, &trace);
-    let text = text(rt.alloc(), &statistics, 1300)?;
-    let wanted =
-        "[total]\ncycles = 1200\nturn_rounds = 0\nrank_switches = 0\nactivates = 1\nprecharges = 0\nprecharges_all = 0\nrefreshes = 1\nreads = 0\nwrites = 1\nreads_auto = 0\nwrites_auto = 0\nrow_hits = 0\nrow_misses = 1\nrow_conflicts = 0\nbusy_clocks = 4\n\n[rank.0]\nactivates = 1\nprecharges = 0\nprecharges_all = 0\nrefreshes = 0\nreads = 0\nwrites = 1\nreads_auto = 0\nwrites_auto = 0\nrow_hits = 0\nrow_misses = 1\nrow_conflicts = 0\nbusy_clocks = 4\n\n[rank.1]\nactivates = 0\nprecharges = 0\nprecharges_all = 0\nrefreshes = 1\nreads = 0\nwrites = 0\nreads_auto = 0\nwrites_auto = 0\nrow_hits = 0\nrow_misses = 0\nrow_conflicts = 0\nbusy_clocks = 0\n\n[bank.0.1.2]\nactivates = 1\nprecharges = 0\nprecharges_all = 0\nrefreshes = 0\nreads = 0\nwrites = 1\nreads_auto = 0\nwrites_auto = 0\nrow_hits = 0\nrow_misses = 1\nrow_conflicts = 0\nbusy_clocks = 4\n";
-    assert_eq!(rt; text.as_str(), wanted);
+    let total = counts_text(rt.alloc(), &statistics.total())?;
+    assert_eq!(rt;
+        total.as_str(),
+        "activates = 1\nprecharges = 0\nprecharges_all = 0\nrefreshes = 1\nreads = 0\nwrites = 1\nreads_auto = 0\nwrites_auto = 0\nrow_hits = 0\nrow_misses = 1\nrow_conflicts = 0\nbusy_clocks = 4\n"
+    );
+    let refreshed = counts_of_rank(&statistics, 1).unwrap_or(Counts::NONE);
+    let rank = counts_text(rt.alloc(), &refreshed)?;
+    assert_eq!(rt;
+        rank.as_str(),
+        "activates = 0\nprecharges = 0\nprecharges_all = 0\nrefreshes = 1\nreads = 0\nwrites = 0\nreads_auto = 0\nwrites_auto = 0\nrow_hits = 0\nrow_misses = 0\nrow_conflicts = 0\nbusy_clocks = 0\n"
+    );
+    let written = counts_of_bank(&statistics, 0, GROUP, BANK).unwrap_or(Counts::NONE);
+    let bank = counts_text(rt.alloc(), &written)?;
+    assert_eq!(rt;
+        bank.as_str(),
+        "activates = 1\nprecharges = 0\nprecharges_all = 0\nrefreshes = 0\nreads = 0\nwrites = 1\nreads_auto = 0\nwrites_auto = 0\nrow_hits = 0\nrow_misses = 1\nrow_conflicts = 0\nbusy_clocks = 4\n"
+    );
+    assert!(rt; !is_unused(&written));
+    assert_eq!(rt;
+        counts_of_bank(&statistics, 1, GROUP, BANK),
+        Some(Counts::NONE)
+    );
+    assert!(rt; is_unused(&Counts::NONE));
     Ok(())
 }
 

@@ -1,13 +1,12 @@
 //! Turns of the data bus: between reads and writes, and between ranks.
 //!
-//! `kind` and `counts` stand below, and `statistics` above.
+//! `counts` stands below, and `statistics` above.
 ghost use Rattle.std.specs.Prelude.{◌≡◌};
 ghost use Rattle.ddr_trace.specs.Commands.{is_same_kind, is_same_rank};
 ghost use Rattle.ddr_statistics.specs.Noted.{turns_noted};
 ghost use Rattle.ddr_statistics.specs.Turns.{is_unlike};
 
 use crate::counts::raise_if;
-use crate::kind::{is_column, is_same_kind};
 use ddr_trace::command::Command;
 
 /// The turns so far, and the read or write that the next one is compared with.
@@ -30,7 +29,7 @@ impl Turns {
     pub fn note(&mut self, command: &Command)
         ensures { self.new ≡ turns_noted command.now self.old }
     {
-        if !is_column(command) {
+        if !command.is_column() {
             return;
         }
         let is_turn_round = self.is_turn_round(command);
@@ -59,4 +58,11 @@ impl Turns {
             None => false,
         }
     }
+}
+
+/// Whether both are reads, or both writes.
+fn is_same_kind(first: &Command, second: &Command) -> bool
+    ensures { result ≡ is_same_kind first.now second.now }
+{
+    (first.is_read() && second.is_read()) || (first.is_write() && second.is_write())
 }
