@@ -1,6 +1,7 @@
 pub mod Drains
 pub mod Found
 pub mod Ledgers
+pub mod Measured
 pub mod Numbers
 pub mod Places
 pub mod Replays
@@ -8,6 +9,7 @@ pub mod Report
 pub mod Runs
 pub mod Stuck
 pub mod ServedText
+pub mod Taken
 pub mod Times
 pub mod TimesReport
 pub mod View

@@ -1,26 +1,29 @@
 -- What the command `replay` writes, and by which faults it ends.
-use Rattle.std.specs.Prelude.{◌≡◌, ℕ, ◌<◌, ◌≤◌, Bool, true, false, nat_le, if◌then◌else◌, List, length, map, Option, Result, Ok, Err}
+use Rattle.std.specs.Prelude.{◌≡◌, ℕ, ◌<◌, ◌≤◌, Bool, true, false, nat_le, if◌then◌else◌, List, drop, length, map, Option, Result, Ok, Err}
 use Rattle.std.specs.Io.KnownBytes.{Appends}
 use Rattle.std.specs.Str.{IsUtf8}
 use Rattle.ddr_timing.specs.declared.config.Config.{Config}
 use Rattle.ddr_text.specs.declared.fault.Fault.{Fault}
 use Rattle.ddr_text.specs.declared.fault.Fault.TheVariants as faults
-use Rattle.ddr_text.specs.declared.command.Reading.{Reading}
-use Rattle.ddr_text.specs.declared.command.Told.{Told}
-use Rattle.ddr_text.specs.declared.command.Told.TheVariants as told
+use Rattle.ddr_replay.specs.Taken.{taken_of}
+use Rattle.ddr_replay.specs.declared.taken.Taking.{Taking}
+use Rattle.ddr_replay.specs.declared.wanted.Wanted.{Wanted}
+use Rattle.ddr_replay.specs.declared.wanted.Wanted.TheVariants as told
 use Rattle.ddr_sim.specs.Runs.{channel_text}
 use Rattle.ddr_text.specs.Body.{HasParts, IsRefused, parts_of}
 use Rattle.ddr_text.specs.Instructions.{◌>>>◌}
 use Rattle.ddr_replay.specs.declared.replaying.TheConstants.{MOST_ROUNDS}
 use Rattle.ddr_stream.specs.declared.stream.TheConstants.{LONGEST_STREAM}
 use Rattle.ddr_replay.specs.declared.numbers.Requests.{Requests}
+use Rattle.ddr_measure.specs.Text.{measured_text}
 use Rattle.ddr_replay.specs.Found.{findings_of}
+use Rattle.ddr_replay.specs.Measured.{timed_of}
 use Rattle.ddr_replay.specs.Numbers.{is_any_spent, requests_in}
 use Rattle.ddr_replay.specs.Report.{report_text}
 use Rattle.ddr_replay.specs.Runs.{Run, begun, replayed}
 use Rattle.ddr_replay.specs.ServedText.{served_text}
 use Rattle.ddr_replay.specs.Stuck.{IsStuckBody}
-use Rattle.ddr_stream.specs.Stream.{Queues, queues_of}
+use Rattle.ddr_stream.specs.Stream.{Queues}
 
 -- the statistics of a run at whose end no clock is spent
 abbrev pub reported : Config → List Requests → Run → Result (List ℕ) Fault
@@ -33,33 +36,42 @@ listed config run =
     let channels = config.geometry.channels in
     if is_any_spent run.state channels then Err faults.ClockSpent else Ok (served_text config.geometry (findings_of run.state channels) run.ledger.served)
 
--- what is to be told of a run: its statistics, its requests, or the trace of a channel
-abbrev pub told_of : Config → Told → List Requests → Run → Result (List ℕ) Fault
+-- the numbers of the requests of such a run, behind the first so many
+abbrev pub measured : Config → ℕ → Option ℕ → Run → Result (List ℕ) Fault
+measured config skip clock run =
+    let channels = config.geometry.channels in
+    if is_any_spent run.state channels then Err faults.ClockSpent
+    else Ok (measured_text channels clock (map (timed_of config.geometry (findings_of run.state channels)) (drop skip run.ledger.served)))
+
+-- what is to be told of a run: its statistics, its requests, the trace of a channel, or its numbers
+abbrev pub told_of : Config → Wanted → List Requests → Run → Result (List ℕ) Fault
 told_of config told.Statistics requests run = reported config requests run
 told_of config told.Requests requests run = listed config run
 told_of config (told.Trace channel) requests run = Ok (channel_text run.state channel)
+told_of config (told.Numbers skip clock) requests run = measured config skip clock run
 
 -- the requests that were served are kept where they are to be told
-abbrev pub keeps_served : Told → Bool
+abbrev pub keeps_served : Wanted → Bool
 keeps_served told.Requests = true
+keeps_served (told.Numbers skip clock) = true
 keeps_served _ = false
 
 -- a trace is asked for of a channel that isn't there
-abbrev pub names_no_channel : Config → Told → Bool
+abbrev pub names_no_channel : Config → Wanted → Bool
 names_no_channel config (told.Trace channel) = nat_le config.geometry.channels channel
 names_no_channel config _ = false
 
 -- what is told of the run that these requests come to, or why it ends before
-abbrev pub told_behind : Config → Told → Queues → Result (List ℕ) Fault
+abbrev pub told_behind : Config → Wanted → Queues → Result (List ℕ) Fault
 told_behind config told queues =
     replayed config MOST_ROUNDS (begun config (keeps_served told) queues) >>> λ run. told_of config told (map requests_in queues) run
 
 -- What is told of a body: of the run that its requests come to. Or that the channel isn't there, the body's first line at fault,
 -- or why the run ends before.
-unfoldable pub report_of : Config → Reading → Told → List ℕ → Result (List ℕ) Fault
-report_of config reading told body =
+unfoldable pub report_of : Config → Taking → Wanted → List ℕ → Result (List ℕ) Fault
+report_of config taking told body =
     if names_no_channel config told then Err faults.TraceNoSuch
-    else queues_of config reading body >>> told_behind config told
+    else taken_of config taking body >>> told_behind config told
 
 -- what is answered, seen by the view, is what the body says, unless memory ran out
 abbrev pub IsSaid : {X : Type 0} → (X → List ℕ) → Result X Fault → Result (List ℕ) Fault → Type 0
@@ -73,9 +85,9 @@ IsSaid view (Err faults.OutOfMemory) said = Unit {0}
 IsSaid view (Err _) said = ⊥
 
 -- what is answered, seen by the view, is what the body says, or its replay can go on no more
-abbrev pub IsReported : {X : Type 0} → (X → List ℕ) → Config → Reading → Told → List ℕ → Result X Fault → Type 0
-IsReported view config reading told body (Err (faults.ReplayStuck cycle)) = IsStuckBody config reading (keeps_served told) body cycle
-IsReported view config reading told body result = IsSaid view result (report_of config reading told body)
+abbrev pub IsReported : {X : Type 0} → (X → List ℕ) → Config → Taking → Wanted → List ℕ → Result X Fault → Type 0
+IsReported view config taking told body (Err (faults.ReplayStuck cycle)) = IsStuckBody config taking (keeps_served told) body cycle
+IsReported view config taking told body result = IsSaid view result (report_of config taking told body)
 
 -- the input is short enough, and a text
 pub record IsStream (input : List ℕ) : Type 0 where
@@ -87,43 +99,43 @@ abbrev pub IsNoStream : List ℕ → Type 0
 IsNoStream input = (length input ≤ LONGEST_STREAM) × (¬ IsUtf8 input)
 
 -- what an input says: what is to be told of its body under its configuration, or why there is none
-pub record Says (sample : Bool) (profile : List ℕ) (reading : Reading) (told : Told) (input : List ℕ) (said : Result (List ℕ) Fault) : Type 0 where
+pub record Says (sample : Bool) (profile : List ℕ) (taking : Taking) (told : Wanted) (input : List ℕ) (said : Result (List ℕ) Fault) : Type 0 where
   pub text : IsStream input
   pub config : Config
   pub body : List ℕ
   pub opened : HasParts (parts_of sample profile input) config body
-  pub report : report_of config reading told body ≡ said
+  pub report : report_of config taking told body ≡ said
 
 -- an input whose replay can go on no more from this cycle on
-pub record IsStuckInput (sample : Bool) (profile : List ℕ) (reading : Reading) (told : Told) (input : List ℕ) (cycle : ℕ) : Type 0 where
+pub record IsStuckInput (sample : Bool) (profile : List ℕ) (taking : Taking) (told : Wanted) (input : List ℕ) (cycle : ℕ) : Type 0 where
   pub text : IsStream input
   pub config : Config
   pub body : List ℕ
   pub opened : HasParts (parts_of sample profile input) config body
-  pub stuck : IsStuckBody config reading (keeps_served told) body cycle
+  pub stuck : IsStuckBody config taking (keeps_served told) body cycle
 
 -- what a replay without a fault writes
-pub record IsReplayed (sample : Bool) (profile : List ℕ) (reading : Reading) (told : Told) (input : List ℕ) (old new : Option (List ℕ)) : Type 0 where
+pub record IsReplayed (sample : Bool) (profile : List ℕ) (taking : Taking) (told : Wanted) (input : List ℕ) (old new : Option (List ℕ)) : Type 0 where
   pub text : List ℕ
-  pub says : Says sample profile reading told input (Ok text)
+  pub says : Says sample profile taking told input (Ok text)
   pub written : Appends old new text
 
 -- the input has a report
-abbrev pub HasReport : Bool → List ℕ → Reading → Told → List ℕ → Type 0
-HasReport sample profile reading told input = (text : List ℕ) × Says sample profile reading told input (Ok text)
+abbrev pub HasReport : Bool → List ℕ → Taking → Wanted → List ℕ → Type 0
+HasReport sample profile taking told input = (text : List ℕ) × Says sample profile taking told input (Ok text)
 
--- the input has the fault that a replay ends by; where writing fails it has a report, and reading and memory fail by
+-- the input has the fault that a replay ends by; where writing fails it has a report, and taking and memory fail by
 -- themselves
-abbrev pub HasReplayFault : Bool → List ℕ → Reading → Told → List ℕ → Fault → Type 0
-HasReplayFault sample profile reading told input (faults.ReplayLine line cause) = Says sample profile reading told input (Err (faults.ReplayLine line cause))
-HasReplayFault sample profile reading told input (faults.ReplayRange line) = Says sample profile reading told input (Err (faults.ReplayRange line))
-HasReplayFault sample profile reading told input faults.TraceNoSuch = Says sample profile reading told input (Err faults.TraceNoSuch)
-HasReplayFault sample profile reading told input faults.ReplayLimit = Says sample profile reading told input (Err faults.ReplayLimit)
-HasReplayFault sample profile reading told input (faults.ReplayStuck cycle) = IsStuckInput sample profile reading told input cycle
-HasReplayFault sample profile reading told input faults.ClockSpent = Says sample profile reading told input (Err faults.ClockSpent)
-HasReplayFault sample profile reading told input faults.InputTooLong = LONGEST_STREAM < length input
-HasReplayFault sample profile reading told input faults.InputNotUtf8 = IsNoStream input
-HasReplayFault sample profile reading told input faults.Read = Unit {0}
-HasReplayFault sample profile reading told input faults.Write = HasReport sample profile reading told input
-HasReplayFault sample profile reading told input faults.OutOfMemory = Unit {0}
-HasReplayFault sample profile reading told input fault = IsStream input × IsRefused (parts_of sample profile input) fault
+abbrev pub HasReplayFault : Bool → List ℕ → Taking → Wanted → List ℕ → Fault → Type 0
+HasReplayFault sample profile taking told input (faults.ReplayLine line cause) = Says sample profile taking told input (Err (faults.ReplayLine line cause))
+HasReplayFault sample profile taking told input (faults.ReplayRange line) = Says sample profile taking told input (Err (faults.ReplayRange line))
+HasReplayFault sample profile taking told input faults.TraceNoSuch = Says sample profile taking told input (Err faults.TraceNoSuch)
+HasReplayFault sample profile taking told input faults.ReplayLimit = Says sample profile taking told input (Err faults.ReplayLimit)
+HasReplayFault sample profile taking told input (faults.ReplayStuck cycle) = IsStuckInput sample profile taking told input cycle
+HasReplayFault sample profile taking told input faults.ClockSpent = Says sample profile taking told input (Err faults.ClockSpent)
+HasReplayFault sample profile taking told input faults.InputTooLong = LONGEST_STREAM < length input
+HasReplayFault sample profile taking told input faults.InputNotUtf8 = IsNoStream input
+HasReplayFault sample profile taking told input faults.Read = Unit {0}
+HasReplayFault sample profile taking told input faults.Write = HasReport sample profile taking told input
+HasReplayFault sample profile taking told input faults.OutOfMemory = Unit {0}
+HasReplayFault sample profile taking told input fault = IsStream input × IsRefused (parts_of sample profile input) fault

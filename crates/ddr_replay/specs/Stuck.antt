@@ -2,12 +2,13 @@
 use Rattle.std.specs.Prelude.{◌≡◌, ℕ, ◌*◌, ◌-◌, ◌<◌, ◌≤◌, false, Bool, List, Result, Ok}
 use Rattle.ddr_timing.specs.declared.config.Config.{Config}
 use Rattle.ddr_latency.specs.Latency.{leaves_time}
-use Rattle.ddr_text.specs.declared.command.Reading.{Reading}
 use Rattle.ddr_text.specs.declared.fault.Fault.{Fault}
 use Rattle.ddr_sim.specs.Rounds.{outstanding}
-use Rattle.ddr_stream.specs.Stream.{Queues, queues_of}
+use Rattle.ddr_stream.specs.Stream.{Queues}
 use Rattle.ddr_replay.specs.declared.replaying.TheConstants.{MOST_ROUNDS, STUCK_INTERVALS}
 use Rattle.ddr_replay.specs.Runs.{Run, begun, replayed}
+use Rattle.ddr_replay.specs.Taken.{taken_of}
+use Rattle.ddr_replay.specs.declared.taken.Taking.{Taking}
 
 -- a refresh interval leaves no time to serve a request, some wait, and at least so many intervals are over in this cycle
 pub record CannotGoOn (config : Config) (run : Run) (cycle : ℕ) : Type 0 where
@@ -23,7 +24,7 @@ pub record IsStuckIn (config : Config) (said : Result Run Fault) (cycle : ℕ) :
   pub stuck : CannotGoOn config run cycle
 
 -- the replay of a body comes to such a run
-pub record IsStuckBody (config : Config) (reading : Reading) (keeps : Bool) (body : List ℕ) (cycle : ℕ) : Type 0 where
+pub record IsStuckBody (config : Config) (taking : Taking) (keeps : Bool) (body : List ℕ) (cycle : ℕ) : Type 0 where
   pub queues : Queues
-  pub read : queues_of config reading body ≡ Ok queues
+  pub read : taken_of config taking body ≡ Ok queues
   pub stuck : IsStuckIn config (replayed config MOST_ROUNDS (begun config keeps queues)) cycle

@@ -7,11 +7,12 @@ ghost use Rattle.ddr_replay.specs.Replays.{HasReplayFault, IsNoStream, IsReplaye
 
 use crate::numbers::requests_of;
 use crate::replaying::Replaying;
+use crate::taken::{Taking, taken_of};
 use crate::telling::told_of;
+use crate::wanted::Wanted;
 use crate::watch::Watch;
-use ddr_stream::stream::{LONGEST_STREAM, queues_of};
+use ddr_stream::stream::LONGEST_STREAM;
 use ddr_text::body::take_apart;
-use ddr_text::command::{Reading, Told};
 use ddr_text::fault::Fault;
 use ddr_text::input::read_at_most;
 use ddr_text::sink::Sink;
@@ -25,10 +26,11 @@ use std::str;
 /// Reads a stream of requests, replays it, and writes what is to be told of it.
 ///
 /// With `sample` the whole input is the stream, on the sample configuration; else the input is a configuration of either
-/// version, a line `---` and the stream. `reading` says how its lines are read; each asks for the whole line of the memory that
-/// holds an address. Before each round every port, from port 0 on, submits its next requests in order while their cycle is at
+/// version, a line `---` and the stream. `taking` says how its lines are read, each of which asks for the whole line of the memory that
+/// holds an address, and whether their cycles count from the first one's. Before each round every port, from port 0 on, submits its next requests in order while their cycle is at
 /// most the rounds made so far and they aren't refused; then comes the round of `sim`; until every request was submitted and its
-/// reply released. Then `told` says what is written: statistics as TOML, the requests as CSV, or a channel's trace.
+/// reply released. Then `told` says what is written: statistics as TOML, the requests as CSV, a channel's trace, or numbers of the requests
+/// as TOML.
 ///
 /// Fails as `take_apart` does, then as `TraceNoSuch` where there is no channel of that number, then as `ReplayLine` or `ReplayRange` at
 /// the first line of the stream that is at fault, then as `ReplayLimit` where more than `MOST_ROUNDS` rounds are needed, or as
@@ -39,8 +41,8 @@ use std::str;
 pub fn replay<R: Source, W: Sink, V: Watch>(
     alloc: Global,
     sample: bool,
-    reading: Reading,
-    told: Told,
+    taking: Taking,
+    told: Wanted,
     reader: &mut R,
     writer: &mut W,
     watch: &mut V,
@@ -52,14 +54,14 @@ pub fn replay<R: Source, W: Sink, V: Watch>(
     ensures spared { IsErrOf result Fault.OutOfMemory → W.contents writer.new ≡ W.contents writer.old }
     ensures unmoved { IsErrOf result Fault.OutOfMemory → IsTrue W.may_fail → writer.new ≡ writer.old }
     ensures fault { IfErr result (λ fault. IfSome (R.remaining reader.old) (λ input.
-        HasReplayFault sample PROFILE_S.now reading told input fault)) }
+        HasReplayFault sample PROFILE_S.now taking told input fault)) }
     ensures written { OnOk result (IfSome (R.remaining reader.old) (λ input.
-        IsReplayed sample PROFILE_S.now reading told input (W.contents writer.old) (W.contents writer.new))) }
+        IsReplayed sample PROFILE_S.now taking told input (W.contents writer.old) (W.contents writer.new))) }
 {
     let input = read_at_most(alloc, LONGEST_STREAM, reader)?;
     let text = text_of(input.as_slice())?;
     let (config, body) = take_apart(alloc, sample, text)?;
-    let report = report_of(alloc, &config, reading, told, body, watch)?;
+    let report = report_of(alloc, &config, taking, told, body, watch)?;
     write_bytes(writer, report.as_slice())
 }
 
@@ -77,18 +79,18 @@ fn text_of(bytes: &[u8]) -> Result<&str, Fault>
 fn report_of<V: Watch>(
     alloc: Global,
     config: &Config,
-    reading: Reading,
-    told: Told,
+    taking: Taking,
+    told: Wanted,
     body: &str,
     watch: &mut V,
 ) -> Result<Vec<u8>, Fault>
     requires { length body.now ≤ LONGEST_STREAM }
-    ensures { IsReported (λ v. v.items) config.now reading told body.now result }
+    ensures { IsReported (λ v. v.items) config.now taking told body.now result }
 {
     if names_no_channel(config, told) {
         return Err(Fault::TraceNoSuch);
     }
-    let queues = queues_of(alloc, config, reading, body)?;
+    let queues = taken_of(alloc, config, taking, body)?;
     let requests = requests_of(alloc, queues.as_slice())?;
     let mut replaying = Replaying::open(alloc, config, keeps_served(told), queues)?;
     replaying.run(watch)?;
@@ -96,21 +98,21 @@ fn report_of<V: Watch>(
 }
 
 /// Whether a trace is asked for of a channel that isn't there.
-fn names_no_channel(config: &Config, told: Told) -> bool
+fn names_no_channel(config: &Config, told: Wanted) -> bool
     ensures { result ≡ names_no_channel config.now told }
 {
     match told {
-        Told::Trace { channel } => channel >= config.geometry.channels,
+        Wanted::Trace { channel } => channel >= config.geometry.channels,
         _ => false,
     }
 }
 
 /// Whether the requests that were served are to be kept.
-fn keeps_served(told: Told) -> bool
+fn keeps_served(told: Wanted) -> bool
     ensures { result ≡ keeps_served told }
 {
     match told {
-        Told::Requests => true,
+        Wanted::Requests | Wanted::Numbers { .. } => true,
         _ => false,
     }
 }

@@ -61,7 +61,7 @@ fn served_line(alloc: Global, served: &Served, found: Option<Finding>) -> Result
 }
 
 /// How a request's read or write found its bank.
-fn found_of(map: &Map, findings: &[Findings], served: &Served) -> Option<Finding>
+pub(crate) fn found_of(map: &Map, findings: &[Findings], served: &Served) -> Option<Finding>
     ensures { result ≡ found_of map.now.geometry (all_found_in findings.now) served.now }
 {
     let place = map.place(served.ask.addr)?;

@@ -1,21 +1,23 @@
 //! What is told of a replay that has come to its end.
 //!
-//! `replaying`, `report`, `places`, `served` and `found` stand below, and `replay` above.
+//! `wanted`, `replaying`, `report`, `places`, `served`, `found` and `measured` stand below, and `replay` above.
 ghost use Rattle.std.specs.Prelude.{◌≡◌, IfErr, IfOk};
 ghost use Rattle.ddr_sim.specs.Runs.{channel_text};
 ghost use Rattle.ddr_world.specs.Kept.{state_of};
-ghost use Rattle.ddr_replay.specs.Replays.{IsSaid, listed, reported, told_of};
+ghost use Rattle.ddr_replay.specs.Replays.{IsSaid, listed, measured, reported, told_of};
 ghost use Rattle.ddr_replay.specs.View.{run_of};
 
 use crate::found::findings_of;
+use crate::measured::{behind, timed};
 use crate::numbers::{Requests, is_any_spent, numbers_of};
 use crate::places::places_tables;
 use crate::replaying::Replaying;
 use crate::report::report_lines;
 use crate::served::served_text;
+use crate::wanted::Wanted;
 use ddr_address_map::map::Map;
+use ddr_measure::text::measured_text;
 use ddr_sim::trace::text_of;
-use ddr_text::command::Told;
 use ddr_text::fault::Fault;
 use ddr_timing::config::Config;
 use ddr_world::world::World;
@@ -25,16 +27,17 @@ use std::alloc::Global;
 pub fn told_of(
     alloc: Global,
     config: &Config,
-    told: Told,
+    wanted: Wanted,
     requests: &[Requests],
     replaying: &Replaying,
 ) -> Result<Vec<u8>, Fault>
-    ensures { IsSaid (λ v. v.items) result (told_of config.now told requests.now (run_of replaying.now)) }
+    ensures { IsSaid (λ v. v.items) result (told_of config.now wanted requests.now (run_of replaying.now)) }
 {
-    match told {
-        Told::Statistics => reported(alloc, config, requests, replaying),
-        Told::Requests => listed(alloc, config, replaying),
-        Told::Trace { channel } => channel_text(alloc, replaying.world(), channel),
+    match wanted {
+        Wanted::Statistics => reported(alloc, config, requests, replaying),
+        Wanted::Requests => listed(alloc, config, replaying),
+        Wanted::Trace { channel } => channel_text(alloc, replaying.world(), channel),
+        Wanted::Numbers { skip, clock } => measured(alloc, config, skip, clock, replaying),
     }
 }
 
@@ -55,6 +58,29 @@ fn listed(alloc: Global, config: &Config, replaying: &Replaying) -> Result<Vec<u
         findings.as_slice(),
         replaying.ledger().served(),
     )?;
+    Ok(text.into_bytes())
+}
+
+/// The numbers of the requests behind the first so many. Fails as `ClockSpent` where a channel's clock has come to its end.
+fn measured(
+    alloc: Global,
+    config: &Config,
+    skip: u32,
+    clock: Option<u32>,
+    replaying: &Replaying,
+) -> Result<Vec<u8>, Fault>
+    ensures { IsSaid (λ v. v.items) result (measured config.now skip clock (run_of replaying.now)) }
+{
+    let world = replaying.world();
+    let channels = config.geometry.channels;
+    if is_any_spent(world, channels) {
+        return Err(Fault::ClockSpent);
+    }
+    let findings = findings_of(alloc, world, channels)?;
+    let map = Map::new(config);
+    let served = behind(replaying.ledger().served(), skip);
+    let requests = timed(alloc, &map, findings.as_slice(), served)?;
+    let text = measured_text(alloc, channels, clock, requests.as_slice())?;
     Ok(text.into_bytes())
 }
 

@@ -55,7 +55,7 @@ pub fn perform_on_traces<R: Source, W: Sink>(
             Ok(Some(0))
         }
         Job::Lint { sample } => Ok(Some(lint(alloc, sample, reader, writer)?.status())),
-        Job::Sim { .. } | Job::Run { .. } | Job::Replay { .. } => Ok(None),
+        Job::Sim { .. } | Job::Run { .. } | Job::Replay { .. } | Job::Measure { .. } => Ok(None),
     }
 }
 

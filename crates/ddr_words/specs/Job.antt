@@ -1,5 +1,5 @@
 -- The command line of the program, and the job that its words state.
-use Rattle.std.specs.Prelude.{◌≡◌, ℕ, Bool, true, false, not, ◌&&◌, ◌||◌, nat_lt, if◌then◌else◌, List, [], ◌∷◌, length, codes, pos, IfSome, Option, Some, None, is_some, option_map, unwrap_or, Result, Ok, Err}
+use Rattle.std.specs.Prelude.{◌≡◌, ℕ, Bool, true, false, not, ◌&&◌, ◌||◌, nat_lt, ◌==◌, if◌then◌else◌, List, [], ◌∷◌, length, codes, pos, IfSome, Option, Some, None, is_some, option_map, unwrap_or, Result, Ok, Err}
 use Rattle.std.specs.Option.{option_map_or}
 use Rattle.std.specs.Str.{bytes_eq}
 use Rattle.std.specs.Str.Parse.{digits_value, without_leading_plus}
@@ -15,9 +15,9 @@ use Rattle.clap.specs.declared.error.kind.ErrorKind.TheVariants.{OutOfMemory}
 use Rattle.ddr_words.specs.declared.job.JobError.{JobError}
 use Rattle.ddr_words.specs.declared.job.JobError.TheVariants as errors
 use Rattle.ddr_words.specs.declared.misuse.Misuse.{Misuse}
-use Rattle.ddr_words.specs.declared.misuse.Misuse.TheVariants.{TwoForms, SpreadOfOwnForm, RequestsBesideTrace, FaultsOfCapture, ChannelOfOwnForm, PartOfWaves}
+use Rattle.ddr_words.specs.declared.misuse.Misuse.TheVariants.{TwoForms, SpreadOfOwnForm, FirstOfNoCycles, RequestsBesideTrace, NumbersBesideOthers, PartOfNumbers, ClockOfNoTime, FaultsOfCapture, ChannelOfOwnForm, PartOfWaves}
 use Rattle.ddr_words.specs.declared.command.Job.{Job}
-use Rattle.ddr_words.specs.declared.command.Job.TheVariants.{Sim, Run, Replay, Check, Explain, All, Stream, Draw, Map, Lint}
+use Rattle.ddr_words.specs.declared.command.Job.TheVariants.{Sim, Run, Replay, Measure, Check, Explain, All, Stream, Draw, Map, Lint}
 use Rattle.ddr_text.specs.declared.command.Format.{Format}
 use Rattle.ddr_text.specs.declared.command.Format.TheVariants.{Own, Dramsim3, Ramulator2}
 use Rattle.ddr_words.specs.declared.command.Picture.{Picture}
@@ -82,9 +82,25 @@ spread_rule = flag_rule (codes "spread")
 abbrev pub wrap_rule : Rule
 wrap_rule = flag_rule (codes "wrap")
 
+-- the flag `--from-first`
+abbrev pub from_first_rule : Rule
+from_first_rule = flag_rule (codes "from-first")
+
 -- the flag `--requests`
 abbrev pub requests_rule : Rule
 requests_rule = flag_rule (codes "requests")
+
+-- the flag `--numbers`
+abbrev pub numbers_rule : Rule
+numbers_rule = flag_rule (codes "numbers")
+
+-- the option `--skip`
+abbrev pub skip_rule : Rule
+skip_rule = number_rule (codes "skip")
+
+-- the option `--tck`
+abbrev pub clock_rule : Rule
+clock_rule = number_rule (codes "tck")
 
 -- the flag `--progress`
 abbrev pub progress_rule : Rule
@@ -132,15 +148,19 @@ check_app = with_capture (with_faults (with_sample (codes "check")))
 
 -- a subcommand with the options that say how a stream is read
 abbrev pub with_reading : App → App
-with_reading app = with_rule (with_rule (with_rule (with_rule app dramsim3_rule) ramulator2_rule) spread_rule) wrap_rule
+with_reading app = with_rule (with_rule (with_rule (with_rule (with_rule app dramsim3_rule) ramulator2_rule) spread_rule) wrap_rule) from_first_rule
 
 -- a subcommand with the options that say what is told of a replay
 abbrev pub with_telling : App → App
 with_telling app = with_rule (with_rule (with_rule app requests_rule) trace_rule) progress_rule
 
+-- a subcommand with the options that say which numbers are told of a replay
+abbrev pub with_numbers : App → App
+with_numbers app = with_rule (with_rule (with_rule app numbers_rule) skip_rule) clock_rule
+
 -- the subcommand `replay`, with its own options behind the flag
 abbrev pub replay_app : App
-replay_app = with_telling (with_reading (with_sample (codes "replay")))
+replay_app = with_numbers (with_telling (with_reading (with_sample (codes "replay"))))
 
 -- the subcommand `draw`, with its own flag and its options behind
 abbrev pub draw_app : App
@@ -233,8 +253,12 @@ pub record AreTaken (options : List Row) : Type 0 where
   pub ramulator2 : IfSome (one_of (codes "ramulator2") options) (IsTaken (filled ramulator2_rule))
   pub spread : IfSome (one_of (codes "spread") options) (IsTaken (filled spread_rule))
   pub wrap : IfSome (one_of (codes "wrap") options) (IsTaken (filled wrap_rule))
+  pub from_first : IfSome (one_of (codes "from-first") options) (IsTaken (filled from_first_rule))
   pub requests : IfSome (one_of (codes "requests") options) (IsTaken (filled requests_rule))
   pub progress : IfSome (one_of (codes "progress") options) (IsTaken (filled progress_rule))
+  pub numbers : IfSome (one_of (codes "numbers") options) (IsTaken (filled numbers_rule))
+  pub skip : IfSome (one_of (codes "skip") options) (IsTaken (filled skip_rule))
+  pub clock : IfSome (one_of (codes "tck") options) (IsTaken (filled clock_rule))
   pub stream : IfSome (one_of (codes "stream") options) (IsTaken (filled stream_rule))
   pub start : IfSome (one_of (codes "start") options) (IsTaken (filled start_rule))
   pub channel : IfSome (one_of (codes "channel") options) (IsTaken (filled channel_rule))
@@ -244,6 +268,12 @@ pub record AreTaken (options : List Row) : Type 0 where
 
 abbrev pub is_subcommand : Text → Bool
 is_subcommand name = bytes_eq name (codes "sim") || bytes_eq name (codes "run") || bytes_eq name (codes "replay") || bytes_eq name (codes "check") || bytes_eq name (codes "draw") || bytes_eq name (codes "map") || bytes_eq name (codes "lint")
+
+-- the job of the subcommand `replay`
+abbrev pub replay_job : List Row → Bool → Job
+replay_job options sample =
+    if is_used (codes "numbers") options then Measure sample (reading_of options) (is_used (codes "from-first") options) (unwrap_or (number_in (codes "skip") options) 0) (number_in (codes "tck") options) (is_used (codes "progress") options)
+    else Replay sample (reading_of options) (is_used (codes "from-first") options) (told_of options) (is_used (codes "progress") options)
 
 -- the job of `check` on a whole trace; who asks for the first faults asks for all, which tell more than an explanation
 abbrev pub faults_job : List Row → Bool → Job
@@ -263,19 +293,33 @@ abbrev pub job_with : Text → List Row → Job
 job_with name options =
     if bytes_eq name (codes "sim") then Sim (is_sample options) (trace_of options)
     else if bytes_eq name (codes "run") then Run (is_sample options)
-    else if bytes_eq name (codes "replay") then Replay (is_sample options) (reading_of options) (told_of options) (is_used (codes "progress") options)
+    else if bytes_eq name (codes "replay") then replay_job options (is_sample options)
     else if bytes_eq name (codes "check") then check_job options (is_sample options)
     else if bytes_eq name (codes "draw") then Draw (is_sample options) (picture_of options)
     else if bytes_eq name (codes "map") then Map (is_sample options)
     else Lint (is_sample options)
 
--- of `replay`: both other forms; ports in turn, where lines name their ports; two things to be told
+-- a clock that takes no time
+abbrev pub is_no_clock : Option ℕ → Bool
+is_no_clock (Some clock) = clock == 0
+is_no_clock None = false
+
+-- of the numbers of a replay: something else to be told too; a part of them, where none are told; a clock of no time
+abbrev pub numbers_misuse : List Row → Option Misuse
+numbers_misuse options =
+    if is_used (codes "numbers") options && (is_used (codes "requests") options || is_some (trace_of options)) then Some NumbersBesideOthers
+    else if not (is_used (codes "numbers") options) && (is_some (number_in (codes "skip") options) || is_some (number_in (codes "tck") options)) then Some PartOfNumbers
+    else if is_no_clock (number_in (codes "tck") options) then Some ClockOfNoTime
+    else None
+
+-- of `replay`: both other forms; ports in turn, where lines name their ports; a first cycle, where lines have none; two things to be told
 abbrev pub replay_misuse : List Row → Option Misuse
 replay_misuse options =
     if names_two_forms options then Some TwoForms
     else if is_used (codes "spread") options && not (names_form options) then Some SpreadOfOwnForm
+    else if is_used (codes "from-first") options && is_used (codes "ramulator2") options then Some FirstOfNoCycles
     else if is_used (codes "requests") options && is_some (trace_of options) then Some RequestsBesideTrace
-    else None
+    else numbers_misuse options
 
 -- whether more is asked for than the first fault
 abbrev pub tells_faults : List Row → Bool

@@ -21,7 +21,20 @@ pub enum Job {
     Replay {
         sample: bool,
         reading: Reading,
+        /// Whether the first cycle of the stream is taken as cycle 0.
+        from_first: bool,
         told: Told,
+        /// Whether a line on standard error tells how far it is, about each second.
+        progress: bool,
+    },
+    /// Replays a request stream, which is read so, and tells numbers of the requests behind the first `skip` ones. `clock` is how many
+    /// picoseconds a clock has, where that is known.
+    Measure {
+        sample: bool,
+        reading: Reading,
+        from_first: bool,
+        skip: u32,
+        clock: Option<u32>,
         /// Whether a line on standard error tells how far it is, about each second.
         progress: bool,
     },

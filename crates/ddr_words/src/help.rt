@@ -52,12 +52,18 @@ Input: a configuration, a line `---` and a stream of requests; with --sample the
   With --dramsim3 a request is a line `ADDR READ AT` or `ADDR WRITE AT`, with --ramulator2
   a line `LD ADDR` or `ST ADDR`, or `R ADDR` or `W ADDR`; there ADDR is hexadecimal behind
   0x, and AT a cycle. Such requests are for port 0, or with --spread for each port in turn.
-  With --wrap an address is taken modulo the capacity.
+  With --wrap an address is taken modulo the capacity, with --from-first the least AT of
+  the stream as cycle 0.
   Each port submits its requests in order, and waits where one is not taken.
 Output: statistics as TOML, once all requests are served: tables of all channels and of
   each, of each port, and of how long requests took, from all ports and from each.
   With --requests a line of comma-separated values for each request in their place, in the
   order in which replies are released; with --trace the commands of that channel.
+  With --numbers what an architect compares, as TOML: the part of the data bus that was
+  used, and for reads, writes, row hits, misses and conflicts how long they took between
+  any two steps, with a histogram of eight classes an octave and what 50, 90, 99 and 99.9
+  in a hundred don't pass. --skip N leaves out the first N requests that are served;
+  --tck P, the picoseconds of a clock, tells nanoseconds and bytes a second too.
   With --progress a line on standard error says about each second how far it is; the
   output stays the same.
 Status: 0; 2 for a bad input or command line; 3 where the device, the memory or the

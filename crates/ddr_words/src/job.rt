@@ -4,15 +4,15 @@
 ghost use Rattle.std.specs.Prelude.{◌≡◌, ◌≤◌, IfOk, IsTrue, None, Ok, codes, false, length, map, true};
 ghost use Rattle.clap.specs.Words.{app_of, found_of, rows_of, rule_of, with_rule, with_subcommand};
 ghost use Rattle.clap.specs.declared.Command.TheViews.{out-Command as settings_of};
-ghost use Rattle.ddr_words.specs.Job.{Answers, AreTaken, Reads, check_app, check_job, cycle_rule, ddr_app, draw_app, faults_job, flag_rule, format_of, is_subcommand, job_of, job_with, name_alone, number_rule, picture_of, reading_of, replay_app, said_by, told_of, trace_rule, with_capture, with_faults, with_reading, with_sample, with_telling};
+ghost use Rattle.ddr_words.specs.Job.{Answers, AreTaken, Reads, check_app, check_job, cycle_rule, ddr_app, draw_app, faults_job, flag_rule, format_of, is_subcommand, job_of, job_with, name_alone, number_rule, picture_of, reading_of, replay_app, replay_job, said_by, told_of, trace_rule, with_capture, with_faults, with_numbers, with_reading, with_sample, with_telling};
 
 use crate::command::{Job, Picture};
 use crate::help;
 use crate::misuse::{Misuse, misuse_of};
 use crate::options::{
-    channel_of, from_of, is_all, is_explained, is_of_dramsim3, is_of_ramulator2, is_of_requests,
-    is_progress, is_sample, is_spread, is_streamed, is_svg, is_wrapped, most_of, start_of, to_of,
-    trace_of,
+    channel_of, clock_of, from_of, is_all, is_explained, is_from_first, is_of_dramsim3,
+    is_of_numbers, is_of_ramulator2, is_of_requests, is_progress, is_sample, is_spread,
+    is_streamed, is_svg, is_wrapped, most_of, skip_of, start_of, to_of, trace_of,
 };
 use clap::{Arg, ArgAction, ArgMatches, Command, Error, value_parser};
 use ddr_text::command::{Format, Reading, Told};
@@ -31,8 +31,8 @@ pub enum JobError {
 ///
 /// The subcommands are `sim`, `run`, `replay`, `check`, `draw`, `map` and `lint`. Each has the flag `--sample`, `sim` the option `--trace C`
 /// with the number of a channel, a `u32`, and `check` the flags `--explain` and `--all` and the option `--most N` with a `u32`, which
-/// asks for all faults too. `replay` has the flags `--dramsim3`, `--ramulator2`, `--spread`, `--wrap`, `--requests` and `--progress`, and
-/// `--trace C`. `check` has the flags `--stream`, `--dramsim3` and `--ramulator2` and the options `--start CYCLE` with a `u64` and
+/// asks for all faults too. `replay` has the flags `--dramsim3`, `--ramulator2`, `--spread`, `--wrap`, `--from-first`, `--requests`, `--progress` and
+/// `--numbers`, and `--trace C`, `--skip N` and `--tck PICOSECONDS`, each with a `u32`. `check` has the flags `--stream`, `--dramsim3` and `--ramulator2` and the options `--start CYCLE` with a `u64` and
 /// `--channel C` with a `u32` too: each of them asks for captured commands. `draw` has the flag `--svg` and the options `--from CYCLE` and
 /// `--to CYCLE`. No words, or the name alone, are read as `sim --sample`.
 ///
@@ -92,12 +92,7 @@ fn job_with(name: &str, options: &ArgMatches<'_>) -> Job
             trace: trace_of(options),
         },
         "run" => Job::Run { sample },
-        "replay" => Job::Replay {
-            sample,
-            reading: reading_of(options),
-            told: told_of(options),
-            progress: is_progress(options),
-        },
+        "replay" => replay_job(options, sample),
         "check" => check_job(options, sample),
         "draw" => Job::Draw {
             sample,
@@ -106,6 +101,31 @@ fn job_with(name: &str, options: &ArgMatches<'_>) -> Job
         "map" => Job::Map { sample },
         "lint" => Job::Lint { sample },
         _ => unreachable!(),
+    }
+}
+
+/// The job of the subcommand `replay` with these options.
+fn replay_job(options: &ArgMatches<'_>, sample: bool) -> Job
+    requires { AreTaken (rows_of (found_of options.now)) }
+    ensures { result ≡ replay_job (rows_of (found_of options.now)) sample }
+{
+    if is_of_numbers(options) {
+        Job::Measure {
+            sample,
+            reading: reading_of(options),
+            from_first: is_from_first(options),
+            skip: skip_of(options).unwrap_or(0),
+            clock: clock_of(options),
+            progress: is_progress(options),
+        }
+    } else {
+        Job::Replay {
+            sample,
+            reading: reading_of(options),
+            from_first: is_from_first(options),
+            told: told_of(options),
+            progress: is_progress(options),
+        }
     }
 }
 
@@ -256,7 +276,8 @@ fn with_replay<'a>(alloc: Global, command: Command<'a>) -> Result<Command<'a>, A
     let about = "Replays a stream of requests, and tells its statistics";
     let replay = subcommand(alloc, "replay", about, help::REPLAY)?;
     let reading = with_reading(alloc, replay)?;
-    command.subcommand(with_telling(alloc, reading)?)
+    let telling = with_telling(alloc, reading)?;
+    command.subcommand(with_numbers(alloc, telling)?)
 }
 
 /// The command with the options that say how a stream is read.
@@ -272,7 +293,9 @@ fn with_reading<'a>(alloc: Global, command: Command<'a>) -> Result<Command<'a>, 
     let about = "Sends requests that name no port round the ports, and not all to port 0";
     let with_spread = with_ramulator2.arg(flag(alloc, "spread", about))?;
     let about = "Takes an address modulo the capacity";
-    with_spread.arg(flag(alloc, "wrap", about))
+    let with_wrap = with_spread.arg(flag(alloc, "wrap", about))?;
+    let about = "Takes the first cycle of the stream as cycle 0";
+    with_wrap.arg(flag(alloc, "from-first", about))
 }
 
 /// The command with the options that say what is told of a replay.
@@ -287,6 +310,21 @@ fn with_telling<'a>(alloc: Global, command: Command<'a>) -> Result<Command<'a>, 
     let tracing = listing.arg(number_option(alloc, "trace", "CHANNEL", about))?;
     let about = "Says on standard error how far it is, about each second";
     tracing.arg(flag(alloc, "progress", about))
+}
+
+/// The command with the options that say which numbers are told of a replay.
+fn with_numbers<'a>(alloc: Global, command: Command<'a>) -> Result<Command<'a>, AllocError>
+    requires local { (settings_of command).has_globals ≡ false }
+    ensures app { IfOk result (λ all. app_of all ≡ with_numbers (app_of command.entry)) }
+    ensures local { IfOk result (λ all. (settings_of all).has_globals ≡ false) }
+{
+    let about = "Tells numbers of the requests in place of the statistics: times and bandwidth";
+    let counting = command.arg(flag(alloc, "numbers", about))?;
+    let about = "Leaves out the first N requests that are served, with --numbers";
+    let skipping = counting.arg(number_option(alloc, "skip", "N", about))?;
+    let about =
+        "Tells times in nanoseconds too, where a clock takes so many picoseconds, with --numbers";
+    skipping.arg(number_option(alloc, "tck", "PICOSECONDS", about))
 }
 
 /// The command with the subcommand that checks a trace, which has options of its own.

@@ -3,11 +3,12 @@
 //! `options` stands below, and `job` and `ending` above.
 ghost use Rattle.std.specs.Prelude.{◌≡◌};
 ghost use Rattle.clap.specs.Words.{found_of, rows_of};
-ghost use Rattle.ddr_words.specs.Job.{AreTaken, check_misuse, draw_misuse, misuse_of, replay_misuse, tells_faults};
+ghost use Rattle.ddr_words.specs.Job.{AreTaken, check_misuse, draw_misuse, misuse_of, numbers_misuse, replay_misuse, tells_faults};
 
 use crate::options::{
-    channel_of, from_of, is_all, is_explained, is_of_requests, is_spread, is_streamed, is_svg,
-    most_of, names_form, names_two_forms, to_of, trace_of,
+    channel_of, clock_of, from_of, is_all, is_explained, is_from_first, is_of_numbers,
+    is_of_ramulator2, is_of_requests, is_spread, is_streamed, is_svg, most_of, names_form,
+    names_two_forms, skip_of, to_of, trace_of,
 };
 use clap::ArgMatches;
 use thiserror::Error;
@@ -21,9 +22,21 @@ pub enum Misuse {
     /// A line of this program's own form names its port.
     #[error("--spread needs --dramsim3 or --ramulator2: a line of this program's own form names its port")]
     SpreadOfOwnForm,
+    /// A request of Ramulator 2's form comes as soon as possible.
+    #[error("--from-first needs lines with cycles, and those of --ramulator2 have none")]
+    FirstOfNoCycles,
     /// A replay tells one of the two.
     #[error("--requests and --trace each say what is told, and one of them can be")]
     RequestsBesideTrace,
+    /// Numbers are told in the place of requests and of a trace.
+    #[error("--numbers says what is told, and so does --requests or --trace: one of them can be")]
+    NumbersBesideOthers,
+    /// Statistics, requests and traces are those of the whole run, in clocks.
+    #[error("--skip and --tck need --numbers: all else is told of the whole run, in clocks")]
+    PartOfNumbers,
+    /// A clock takes time.
+    #[error("--tck 0 is no clock: it is how many picoseconds one takes")]
+    ClockOfNoTime,
     /// Captured commands are judged as they come, and their first faults alone are told.
     #[error("--explain, --all and --most need a whole trace: captured commands are judged as they come")]
     FaultsOfCapture,
@@ -57,8 +70,28 @@ fn replay_misuse(options: &ArgMatches<'_>) -> Option<Misuse>
         Some(Misuse::TwoForms)
     } else if is_spread(options) && !names_form(options) {
         Some(Misuse::SpreadOfOwnForm)
+    } else if is_from_first(options) && is_of_ramulator2(options) {
+        Some(Misuse::FirstOfNoCycles)
     } else if is_of_requests(options) && trace_of(options).is_some() {
         Some(Misuse::RequestsBesideTrace)
+    } else {
+        numbers_misuse(options)
+    }
+}
+
+/// The first misuse of the options of `replay` that say which numbers are told.
+fn numbers_misuse(options: &ArgMatches<'_>) -> Option<Misuse>
+    requires { AreTaken (rows_of (found_of options.now)) }
+    ensures { result ≡ numbers_misuse (rows_of (found_of options.now)) }
+{
+    if is_of_numbers(options) && (is_of_requests(options) || trace_of(options).is_some()) {
+        Some(Misuse::NumbersBesideOthers)
+    } else if !is_of_numbers(options)
+        && (skip_of(options).is_some() || clock_of(options).is_some())
+    {
+        Some(Misuse::PartOfNumbers)
+    } else if clock_of(options) == Some(0) {
+        Some(Misuse::ClockOfNoTime)
     } else {
         None
     }

@@ -123,12 +123,44 @@ pub(crate) fn is_wrapped(options: &ArgMatches<'_>) -> bool
     options.get_flag("wrap")
 }
 
+/// Whether the flag `--from-first` was used.
+pub(crate) fn is_from_first(options: &ArgMatches<'_>) -> bool
+    requires { AreTaken (rows_of (found_of options.now)) }
+    ensures { result ≡ is_used (codes "from-first") (rows_of (found_of options.now)) }
+{
+    options.get_flag("from-first")
+}
+
 /// Whether the flag `--requests` was used.
 pub(crate) fn is_of_requests(options: &ArgMatches<'_>) -> bool
     requires { AreTaken (rows_of (found_of options.now)) }
     ensures { result ≡ is_used (codes "requests") (rows_of (found_of options.now)) }
 {
     options.get_flag("requests")
+}
+
+/// Whether the flag `--numbers` was used.
+pub(crate) fn is_of_numbers(options: &ArgMatches<'_>) -> bool
+    requires { AreTaken (rows_of (found_of options.now)) }
+    ensures { result ≡ is_used (codes "numbers") (rows_of (found_of options.now)) }
+{
+    options.get_flag("numbers")
+}
+
+/// The number of the option `--skip`, if that was used.
+pub(crate) fn skip_of(options: &ArgMatches<'_>) -> Option<u32>
+    requires { AreTaken (rows_of (found_of options.now)) }
+    ensures { result ≡ number_in (codes "skip") (rows_of (found_of options.now)) }
+{
+    options.get_one::<u32>("skip")
+}
+
+/// The picoseconds of the option `--tck`, if that was used.
+pub(crate) fn clock_of(options: &ArgMatches<'_>) -> Option<u32>
+    requires { AreTaken (rows_of (found_of options.now)) }
+    ensures { result ≡ number_in (codes "tck") (rows_of (found_of options.now)) }
+{
+    options.get_one::<u32>("tck")
 }
 
 /// Whether the flag `--all` was used.

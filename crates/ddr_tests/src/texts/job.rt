@@ -127,6 +127,10 @@ const ERRORS: &[(&str, ErrorKind)] = &[
     ("ddr replay --stream", ErrorKind::UnknownArgument),
     ("ddr draw --start 1", ErrorKind::UnknownArgument),
     ("ddr replay --channel 1", ErrorKind::UnknownArgument),
+    ("ddr check --numbers", ErrorKind::UnknownArgument),
+    ("ddr sim --from-first", ErrorKind::UnknownArgument),
+    ("ddr sim --skip 1", ErrorKind::UnknownArgument),
+    ("ddr draw --tck 1", ErrorKind::UnknownArgument),
     ("ddr trace", ErrorKind::InvalidSubcommand),
     ("ddr SIM", ErrorKind::InvalidSubcommand),
     ("ddr ", ErrorKind::InvalidSubcommand),
@@ -136,6 +140,12 @@ const ERRORS: &[(&str, ErrorKind)] = &[
     ("ddr sim --trace=4294967296", ErrorKind::ValueValidation),
     ("ddr sim --trace", ErrorKind::InvalidValue),
     ("ddr replay --trace x", ErrorKind::ValueValidation),
+    ("ddr replay --numbers --skip=-1", ErrorKind::ValueValidation),
+    (
+        "ddr replay --numbers --tck 4294967296",
+        ErrorKind::ValueValidation,
+    ),
+    ("ddr replay --numbers --skip", ErrorKind::InvalidValue),
     ("ddr check --most x", ErrorKind::ValueValidation),
     ("ddr check --all --most", ErrorKind::InvalidValue),
     ("ddr check --start x", ErrorKind::ValueValidation),
@@ -211,19 +221,71 @@ fn replays(rt: HostRuntime) -> Result<(), Fail> {
         let wanted = Job::Replay {
             sample: true,
             reading: *reading,
+            from_first: false,
             told: *told,
             progress: false,
         };
         let line = format!(in alloc; "ddr replay {words}")?;
         states(&rt, alloc, line.as_str(), wanted)?;
     }
+    let shifted = Job::Replay {
+        sample: false,
+        reading: OWN,
+        from_first: true,
+        told: Told::Requests,
+        progress: false,
+    };
+    states(&rt, alloc, "ddr replay --requests --from-first", shifted)?;
     let plain = Job::Replay {
         sample: false,
         reading: OWN,
+        from_first: false,
         told: Told::Statistics,
         progress: false,
     };
     states(&rt, alloc, "ddr replay", plain)
+}
+
+/// Words behind `ddr replay --sample --numbers`, how many requests are left out, and how long a clock takes.
+const NUMBERS: &[(&str, u32, Option<u32>)] = &[
+    ("", 0, None),
+    (" --skip 0", 0, None),
+    (" --skip=4294967295", 4_294_967_295, None),
+    (" --tck 833", 0, Some(833)),
+    (" --tck=1 --skip 12", 12, Some(1)),
+];
+
+#[test]
+fn numbers(rt: HostRuntime) -> Result<(), Fail> {
+    let alloc = rt.alloc();
+    for (words, skip, clock) in NUMBERS {
+        let (skip, clock) = (*skip, *clock);
+        let wanted = Job::Measure {
+            sample: true,
+            reading: OWN,
+            from_first: false,
+            skip,
+            clock,
+            progress: false,
+        };
+        let line = format!(in alloc; "ddr replay --sample --numbers{words}")?;
+        states(&rt, alloc, line.as_str(), wanted)?;
+    }
+    let watched = Job::Measure {
+        sample: false,
+        reading: Reading {
+            format: Format::Dramsim3,
+            spread: true,
+            wrap: true,
+        },
+        from_first: true,
+        skip: 3,
+        clock: Some(625),
+        progress: true,
+    };
+    let line =
+        "ddr replay --tck 625 --dramsim3 --spread --progress --from-first --wrap --skip 3 --numbers";
+    states(&rt, alloc, line, watched)
 }
 
 #[test]
@@ -231,6 +293,7 @@ fn progress(rt: HostRuntime) -> Result<(), Fail> {
     let told = Job::Replay {
         sample: false,
         reading: OWN,
+        from_first: false,
         told: Told::Requests,
         progress: true,
     };
@@ -375,6 +438,29 @@ const MISUSES: &[(&str, Misuse)] = &[
         "ddr replay --requests --trace 1 --ramulator2",
         Misuse::RequestsBesideTrace,
     ),
+    (
+        "ddr replay --from-first --ramulator2",
+        Misuse::FirstOfNoCycles,
+    ),
+    (
+        "ddr replay --ramulator2 --requests --trace 0 --from-first",
+        Misuse::FirstOfNoCycles,
+    ),
+    (
+        "ddr replay --numbers --requests",
+        Misuse::NumbersBesideOthers,
+    ),
+    (
+        "ddr replay --trace 0 --tck 0 --numbers",
+        Misuse::NumbersBesideOthers,
+    ),
+    (
+        "ddr replay --numbers --requests --trace 0",
+        Misuse::RequestsBesideTrace,
+    ),
+    ("ddr replay --skip 1", Misuse::PartOfNumbers),
+    ("ddr replay --requests --tck 0", Misuse::PartOfNumbers),
+    ("ddr replay --numbers --tck 0", Misuse::ClockOfNoTime),
     ("ddr check --dramsim3 --ramulator2 --all", Misuse::TwoForms),
     ("ddr check --stream --explain", Misuse::FaultsOfCapture),
     ("ddr check --all --ramulator2", Misuse::FaultsOfCapture),

@@ -16,10 +16,10 @@ use Rattle.ddr_replay.proofs.replay.report_of.Goals as goal
 pub returns-in_err-queues : goal.returns-in_err-queues
 returns-in_err-queues g c =
     let p = err_from_is_err_and c.from_residual.result c.from_residual.ensures.1 in
-    rw (p.1, p.2) (stream_said {X = Vec (List Ask) Global} {Y = Vec ℕ Global} (λ v. v.items) (λ v. v.items) c.args.config.now c.args.reading c.args.told c.args.body.now c.in_err-queues.field-0.0 (search rules) c.in_err-queues.ensures.said)
+    rw (p.1, p.2) (stream_said {X = Vec (List Ask) Global} {Y = Vec ℕ Global} (λ v. v.items) (λ v. v.items) c.args.config.now c.args.taking c.args.told c.args.body.now c.in_err-queues.field-0.0 (search rules) c.in_err-queues.ensures.said)
 
 pub returns-then-names_no_channel : goal.returns-then-names_no_channel
-returns-then-names_no_channel g c = no_channel c.args.config.now c.args.reading c.args.told c.args.body.now (sym c.names_no_channel.ensures ∙ c.if-names_no_channel.true)
+returns-then-names_no_channel g c = no_channel c.args.config.now c.args.taking c.args.told c.args.body.now (sym c.names_no_channel.ensures ∙ c.if-names_no_channel.true)
 
 pub returns-in_err-run : goal.returns-in_err-run
 returns-in_err-run g c =
@@ -30,7 +30,7 @@ returns-in_err-run g c =
     let some = sym c.names_no_channel.ensures ∙ c.if-names_no_channel.false in
     let begun_is = c.in_ok-replaying.ensures.begun ∙ ap (λ k. begun config k queues) c.keeps_served.ensures in
     let p = err_from_is_err_and c.from_residual-in_err-run.result c.from_residual-in_err-run.ensures.1 in
-    rw (p.1, p.2) (run_said {Y = Vec ℕ Global} (λ v. v.items) config c.args.reading told c.args.body.now queues fault some c.in_ok-queues.ensures.said
+    rw (p.1, p.2) (run_said {Y = Vec ℕ Global} (λ v. v.items) config c.args.taking told c.args.body.now queues fault some c.in_ok-queues.ensures.said
     (at_begun (λ (k : Config) (r : Result Run Fault). IsRunFault k fault r) config (keeps_served told) queues c.in_ok-replaying.replaying begun_is c.in_ok-replaying.ensures.config c.in_err-run.ensures.fault))
 
 pub returns : goal.returns
@@ -43,6 +43,6 @@ returns g c =
     let begun_is = c.in_ok-replaying.ensures.begun ∙ ap (λ k. begun config k queues) c.keeps_served.ensures in
     let came = at_begun (λ (k : Config) (r : Result Run Fault). r ≡ Ok last) config (keeps_served told) queues c.in_ok-replaying.replaying begun_is c.in_ok-replaying.ensures.config c.in_ok-run.ensures.ok in
     let requests = c.as_slice-2.ensures.value ∙ c.in_ok-requests.ensures ∙ ap (λ (qs : Queues). map requests_in qs) c.as_slice.ensures.value in
-    let said = told_said config c.args.reading told c.args.body.now queues last some c.in_ok-queues.ensures.said came in
-    reported_of {X = Vec ℕ Global} (λ v. v.items) config c.args.reading told c.args.body.now c.told_of.result
+    let said = told_said config c.args.taking told c.args.body.now queues last some c.in_ok-queues.ensures.said came in
+    reported_of {X = Vec ℕ Global} (λ v. v.items) config c.args.taking told c.args.body.now c.told_of.result
     (subst (IsSaid {X = Vec ℕ Global} (λ v. v.items) c.told_of.result) (ap (λ (rs : List Requests). told_of config told rs last) requests ∙ sym said) c.told_of.ensures)

@@ -1,0 +1,15 @@
+//! The numbers of some requests that a memory served: how long they took, from step to step, and how much of the data bus they used.
+//!
+//! Each number is a function of the requests' times that stands in `specs/`, and the text that is written is proved to be theirs. Below
+//! stand `ddr_address_map`, which has the kinds of requests, and `ddr_statistics`, which says how a read or a write finds its bank; above,
+//! `ddr_replay`. `timed` is a request with its cycles, `span` the clocks between two of its steps, `group` which requests are looked at
+//! together, `distribution` how some numbers of clocks are spread, `usage` what the data bus was used for, and `text` writes all of it.
+#![tactic(auto)]
+
+pub mod distribution;
+pub mod group;
+pub mod span;
+pub mod sums;
+pub mod text;
+pub mod timed;
+pub mod usage;
