@@ -107,6 +107,27 @@ typedef struct ddr_command {
     uint32_t column;
 } ddr_command;
 
+/* The shape of a core's memory and of its ports: `capacity` and `line` are bytes, `burst` clocks of the data bus for a line, and the
+ * others counts: ranks of a channel, bank groups of a rank, banks of a group, rows of a bank, device columns of a row, and requests of a
+ * port that may be outstanding. */
+typedef struct ddr_memory_shape {
+    uint64_t capacity;
+    uint32_t channels;
+    uint32_t ranks;
+    uint32_t groups;
+    uint32_t banks;
+    uint32_t rows;
+    uint32_t columns;
+    uint32_t line;
+    uint32_t burst;
+    uint32_t ports;
+    uint32_t window;
+} ddr_memory_shape;
+
+/* The library, and the kit that it was proved with. */
+#define DDR_VERSION "1.0"
+#define DDR_KIT "rattle-kit-13f logic dac8208d650f15bf"
+
 /* The library's own names, whose pointers must not be null. The calls below test that first. */
 int32_t ddr_c_open(ddr_core *core, const uint8_t *text, size_t length, uint8_t *message, size_t room, uint64_t *whole);
 int32_t ddr_c_read(ddr_core *core, uint32_t port, uint64_t addr, uint32_t length, uint64_t *number);
@@ -118,6 +139,7 @@ int32_t ddr_c_next(ddr_core *core, uint32_t port, ddr_reply *reply, uint8_t *buf
 int32_t ddr_c_counts(ddr_core *core, uint32_t port, uint64_t *accepted, uint64_t *taken);
 int32_t ddr_c_cycle(ddr_core *core, uint32_t channel, uint64_t *cycle);
 int32_t ddr_c_trace(ddr_core *core, uint32_t channel, uint64_t first, ddr_command *commands, size_t room, uint64_t *count);
+int32_t ddr_c_shape(ddr_core *core, ddr_memory_shape *shape);
 int32_t ddr_c_close(ddr_core *core);
 
 /* Opens a core from a configuration's text, of the `length` bytes at `text` (docs/FORMATS.md has its keys). Its clocks and
@@ -194,6 +216,20 @@ static inline int32_t ddr_trace(ddr_core *core, uint32_t channel, uint64_t first
     ddr_command none = {0, 0, 0, 0, 0, 0, 0};
     if (core == NULL || count == NULL || (commands == NULL && room != 0)) return DDR_NULL;
     return ddr_c_trace(core, channel, first, commands == NULL ? &none : commands, room, count);
+}
+
+/* Writes the shape of the memory and of its ports, as the configuration has it. */
+static inline int32_t ddr_shape(ddr_core *core, ddr_memory_shape *shape) {
+    if (core == NULL || shape == NULL) return DDR_NULL;
+    return ddr_c_shape(core, shape);
+}
+
+/* The name of a code, as enum ddr_code has it behind DDR_; "" where there is no such code. */
+static inline const char *ddr_code_name(int32_t code) {
+    static const char *const names[] = {"OK", "NULL", "CLOSED", "ALREADY_OPEN", "CONFIG", "NO_MEMORY", "NO_SUCH", "NOTHING", "TOO_SHORT", "FINISHED",
+                                        "OUT_OF_RANGE", "EMPTY_LENGTH", "CROSSES_LINE", "SPENT", "WINDOW_FULL", "BUSY", "QUEUE_FULL", "CLOCK_SPENT",
+                                        "NOT_EMPTY", "ILLEGAL", "NOT_JUDGED"};
+    return code >= 0 && (size_t)code < sizeof names / sizeof *names ? names[code] : "";
 }
 
 /* Closes a core, whatever is outstanding, and gives its memory back. It may be opened again. */

@@ -80,20 +80,18 @@ public:
         check(ddr_cycle(&core, channel, &cycle), "ddr_cycle");
         return cycle;
     }
+    // The shape of the memory and of its ports.
+    ddr_memory_shape shape() {
+        ddr_memory_shape shape{};
+        check(ddr_shape(&core, &shape), "ddr_shape");
+        return shape;
+    }
     // How many channels there are.
-    std::uint32_t channels() {
-        std::uint32_t count = 0;
-        std::uint64_t cycle = 0;
-        while (ddr_cycle(&core, count, &cycle) == DDR_OK) count++;
-        return count;
-    }
+    std::uint32_t channels() { return shape().channels; }
     // How many ports there are.
-    std::uint32_t ports() {
-        std::uint32_t count = 0;
-        std::uint64_t accepted = 0, taken = 0;
-        while (ddr_counts(&core, count, &accepted, &taken) == DDR_OK) count++;
-        return count;
-    }
+    std::uint32_t ports() { return shape().ports; }
+    // How many bytes the memory has.
+    std::uint64_t capacity() { return shape().capacity; }
     std::size_t trace(std::uint32_t channel, std::uint64_t first, ddr_command *commands, std::size_t room) {
         std::uint64_t count = 0;
         check(ddr_trace(&core, channel, first, commands, room, &count), "ddr_trace");
@@ -101,7 +99,7 @@ public:
     }
 
     static void check(std::int32_t code, const char *call) {
-        if (code != DDR_OK) throw Error(code, std::string(call) + ": " + std::to_string(code));
+        if (code != DDR_OK) throw Error(code, std::string(call) + ": " + ddr_code_name(code));
     }
 
 private:

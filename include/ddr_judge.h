@@ -17,6 +17,9 @@
 
 #include "ddr.h"
 
+#include <inttypes.h>
+#include <stdio.h>
+
 #ifdef __cplusplus
 extern "C" {
 #endif
@@ -124,6 +127,42 @@ static inline const char *ddr_rule_name(uint32_t rule) {
     static const char *const names[] = {"",      "ORDER", "PLACE", "STATE", "ROW",   "RCD", "RAS", "RC",  "RP",     "RRD_L", "RRD_S",    "FAW",
                                         "CCD_L", "CCD_S", "WTR_L", "WTR_S", "RTP",   "WR",  "RTW", "RP_REF", "RFC", "REF_LATE", "REF_GAP", "RTRS"};
     return rule < sizeof names / sizeof *names ? names[rule] : "";
+}
+
+/* The name of a kind of command; "no command" where there is no such kind. */
+static inline const char *ddr_command_name(uint32_t kind) {
+    static const char *const names[] = {"ACT",  "RD",   "WR",  "RDA", "WRA", "PRE", "PREA", "REF", "MRS",
+                                        "ZQCS", "ZQCL", "NOP", "DES", "PDE", "PDX", "SRE",  "SRX", "RFU"};
+    return kind < sizeof names / sizeof *names ? names[kind] : "no command";
+}
+
+/* What stands in ddr_fault_text behind the rule's name. */
+static inline int ddr_fault_basis(const ddr_fault *fault, char *text, size_t room) {
+    const char *earlier = ddr_command_name(fault->earlier.kind);
+    const uint64_t cycle = fault->earlier.cycle, found = fault->found, wanted = fault->wanted;
+    switch (fault->basis) {
+        case DDR_TOO_CLOSE:
+            return snprintf(text, room, ": it is %" PRIu64 " clocks behind %s at cycle %" PRIu64 ", and is to be at least %" PRIu64, found, earlier, cycle, wanted);
+        case DDR_TOO_CLOSE_TO_START:
+            return snprintf(text, room, ": it is %" PRIu64 " clocks behind the auto-precharge of %s at cycle %" PRIu64 ", and is to be at least %" PRIu64, found, earlier, cycle, wanted);
+        case DDR_BANK_STATE:
+            if (fault->earlier.kind == DDR_NONE) return snprintf(text, room, ": nothing opened its bank");
+            return snprintf(text, room, ": %s at cycle %" PRIu64 " changed the bank last", earlier, cycle);
+        case DDR_NOT_ABOVE: return snprintf(text, room, ": it is not behind %s at cycle %" PRIu64, earlier, cycle);
+        case DDR_BEFORE_START: return snprintf(text, room, ": it is before the first cycle");
+        case DDR_OUTSIDE: return snprintf(text, room, ": there is %" PRIu64 " where less than %" PRIu64 " is wanted", found, wanted);
+        case DDR_TOO_FAR: return snprintf(text, room, ": it is %" PRIu64 " clocks behind the REF at cycle %" PRIu64 ", and is to be at most %" PRIu64, found, cycle, wanted);
+        case DDR_LATE: return snprintf(text, room, ": behind %" PRIu64 " REFs the next one was due by cycle %" PRIu64, found, wanted);
+        default: return snprintf(text, room, ": what it rests on may be a command that is no longer kept");
+    }
+}
+
+/* Writes a sentence on a fault of a command, with a zero behind it, to the `room` bytes at `text`, as far as it fits, and answers its whole
+ * length, as snprintf does; 160 bytes hold every one. */
+static inline int ddr_fault_text(const ddr_command *command, const ddr_fault *fault, char *text, size_t room) {
+    const int head = snprintf(text, room, "%s at cycle %" PRIu64 " breaks %s", ddr_command_name(command->kind), command->cycle, ddr_rule_name(fault->rule));
+    const size_t written = (size_t)head < room ? (size_t)head : room;
+    return head + ddr_fault_basis(fault, room == 0 ? text : text + written, room - written);
 }
 
 #ifdef __cplusplus

@@ -82,7 +82,7 @@ public:
 
     // A configuration that is refused, and a port that it doesn't have, throw `Error`; a period of 0 throws `std::invalid_argument`.
     Target(sc_core::sc_module_name name, std::string_view config, const sc_core::sc_time &period, std::uint32_t port = 0)
-        : sc_module(name), socket("socket"), core(config), period(period), port(port) {
+        : sc_module(name), socket("socket"), core(config), capacity(core.capacity()), period(period), port(port) {
         if (period == sc_core::SC_ZERO_TIME) throw std::invalid_argument("ddr::Target: the period is 0");
         if (port >= core.ports()) throw Error(DDR_NO_SUCH, "ddr::Target: the configuration has no port " + std::to_string(port));
         socket.bind(*this);
@@ -158,11 +158,8 @@ private:
         std::optional<Line> over; // the line where debug writes are laid over what is read
     };
 
-    // What the core refuses where no byte is asked for tells whether an address lies below its capacity: that is looked at first.
-    bool has(std::uint64_t address, std::uint64_t offset) {
-        std::uint64_t number = 0;
-        return address + offset >= address && core.read(port, address + offset, 0, number) == DDR_EMPTY_LENGTH;
-    }
+    // Whether the byte behind so many from an address on lies in the memory.
+    bool has(std::uint64_t address, std::uint64_t offset) const { return address + offset >= address && address + offset < capacity; }
 
     static bool enables_are_right(const Payload &payload) {
         const unsigned char *const enable = payload.get_byte_enable_ptr();
@@ -382,6 +379,7 @@ private:
     }
 
     Core core;
+    std::uint64_t capacity; // of the memory, in bytes
     sc_core::sc_time period;
     std::uint32_t port;
     sc_core::sc_event wake;

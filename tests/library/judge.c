@@ -88,7 +88,23 @@ static void unread(void) {
     wants("not opened", ddr_judge_close(&judge), DDR_CLOSED);
 }
 
-static void faulty(ddr_judge *judge, ddr_command command, uint32_t rule, uint32_t basis, uint64_t earlier, uint64_t found, uint64_t wanted) {
+static void says(const char *got, const char *wanted) {
+    if (strcmp(got, wanted) == 0) return;
+    printf("%s, wanted %s\n", got, wanted);
+    failed++;
+}
+
+/* The sentence on a fault, whole and as far as it fits. */
+static void told(const ddr_command *command, const ddr_fault *fault, const char *said) {
+    char sentence[160], piece[3] = "..";
+    wants("the sentence's length", ddr_fault_text(command, fault, sentence, sizeof sentence), (int64_t)strlen(said));
+    says(sentence, said);
+    wants("its length, where it doesn't fit", ddr_fault_text(command, fault, piece, sizeof piece), (int64_t)strlen(said));
+    wants("as far as it fits", piece[0] == said[0] && piece[1] == said[1] && piece[2] == 0, 1);
+    wants("its length, with no room", ddr_fault_text(command, fault, NULL, 0), (int64_t)strlen(said));
+}
+
+static void faulty(ddr_judge *judge, ddr_command command, uint32_t rule, uint32_t basis, uint64_t earlier, uint64_t found, uint64_t wanted, const char *said) {
     ddr_fault fault = {0};
     wants("broken", ddr_judge_command(judge, &command, &fault), DDR_ILLEGAL);
     wants("its cycle", (int64_t)fault.cycle, (int64_t)command.cycle);
@@ -98,6 +114,7 @@ static void faulty(ddr_judge *judge, ddr_command command, uint32_t rule, uint32_
     else wants("the earlier cycle", (int64_t)fault.earlier.cycle, (int64_t)earlier);
     wants("found", (int64_t)fault.found, (int64_t)found);
     wants("wanted", (int64_t)fault.wanted, (int64_t)wanted);
+    told(&command, &fault, said);
 }
 
 static void legal(ddr_judge *judge, ddr_command command) {
@@ -109,16 +126,23 @@ static void legal(ddr_judge *judge, ddr_command command) {
 /* Profile S: RCD 4, CWL 3 and WTR_L 4, so that a read stands 3 + 4 + 4 clocks behind a write of its group; REFI 200; 4 groups. */
 static void faults(ddr_judge *judge) {
     legal(judge, of(100, DDR_ACT, 0, 0, 0, 0));
-    faulty(judge, of(103, DDR_WR, 0, 0, 0, 8), DDR_RULE_RCD, DDR_TOO_CLOSE, 100, 3, 4);
+    faulty(judge, of(103, DDR_WR, 0, 0, 0, 8), DDR_RULE_RCD, DDR_TOO_CLOSE, 100, 3, 4,
+           "WR at cycle 103 breaks RCD: it is 3 clocks behind ACT at cycle 100, and is to be at least 4");
     /* The write counts, though it is a fault. */
-    faulty(judge, of(113, DDR_RD, 0, 0, 0, 8), DDR_RULE_WTR_L, DDR_TOO_CLOSE, 103, 10, 11);
-    faulty(judge, of(130, DDR_RD, 0, 0, 1, 8), DDR_RULE_ROW, DDR_BANK_STATE, 100, 0, 0);
-    faulty(judge, of(140, DDR_ACT, 0, 0, 1, 0), DDR_RULE_STATE, DDR_BANK_STATE, 100, 0, 0);
+    faulty(judge, of(113, DDR_RD, 0, 0, 0, 8), DDR_RULE_WTR_L, DDR_TOO_CLOSE, 103, 10, 11,
+           "RD at cycle 113 breaks WTR_L: it is 10 clocks behind WR at cycle 103, and is to be at least 11");
+    faulty(judge, of(130, DDR_RD, 0, 0, 1, 8), DDR_RULE_ROW, DDR_BANK_STATE, 100, 0, 0,
+           "RD at cycle 130 breaks ROW: ACT at cycle 100 changed the bank last");
+    faulty(judge, of(140, DDR_ACT, 0, 0, 1, 0), DDR_RULE_STATE, DDR_BANK_STATE, 100, 0, 0,
+           "ACT at cycle 140 breaks STATE: ACT at cycle 100 changed the bank last");
     /* No such group, and a cycle that is not above the last one: both are left out. */
-    faulty(judge, of(150, DDR_ACT, 4, 0, 1, 0), DDR_RULE_PLACE, DDR_OUTSIDE, UINT64_MAX, 4, 4);
-    faulty(judge, of(140, DDR_ACT, 1, 0, 1, 0), DDR_RULE_ORDER, DDR_NOT_ABOVE, 140, 0, 0);
+    faulty(judge, of(150, DDR_ACT, 4, 0, 1, 0), DDR_RULE_PLACE, DDR_OUTSIDE, UINT64_MAX, 4, 4,
+           "ACT at cycle 150 breaks PLACE: there is 4 where less than 4 is wanted");
+    faulty(judge, of(140, DDR_ACT, 1, 0, 1, 0), DDR_RULE_ORDER, DDR_NOT_ABOVE, 140, 0, 0,
+           "ACT at cycle 140 breaks ORDER: it is not behind ACT at cycle 140");
     legal(judge, of(145, DDR_ACT, 1, 1, 1, 0));
-    faulty(judge, of(150, DDR_RD, 2, 0, 0, 0), DDR_RULE_STATE, DDR_BANK_STATE, UINT64_MAX, 0, 0);
+    faulty(judge, of(150, DDR_RD, 2, 0, 0, 0), DDR_RULE_STATE, DDR_BANK_STATE, UINT64_MAX, 0, 0,
+           "RD at cycle 150 breaks STATE: nothing opened its bank");
     /* With no REF from 90 on, the first one is due by 90 + 9 * 200. */
     wants("ends in time", ddr_judge_end(judge, 1890), DDR_OK);
     wants("ends late", ddr_judge_end(judge, 1891), DDR_ILLEGAL);
@@ -132,7 +156,8 @@ static int wrong(void) {
     unread();
     wants("open", ddr_judge_open(&judge, text, length, 90, NULL, 0, &n), DDR_OK);
     refused(&judge);
-    faulty(&judge, of(80, DDR_ACT, 3, 3, 0, 0), DDR_RULE_ORDER, DDR_BEFORE_START, UINT64_MAX, 0, 0);
+    faulty(&judge, of(80, DDR_ACT, 3, 3, 0, 0), DDR_RULE_ORDER, DDR_BEFORE_START, UINT64_MAX, 0, 0,
+           "ACT at cycle 80 breaks ORDER: it is before the first cycle");
     faults(&judge);
     wants("close", ddr_judge_close(&judge), DDR_OK);
     closed(&judge);

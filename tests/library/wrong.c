@@ -18,6 +18,7 @@ static void wants(const char *what, int64_t got, int64_t wanted) {
 /* What a null pointer answers. */
 static void nulls(void) {
     ddr_core core = DDR_CORE_INIT;
+    ddr_memory_shape shape = {.ports = 7};
     ddr_reply reply;
     uint8_t bytes[64] = {0};
     uint64_t n = 7;
@@ -43,14 +44,18 @@ static void nulls(void) {
     wants("cycle, no core", ddr_cycle(NULL, 0, &n), DDR_NULL);
     wants("trace, no core", ddr_trace(NULL, 0, 0, NULL, 0, &n), DDR_NULL);
     wants("trace, no places", ddr_trace(&core, 0, 0, NULL, 1, &n), DDR_NULL);
+    wants("shape, no core", ddr_shape(NULL, &shape), DDR_NULL);
+    wants("shape, no place", ddr_shape(&core, NULL), DDR_NULL);
     wants("close, no core", ddr_close(NULL), DDR_NULL);
     wants("untouched", (int64_t)n, 7);
+    wants("shape untouched", shape.ports, 7);
 }
 
 /* What a closed core answers. */
 static void closed(ddr_core *core) {
     ddr_reply reply;
     ddr_command commands[2];
+    ddr_memory_shape shape = {.capacity = 7};
     uint8_t bytes[64] = {0};
     uint64_t n = 7;
     wants("closed read", ddr_submit_read(core, 0, 0, 1, &n), DDR_CLOSED);
@@ -62,8 +67,10 @@ static void closed(ddr_core *core) {
     wants("closed counts", ddr_counts(core, 0, &n, &n), DDR_CLOSED);
     wants("closed cycle", ddr_cycle(core, 0, &n), DDR_CLOSED);
     wants("closed trace", ddr_trace(core, 0, 0, commands, 2, &n), DDR_CLOSED);
+    wants("closed shape", ddr_shape(core, &shape), DDR_CLOSED);
     wants("closed close", ddr_close(core), DDR_CLOSED);
     wants("untouched", (int64_t)n, 7);
+    wants("shape untouched", (int64_t)shape.capacity, 7);
 }
 
 /* What a configuration that is refused answers, with its text as far as it fits. */
@@ -98,6 +105,32 @@ static void ranges(ddr_core *core) {
     wants("cycle's channel", ddr_cycle(core, 99, &n), DDR_NO_SUCH);
     wants("trace's channel", ddr_trace(core, 99, 0, NULL, 0, &n), DDR_NO_SUCH);
     wants("untouched", (int64_t)n, 7);
+}
+
+/* The shape of the sample configuration: 64 bytes in each of 2 channels, 4 groups of 4 banks, 16 rows of 64 / 8 lines. */
+static void shaped(ddr_core *core) {
+    ddr_memory_shape shape;
+    wants("shape", ddr_shape(core, &shape), DDR_OK);
+    wants("capacity", (int64_t)shape.capacity, 262144);
+    wants("channels", shape.channels, 2);
+    wants("ranks", shape.ranks, 1);
+    wants("groups", shape.groups, 4);
+    wants("banks", shape.banks, 4);
+    wants("rows", shape.rows, 16);
+    wants("columns", shape.columns, 64);
+    wants("line", shape.line, 64);
+    wants("burst", shape.burst, 4);
+    wants("ports", shape.ports, 2);
+    wants("window", shape.window, 4);
+}
+
+/* The names of codes. */
+static void named(void) {
+    wants("name of OK", strcmp(ddr_code_name(DDR_OK), "OK"), 0);
+    wants("name of BUSY", strcmp(ddr_code_name(DDR_BUSY), "BUSY"), 0);
+    wants("name of NOT_JUDGED", strcmp(ddr_code_name(DDR_NOT_JUDGED), "NOT_JUDGED"), 0);
+    wants("name of none", strcmp(ddr_code_name(DDR_NOT_JUDGED + 1), ""), 0);
+    wants("name of less than none", strcmp(ddr_code_name(-1), ""), 0);
 }
 
 /* The cycles of a request that was accepted before the first round and taken after 500 of them. */
@@ -172,6 +205,8 @@ int main(int argc, char **argv) {
     refused(&core);
     wants("open", ddr_open(&core, text, length, NULL, 0, &whole), DDR_OK);
     ranges(&core);
+    shaped(&core);
+    named();
     masked(&core);
     traced(&core);
     wants("close", ddr_close(&core), DDR_OK);

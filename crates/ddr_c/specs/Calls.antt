@@ -16,7 +16,7 @@ use Rattle.ddr_c.specs.declared.host.Core.{Core}
 use Rattle.ddr_c.specs.declared.host.Next.{Next}
 use Rattle.ddr_c.specs.declared.host.Next.TheVariants as next
 use Rattle.ddr_c.specs.declared.slot.Slot.{Slot}
-use Rattle.ddr_c.specs.declared.trace.BusCommand.{BusCommand}
+use Rattle.ddr_bus.specs.declared.bus.BusCommand.{BusCommand}
 use Rattle.ddr_c.specs.declared.codes.TheConstants as code
 use Rattle.ddr_c.specs.Codes.{answer_code, code_of, number_told}
 use Rattle.ddr_rounds.specs.Continues.{Continues}

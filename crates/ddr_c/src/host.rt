@@ -32,9 +32,11 @@ use std::alloc::{AllocError, Global};
 #[derive(Drop)]
 pub(crate) struct Core {
     pub(crate) world: World,
+    config: Config,
     ports: u32,
     channels: u32,
     stamps: Stamps,
+    ghost config_is: { config ≡ world.config },
     ghost ports_are: { ports ≡ world.config.limits.ports },
     ghost channels_are: { channels ≡ world.config.geometry.channels },
 }
@@ -72,6 +74,7 @@ impl Core {
     {
         Ok(Core {
             world: World::open(alloc, config)?,
+            config: *config,
             ports: config.limits.ports,
             channels: config.geometry.channels,
             stamps: Stamps::open(alloc, config.limits.ports)?,
@@ -89,6 +92,13 @@ impl Core {
             self.stamps.accept(port, number, clock);
         }
         Ok(outcome)
+    }
+
+    /// Its configuration.
+    pub(crate) fn config(&self) -> &Config
+        ensures { result.now ≡ self.now.world.config }
+    {
+        &self.config
     }
 
     /// The next cycle of the first channel. All channels are at it, unless memory was refused in the midst of a round.

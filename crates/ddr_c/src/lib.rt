@@ -13,6 +13,7 @@ ghost use Rattle.ddr_world.specs.Quiet.{IsQuiet};
 ghost use Rattle.ddr_c.specs.Calls.{Calls, IsAdvanced, IsCopied, IsCountedOf, IsListed, IsSubmitted, IsTaken, Tells, cycle_in, held_in, trace_in};
 ghost use Rattle.ddr_c.specs.Codes.{answer_code, number_told};
 ghost use Rattle.ddr_c.specs.Opens.{IsOpening, IsShown};
+ghost use Rattle.ddr_c.specs.Shapes.{shape_of};
 ghost use Rattle.ddr_c.specs.Trace.{traced};
 
 mod codes;
@@ -21,12 +22,14 @@ pub mod head;
 mod host;
 mod loose;
 mod open;
+pub mod shape;
 pub mod slot;
 mod stamps;
-pub mod trace;
+mod trace;
 
 use codes::{ALREADY_OPEN, CLOSED, NO_SUCH, NOTHING, OK, TOO_SHORT, code_of};
 use ddr_address_map::request::Line;
+use ddr_bus::bus::BusCommand;
 use ddr_ports::request::Request;
 use ddr_timing::units::LINE_BYTES;
 use ddr_world::event::{Outcome, Refusal};
@@ -34,9 +37,10 @@ use ddr_world::world::Counts;
 use head::{Head, head_of};
 use host::{Core, Next};
 use open::open;
+use shape::{Shape, shape_of};
 use slot::Slot;
 use std::alloc::Global;
-use trace::{BusCommand, copy_from};
+use trace::copy_from;
 
 /// Opens a core from a configuration's text. A refusal's text is copied as far as it fits, and `length` is its whole length.
 /// Memory may be refused of every text that is UTF-8: its table, the core and the text of a refusal lie in memory.
@@ -298,6 +302,20 @@ fn list(core: &Core, channel: u32, first: u64, commands: &mut [BusCommand]) -> O
 {
     let entries = core.commands(channel)?;
     Some(copy_from(entries, first, commands))
+}
+
+/// Tells the shape of the memory and of its ports.
+#[unsafe(no_mangle)]
+pub extern "C" fn ddr_c_shape(alloc: Global, slot: &mut Slot, shape: &mut Shape) -> i32
+    ensures same { held_in slot.new ≡ held_in slot.old }
+    ensures told { Calls (held_in slot.old) (held_in slot.new) ((result ≡ CLOSED) × (shape.new ≡ shape.old)) (λ core after. (result ≡ OK) × (shape.new ≡ shape_of core.world.config)) }
+{
+    let Some(core) = slot.take(alloc) else {
+        return CLOSED;
+    };
+    *shape = shape_of(core.config());
+    slot.put(core);
+    OK
 }
 
 /// Closes a core: gives back its memory, drained or not. The slot is as at first.

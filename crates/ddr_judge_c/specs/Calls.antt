@@ -8,7 +8,7 @@ use Rattle.ddr_trace.specs.Rules.{ends_late}
 use Rattle.ddr_watch.specs.declared.told.Told.{Told}
 use Rattle.ddr_watch.specs.Kept.{HasCounted, count_of}
 use Rattle.ddr_watch.specs.Told.{IsTold, counted_with}
-use Rattle.ddr_judge_c.specs.declared.bus.BusCommand.{BusCommand}
+use Rattle.ddr_bus.specs.declared.bus.BusCommand.{BusCommand}
 use Rattle.ddr_judge_c.specs.declared.codes.TheConstants as code
 use Rattle.ddr_judge_c.specs.declared.fault.Fault.{Fault}
 use Rattle.ddr_judge_c.specs.declared.judge.Judge.{Judge}

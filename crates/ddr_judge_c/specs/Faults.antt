@@ -7,12 +7,12 @@ use Rattle.ddr_evidence.specs.declared.evidence.Evidence.{Evidence}
 use Rattle.ddr_evidence.specs.declared.evidence.Evidence.TheVariants as evidence
 use Rattle.ddr_evidence.specs.declared.evidence.Placed.{Placed}
 use Rattle.ddr_watch.specs.declared.told.Told.{Told}
-use Rattle.ddr_judge_c.specs.declared.bus.BusCommand.{BusCommand}
-use Rattle.ddr_judge_c.specs.declared.bus.TheConstants.{UNNAMED}
+use Rattle.ddr_bus.specs.declared.bus.BusCommand.{BusCommand}
+use Rattle.ddr_bus.specs.declared.bus.TheConstants.{UNNAMED}
 use Rattle.ddr_judge_c.specs.declared.fault.Basis.{Basis}
 use Rattle.ddr_judge_c.specs.declared.fault.Fault.{Fault}
 use Rattle.ddr_judge_c.specs.declared.fault.TheConstants as basis
-use Rattle.ddr_judge_c.specs.Bus.{bus_command}
+use Rattle.ddr_bus.specs.Bus.{bus_command}
 
 abbrev pub resting : ℕ → Option Placed → ℕ → ℕ → Basis
 resting number earlier found wanted = record { number = number; earlier = earlier; found = found; wanted = wanted }

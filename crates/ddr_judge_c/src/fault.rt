@@ -5,7 +5,7 @@ ghost use Rattle.std.specs.Prelude.{◌≡◌};
 ghost use Rattle.ddr_trace.specs.Names.{number_of};
 ghost use Rattle.ddr_judge_c.specs.Faults.{basis_of, earlier_of, fault_of, place_of};
 
-use crate::bus::{BusCommand, UNNAMED, bus_command};
+use ddr_bus::bus::{BusCommand, UNNAMED, bus_command};
 use ddr_evidence::evidence::{Evidence, Placed};
 use ddr_timing::timing::Timing;
 use ddr_trace::command::Entry;

@@ -10,7 +10,7 @@ ghost use Rattle.std.specs.Prelude.{◌≡◌, IfNone, IfSome, None, Some, if◌
 ghost use Rattle.ddr_judge_c.specs.Calls.{Calls, IsCommand, IsEnded, judge_in};
 ghost use Rattle.ddr_judge_c.specs.Opens.{IsOpening, IsShown};
 
-pub mod bus;
+mod bus;
 mod codes;
 pub mod fault;
 mod handle;
@@ -19,8 +19,9 @@ mod loose;
 mod open;
 pub mod slot;
 
-use bus::{BusCommand, entry_of};
+use bus::entry_of;
 use codes::{ALREADY_OPEN, CLOCK_SPENT, CLOSED, ILLEGAL, OK, SPENT};
+use ddr_bus::bus::BusCommand;
 use ddr_timing::units::CLOCK_STOP;
 use fault::{Fault, fault_of};
 use judge::Judge;

@@ -1,6 +1,6 @@
 -- One entry more was copied.
 use Rattle.std.proofs.Common.{arith}
-use Rattle.ddr_c.specs.Trace.{bus_command}
+use Rattle.ddr_bus.specs.Bus.{bus_command}
 use Rattle.ddr_c.proofs.TraceLemmas.{copied_on}
 use Rattle.ddr_c.proofs.trace.copy_from.Goals as goal
 

@@ -1,5 +1,5 @@
 use Rattle.std.proofs.Common.{◌≡◌, ◌++◌, map, take, drop}
-use Rattle.ddr_c.specs.Trace.{bus_command}
+use Rattle.ddr_bus.specs.Bus.{bus_command}
 use Rattle.ddr_c.proofs.trace.copy_from.Given as goal
 
 abbrev pub invariant-loop-i : goal.invariant-loop-i
