@@ -1,6 +1,5 @@
 mod DrainLemmas
 mod FoundLemmas
-mod LegalLemmas
 mod NumberLemmas
 mod QuietLemmas
 mod ReleaseLemmas

@@ -1,0 +1,11 @@
+use Rattle.std.proofs.Common.{◌≡◌, take}
+use Rattle.ddr_statistics.specs.Stands.{StandsFor}
+use Rattle.ddr_c.proofs.counting.Counting.catch_up.Given as goal
+
+abbrev pub invariant-loop-place : goal.invariant-loop-place
+invariant-loop-place l = record {
+  stands : StandsFor l.self.statistics (take l.place l.trace);
+  geometry : l.self.statistics.geometry ≡ l.config.geometry;
+  timing : l.self.statistics.timing ≡ l.config.timing;
+  start : l.self.statistics.start ≡ 0;
+}
