@@ -124,28 +124,6 @@ typedef struct ddr_memory_shape {
     uint32_t window;
 } ddr_memory_shape;
 
-/* What a channel did so far: commands of each kind (those with auto-precharge apart), how its reads and writes found their banks, for how
- * many clocks data were on its data bus, how often that turned round or went to another rank, and the most REFs that a rank owed in
- * a cycle. docs/FORMATS.md says of each key of the same name, in the statistics of a replay, what it counts. */
-typedef struct ddr_channel_statistics {
-    uint64_t cycles;
-    uint64_t activates;
-    uint64_t precharges;
-    uint64_t precharges_all;
-    uint64_t refreshes;
-    uint64_t reads;
-    uint64_t writes;
-    uint64_t reads_auto;
-    uint64_t writes_auto;
-    uint64_t row_hits;
-    uint64_t row_misses;
-    uint64_t row_conflicts;
-    uint64_t busy_clocks;
-    uint64_t turn_rounds;
-    uint64_t rank_switches;
-    uint64_t refresh_debt_most;
-} ddr_channel_statistics;
-
 /* The library, and the kit that it was proved with. */
 #define DDR_VERSION "1.0"
 #define DDR_KIT "rattle-kit-13f logic dac8208d650f15bf"
@@ -162,7 +140,6 @@ int32_t ddr_c_counts(ddr_core *core, uint32_t port, uint64_t *accepted, uint64_t
 int32_t ddr_c_cycle(ddr_core *core, uint32_t channel, uint64_t *cycle);
 int32_t ddr_c_trace(ddr_core *core, uint32_t channel, uint64_t first, ddr_command *commands, size_t room, uint64_t *count);
 int32_t ddr_c_shape(ddr_core *core, ddr_memory_shape *shape);
-int32_t ddr_c_numbers(ddr_core *core, uint32_t channel, ddr_channel_statistics *statistics);
 int32_t ddr_c_close(ddr_core *core);
 
 /* Opens a core from a configuration's text, of the `length` bytes at `text` (docs/FORMATS.md has its keys). Its clocks and
@@ -245,13 +222,6 @@ static inline int32_t ddr_trace(ddr_core *core, uint32_t channel, uint64_t first
 static inline int32_t ddr_shape(ddr_core *core, ddr_memory_shape *shape) {
     if (core == NULL || shape == NULL) return DDR_NULL;
     return ddr_c_shape(core, shape);
-}
-
-/* Writes what a channel did so far. Each command is counted once, at the first such call behind it, so that the call may be made at any time and
- * often. Also DDR_CLOCK_SPENT where the channel's clock has come to 2^62. */
-static inline int32_t ddr_statistics(ddr_core *core, uint32_t channel, ddr_channel_statistics *statistics) {
-    if (core == NULL || statistics == NULL) return DDR_NULL;
-    return ddr_c_numbers(core, channel, statistics);
 }
 
 /* The name of a code, as enum ddr_code has it behind DDR_; "" where there is no such code. */

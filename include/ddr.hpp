@@ -80,12 +80,6 @@ public:
         check(ddr_cycle(&core, channel, &cycle), "ddr_cycle");
         return cycle;
     }
-    // What a channel did so far.
-    ddr_channel_statistics statistics(std::uint32_t channel) {
-        ddr_channel_statistics statistics{};
-        check(ddr_statistics(&core, channel, &statistics), "ddr_statistics");
-        return statistics;
-    }
     // The shape of the memory and of its ports.
     ddr_memory_shape shape() {
         ddr_memory_shape shape{};

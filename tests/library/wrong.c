@@ -19,7 +19,6 @@ static void wants(const char *what, int64_t got, int64_t wanted) {
 static void nulls(void) {
     ddr_core core = DDR_CORE_INIT;
     ddr_memory_shape shape = {.ports = 7};
-    ddr_channel_statistics statistics = {.reads = 7};
     ddr_reply reply;
     uint8_t bytes[64] = {0};
     uint64_t n = 7;
@@ -47,12 +46,9 @@ static void nulls(void) {
     wants("trace, no places", ddr_trace(&core, 0, 0, NULL, 1, &n), DDR_NULL);
     wants("shape, no core", ddr_shape(NULL, &shape), DDR_NULL);
     wants("shape, no place", ddr_shape(&core, NULL), DDR_NULL);
-    wants("statistics, no core", ddr_statistics(NULL, 0, &statistics), DDR_NULL);
-    wants("statistics, no place", ddr_statistics(&core, 0, NULL), DDR_NULL);
     wants("close, no core", ddr_close(NULL), DDR_NULL);
     wants("untouched", (int64_t)n, 7);
     wants("shape untouched", shape.ports, 7);
-    wants("statistics untouched", (int64_t)statistics.reads, 7);
 }
 
 /* What a closed core answers. */
@@ -60,7 +56,6 @@ static void closed(ddr_core *core) {
     ddr_reply reply;
     ddr_command commands[2];
     ddr_memory_shape shape = {.capacity = 7};
-    ddr_channel_statistics statistics = {.reads = 7};
     uint8_t bytes[64] = {0};
     uint64_t n = 7;
     wants("closed read", ddr_submit_read(core, 0, 0, 1, &n), DDR_CLOSED);
@@ -73,11 +68,9 @@ static void closed(ddr_core *core) {
     wants("closed cycle", ddr_cycle(core, 0, &n), DDR_CLOSED);
     wants("closed trace", ddr_trace(core, 0, 0, commands, 2, &n), DDR_CLOSED);
     wants("closed shape", ddr_shape(core, &shape), DDR_CLOSED);
-    wants("closed statistics", ddr_statistics(core, 0, &statistics), DDR_CLOSED);
     wants("closed close", ddr_close(core), DDR_CLOSED);
     wants("untouched", (int64_t)n, 7);
     wants("shape untouched", (int64_t)shape.capacity, 7);
-    wants("statistics untouched", (int64_t)statistics.reads, 7);
 }
 
 /* What a configuration that is refused answers, with its text as far as it fits. */
@@ -95,7 +88,6 @@ static void refused(ddr_core *core) {
 
 /* What an open core answers out of range. */
 static void ranges(ddr_core *core) {
-    ddr_channel_statistics statistics = {.reads = 7};
     ddr_reply reply;
     uint8_t bytes[64] = {0};
     uint64_t n = 7;
@@ -112,8 +104,6 @@ static void ranges(ddr_core *core) {
     wants("counts' port", ddr_counts(core, 99, &n, &n), DDR_NO_SUCH);
     wants("cycle's channel", ddr_cycle(core, 99, &n), DDR_NO_SUCH);
     wants("trace's channel", ddr_trace(core, 99, 0, NULL, 0, &n), DDR_NO_SUCH);
-    wants("statistics' channel", ddr_statistics(core, 99, &statistics), DDR_NO_SUCH);
-    wants("statistics untouched", (int64_t)statistics.reads, 7);
     wants("untouched", (int64_t)n, 7);
 }
 
@@ -141,29 +131,6 @@ static void named(void) {
     wants("name of NOT_JUDGED", strcmp(ddr_code_name(DDR_NOT_JUDGED), "NOT_JUDGED"), 0);
     wants("name of none", strcmp(ddr_code_name(DDR_NOT_JUDGED + 1), ""), 0);
     wants("name of less than none", strcmp(ddr_code_name(-1), ""), 0);
-}
-
-/* What a channel did in so many cycles: with one write and one read of a row, opened by one ACT, the first a miss and the other a hit, or with
- * none. A REF falls due in cycles 200 and 400, where there are so many, and each is paid for in its cycle, with all banks idle or behind a
- * PREA, so that no more than one is owed. */
-static void counted(ddr_core *core, uint32_t channel, int64_t cycles, int64_t requests, int64_t refreshes) {
-    ddr_channel_statistics did;
-    wants("statistics", ddr_statistics(core, channel, &did), DDR_OK);
-    wants("cycles", (int64_t)did.cycles, cycles);
-    wants("activates", (int64_t)did.activates, requests);
-    wants("precharges", (int64_t)did.precharges, 0);
-    wants("precharges of all", (int64_t)did.precharges_all, requests);
-    wants("refreshes", (int64_t)did.refreshes, refreshes);
-    wants("reads", (int64_t)did.reads, requests);
-    wants("writes", (int64_t)did.writes, requests);
-    wants("auto-precharges", (int64_t)(did.reads_auto + did.writes_auto), 0);
-    wants("hits", (int64_t)did.row_hits, requests);
-    wants("misses", (int64_t)did.row_misses, requests);
-    wants("conflicts", (int64_t)did.row_conflicts, 0);
-    wants("busy clocks", (int64_t)did.busy_clocks, 8 * requests);
-    wants("turn-rounds", (int64_t)did.turn_rounds, requests);
-    wants("switches of rank", (int64_t)did.rank_switches, 0);
-    wants("refreshes owed", (int64_t)did.refresh_debt_most, refreshes == 0 ? 0 : 1);
 }
 
 /* The cycles of a request that was accepted before the first round and taken after 500 of them. */
@@ -237,14 +204,10 @@ int main(int argc, char **argv) {
     closed(&core);
     refused(&core);
     wants("open", ddr_open(&core, text, length, NULL, 0, &whole), DDR_OK);
-    counted(&core, 0, 0, 0, 0);
     ranges(&core);
     shaped(&core);
     named();
     masked(&core);
-    counted(&core, 0, 500, 1, 2);
-    counted(&core, 1, 500, 0, 2);
-    counted(&core, 0, 500, 1, 2);
     traced(&core);
     wants("close", ddr_close(&core), DDR_OK);
     closed(&core);

@@ -1,5 +1,5 @@
 -- What a call finds in its slot, and what it leaves there.
-use Rattle.std.specs.Prelude.{◌≡◌, ◌+◌, ◌<◌, ◌-◌, ℕ, ℤ, List, drop, length, min, slice_get, IfSome, Option, Some, None, Result, Ok, Err}
+use Rattle.std.specs.Prelude.{◌≡◌, ◌+◌, ◌<◌, ◌-◌, ℕ, ℤ, List, drop, length, min, slice_get, IfSome, Option, Some, None, Result}
 use Rattle.std.specs.Option.{option_map}
 use Rattle.ddr_ports.specs.Asked.{Asked}
 use Rattle.ddr_trace.specs.declared.command.Entry.{Entry}
@@ -12,7 +12,6 @@ use Rattle.ddr_world.specs.Kept.{state_of}
 use Rattle.ddr_world.specs.Record.{IsNext}
 use Rattle.ddr_world.specs.State.{PortSide}
 use Rattle.ddr_c.specs.declared.head.Head.{Head}
-use Rattle.ddr_c.specs.declared.numbers.Numbers.{Numbers}
 use Rattle.ddr_c.specs.declared.host.Core.{Core}
 use Rattle.ddr_c.specs.declared.host.Next.{Next}
 use Rattle.ddr_c.specs.declared.host.Next.TheVariants as next
@@ -23,7 +22,6 @@ use Rattle.ddr_c.specs.Codes.{answer_code, code_of, number_told}
 use Rattle.ddr_rounds.specs.Continues.{Continues}
 use Rattle.ddr_c.specs.Front.{IsNextOf}
 use Rattle.ddr_c.specs.Heads.{head_of}
-use Rattle.ddr_c.specs.Numbers.{numbers_told}
 use Rattle.ddr_rounds.specs.Rounds.{IsRefusedBehind, IsStopped, rounds}
 use Rattle.ddr_c.specs.Trace.{traced}
 
@@ -105,13 +103,3 @@ IsCopied (Some entries) first old new count = (count ≡ Some (min (length entri
 abbrev pub IsListed : Option (List Entry) → ℕ → List BusCommand → List BusCommand → ℕ → ℕ → ℤ → Type 0
 IsListed None first old new count count_new told = (told ≡ code.NO_SUCH) × (new ≡ old) × (count_new ≡ count)
 IsListed (Some entries) first old new count count_new told = (told ≡ code.OK) × (new ≡ traced (drop first entries) old) × (count_new ≡ min (length entries - first) (length old))
-
--- a channel's numbers are told, or why not
-abbrev pub IsToldOf : Result Numbers Refusal → Numbers → Numbers → ℤ → Type 0
-IsToldOf (Ok numbers) old new told = (told ≡ code.OK) × (new ≡ numbers)
-IsToldOf (Err cause) old new told = (told ≡ code_of cause) × (new ≡ old)
-
--- those of the channel of this number, and the core's state is as it was
-pub record IsNumbered (channel : ℕ) (old new : Numbers) (told : ℤ) (before after : Core) : Type 0 where
-  pub numbers : IsToldOf (numbers_told (option_map (λ side. side.channel) (slice_get before.world.channels channel))) old new told
-  pub world : after.world ≡ before.world

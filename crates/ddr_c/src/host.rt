@@ -14,12 +14,8 @@ ghost use Rattle.ddr_world.specs.State.{opened};
 ghost use Rattle.ddr_world.specs.Told.{counts_of};
 ghost use Rattle.ddr_rounds.specs.Continues.{Continues};
 ghost use Rattle.ddr_rounds.specs.Rounds.{IsRefusedBehind, IsStopped, rounds};
-ghost use Rattle.ddr_c.specs.Counting.{AreCounted};
 ghost use Rattle.ddr_c.specs.Front.{IsNextOf};
-ghost use Rattle.ddr_c.specs.Numbers.{numbers_told};
 
-use crate::counting::{Counting, none_counted};
-use crate::numbers::Numbers;
 use crate::stamps::Stamps;
 use ddr_address_map::request::Echo;
 use ddr_ports::request::Request;
@@ -27,7 +23,6 @@ use ddr_reorder::reply::Service;
 use ddr_rounds::ports::{release, submit};
 use ddr_rounds::rounds::{Rounds, make_rounds};
 use ddr_timing::config::Config;
-use ddr_timing::units::CLOCK_STOP;
 use ddr_trace::command::Entry;
 use ddr_world::event::{Outcome, Refusal};
 use ddr_world::world::{Counts, World};
@@ -41,9 +36,6 @@ pub(crate) struct Core {
     ports: u32,
     channels: u32,
     stamps: Stamps,
-    /// Of each channel.
-    counting: Vec<Counting>,
-    ghost counted: { AreCounted world.config (state_of world) counting.items },
     ghost config_is: { config ≡ world.config },
     ghost ports_are: { ports ≡ world.config.limits.ports },
     ghost channels_are: { channels ≡ world.config.geometry.channels },
@@ -86,7 +78,6 @@ impl Core {
             ports: config.limits.ports,
             channels: config.geometry.channels,
             stamps: Stamps::open(alloc, config.limits.ports)?,
-            counting: none_counted(alloc, config)?,
         })
     }
 
@@ -174,24 +165,6 @@ impl Core {
     {
         let channel = self.world.channel(channel)?;
         Some(channel.now())
-    }
-
-    /// The numbers of a channel's commands so far. Fails as `NoSuch` where there is no such channel, and as `ClockSpent` where its clock has
-    /// come to its end.
-    pub(crate) fn numbers(&mut self, channel: u32) -> Result<Numbers, Refusal>
-        ensures told { result ≡ numbers_told (option_map (λ side. side.channel) (slice_get self.old.world.channels channel)) }
-        ensures world { self.new.world ≡ self.old.world }
-    {
-        let Some(side) = self.world.channel(channel) else {
-            return Err(Refusal::NoSuch);
-        };
-        let end = side.now();
-        if end == CLOCK_STOP {
-            return Err(Refusal::ClockSpent);
-        }
-        let counting = &mut self.counting[channel as usize];
-        counting.catch_up(side.config(), side.trace());
-        Ok(counting.numbers(side.config(), side.trace(), end))
     }
 
     /// The commands of a channel so far, if there is such a channel.

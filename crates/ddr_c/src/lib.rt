@@ -10,19 +10,17 @@ ghost use Rattle.std.specs.Prelude.{◌≡◌, ◌≢◌, ◌-◌, IfNone, IfSom
 ghost use Rattle.ddr_ports.specs.Asked.{Asked, Masked, Read, Write, asked_of};
 ghost use Rattle.ddr_world.specs.Kept.{state_of};
 ghost use Rattle.ddr_world.specs.Quiet.{IsQuiet};
-ghost use Rattle.ddr_c.specs.Calls.{Calls, IsAdvanced, IsCopied, IsCountedOf, IsListed, IsNumbered, IsSubmitted, IsTaken, Tells, cycle_in, held_in, trace_in};
+ghost use Rattle.ddr_c.specs.Calls.{Calls, IsAdvanced, IsCopied, IsCountedOf, IsListed, IsSubmitted, IsTaken, Tells, cycle_in, held_in, trace_in};
 ghost use Rattle.ddr_c.specs.Codes.{answer_code, number_told};
 ghost use Rattle.ddr_c.specs.Opens.{IsOpening, IsShown};
 ghost use Rattle.ddr_c.specs.Shapes.{shape_of};
 ghost use Rattle.ddr_c.specs.Trace.{traced};
 
 mod codes;
-mod counting;
 mod handle;
 pub mod head;
 mod host;
 mod loose;
-pub mod numbers;
 mod open;
 pub mod shape;
 pub mod slot;
@@ -38,7 +36,6 @@ use ddr_world::event::{Outcome, Refusal};
 use ddr_world::world::Counts;
 use head::{Head, head_of};
 use host::{Core, Next};
-use numbers::Numbers;
 use open::open;
 use shape::{Shape, shape_of};
 use slot::Slot;
@@ -305,30 +302,6 @@ fn list(core: &Core, channel: u32, first: u64, commands: &mut [BusCommand]) -> O
 {
     let entries = core.commands(channel)?;
     Some(copy_from(entries, first, commands))
-}
-
-/// Tells the numbers of a channel's commands so far.
-#[unsafe(no_mangle)]
-pub extern "C" fn ddr_c_numbers(
-    alloc: Global,
-    slot: &mut Slot,
-    channel: u32,
-    numbers: &mut Numbers,
-) -> i32
-    ensures { Calls (held_in slot.old) (held_in slot.new) ((result ≡ CLOSED) × (numbers.new ≡ numbers.old)) (IsNumbered channel numbers.old numbers.new result) }
-{
-    let Some(mut core) = slot.take(alloc) else {
-        return CLOSED;
-    };
-    let answer = core.numbers(channel);
-    slot.put(core);
-    match answer {
-        Ok(told) => {
-            *numbers = told;
-            OK
-        }
-        Err(cause) => code_of(cause),
-    }
 }
 
 /// Tells the shape of the memory and of its ports.

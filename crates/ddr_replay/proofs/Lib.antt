@@ -1,5 +1,6 @@
 mod DrainLemmas
 mod FoundLemmas
+mod LegalLemmas
 mod NumberLemmas
 mod QuietLemmas
 mod ReleaseLemmas

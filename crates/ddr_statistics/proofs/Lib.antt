@@ -1,7 +1,6 @@
 pub mod CountLemmas
 mod DebtLemmas
 pub mod FindingLemmas
-pub mod LegalLemmas
 pub mod PlaceLemmas
 pub mod StandLemmas
 pub mod SumLemmas

@@ -4,7 +4,7 @@ use Rattle.ddr_timing.specs.declared.config.Config.{Config}
 use Rattle.ddr_trace.specs.declared.command.Entry.{Entry}
 use Rattle.ddr_trace.specs.Legality.{IsLegal}
 use Rattle.ddr_trace.specs.Rules.{is_in}
-use Rattle.ddr_statistics.proofs.LegalLemmas.{all_in_order, all_placed}
+use Rattle.ddr_replay.proofs.LegalLemmas.{all_in_order, all_placed}
 use Rattle.ddr_replay.proofs.numbers.statistics_in.Goals as goal
 
 pub statistics_of-requires-clause-placed : goal.statistics_of-requires-clause-placed
