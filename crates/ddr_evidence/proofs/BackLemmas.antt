@@ -47,7 +47,7 @@ opens_decides : (act pre same : Bool) → (act && same) ≡ true → ((act || pr
 opens_decides true pre same e = e
 opens_decides false pre same e = cc
 
-act_changes : (act same u : Bool) → (act && same) ≡ true → (same && (act || u)) ≡ true
+pub act_changes : (act same u : Bool) → (act && same) ≡ true → (same && (act || u)) ≡ true
 act_changes true true u e = refl
 act_changes true false u e = cc
 act_changes false same u e = cc
@@ -81,7 +81,7 @@ change_from command before a rest is (suc q) =
     ∙ ap (λ b. option_map_or (λ x. is_same_bank x.command command && changes x b) (slice_get rest q) false)
     (ap (bank_behind command) (take-append-add before (a ∷ rest) (suc q)) ∙ sym (bank_from command before a (take q rest) decided))
 
-change_shift : (command : Command) (history : List Entry) (from : ℕ) → StartsAtAct command history from → (p : ℕ) → changes_at command history (from + p) ≡ changes_at command (drop from history) p
+pub change_shift : (command : Command) (history : List Entry) (from : ℕ) → StartsAtAct command history from → (p : ℕ) → changes_at command history (from + p) ≡ changes_at command (drop from history) p
 change_shift command history from (a, at, is) p =
     let r = parts history from a at in
     ap (λ n. changes_at command history (n + p)) (sym r.2)

@@ -15,7 +15,6 @@ mod codes;
 pub mod fault;
 mod handle;
 mod judge;
-mod loose;
 mod open;
 pub mod slot;
 

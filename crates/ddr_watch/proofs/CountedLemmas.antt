@@ -9,7 +9,6 @@ use Rattle.ddr_trace.specs.Rules.{breaks, is_in, last_cycle_below}
 use Rattle.ddr_trace.proofs.LowestLemmas.{lowest_passes}
 use Rattle.ddr_legality.specs.declared.one_pass.Checker.{Checker}
 use Rattle.ddr_legality.specs.OnePass.{HasPassed, config_of, start_of}
-use Rattle.ddr_evidence.specs.declared.evidence.Evidence.{Evidence}
 use Rattle.ddr_watch.specs.declared.recent.Recent.{Recent}
 use Rattle.ddr_watch.specs.declared.told.Told.{Told}
 use Rattle.ddr_watch.specs.declared.watch.Watch.{Watch}

@@ -1,33 +1,33 @@
 -- What the newest commands tell of all.
-use Rattle.std.proofs.Common.{◌≡◌, ℕ, suc, ◌+◌, ◌-◌, ◌^◌, ◌<◌, ◌≤◌, Bool, true, false, ◌||◌, List, [], ◌∷◌, ◌++◌, length, drop, Some, refl, sym, ap, subst, ◌∙◌, arith, zero-add, length-append}
+use Rattle.std.proofs.Common.{◌≡◌, ℕ, suc, ◌+◌, ◌-◌, ◌^◌, ◌<◌, ◌≤◌, Bool, true, false, ◌||◌, List, [], ◌∷◌, ◌++◌, length, drop, IfSome, IsSome, None, Option, Some, refl, sym, ap, subst, ◌∙◌, arith, zero-add, length-append}
 use Rattle.std.specs.Prelude.{slice_get}
 use Rattle.std.specs.Bool.{MatchBool}
-use Rattle.std.specs.List.{count_by}
+use Rattle.std.specs.List.{count_by, list_any}
 use Rattle.std.specs.Option.{option_map_or}
 use Rattle.std.proofs.Math.Seq.{drop-append-add}
 use Rattle.std.proofs.lemmas.Option.{slice_get_within}
 use Rattle.ddr_timing.specs.declared.config.Config.{Config}
 use Rattle.ddr_timing.specs.declared.timing.Timing.{Timing}
+use Rattle.ddr_trace.specs.declared.bank.OpenBank.{OpenBank}
 use Rattle.ddr_trace.specs.declared.command.Entry.{Entry}
 use Rattle.ddr_trace.specs.declared.rule.Rule.{Rule}
 use Rattle.ddr_trace.specs.declared.rule.Rule.TheVariants as rule
 use Rattle.ddr_trace.specs.Commands.{is_refresh}
 use Rattle.ddr_trace.specs.Rules.{breaks}
 use Rattle.ddr_evidence.specs.declared.evidence.Evidence.{Evidence}
-use Rattle.ddr_evidence.specs.declared.evidence.Evidence.TheVariants.{TooClose, NotAbove, Outside, TooFar}
+use Rattle.ddr_evidence.specs.declared.evidence.Evidence.TheVariants.{Bank, BeforeStart, TooClose, NotAbove, Outside, TooFar}
 use Rattle.ddr_evidence.specs.declared.evidence.Part.{Part}
 use Rattle.ddr_evidence.specs.declared.evidence.Placed.{Placed}
 use Rattle.ddr_evidence.specs.Evidence.{IsEvidence, IsFrom, IsPair, is_behind_start, is_behind_start_of_rank}
 use Rattle.ddr_evidence.specs.Places.{IsLast, are_breaking, breaks_from, counts, least_of, pair_breaks}
 use Rattle.ddr_watch.specs.declared.recent.Recent.{Recent}
-use Rattle.ddr_watch.specs.Finds.{IsPassed, IsRight, is_by_distance}
+use Rattle.ddr_evidence.specs.Recent.{opens}
+use Rattle.ddr_watch.specs.declared.recent.TheConstants.{FEWEST_KEPT}
+use Rattle.ddr_watch.specs.Finds.{IsPassed, IsRight, is_by_distance, is_by_newest, is_on_own_bank}
 use Rattle.ddr_watch.specs.Kept.{AreLast}
+use Rattle.ddr_watch.proofs.NewestLemmas.{bank_older, bank_told, bank_unopened, get_behind, neither, none_opened, older_breaks, start_told}
 
 -- ---- one of two
-
-neither : {X : Type 0} (b : Bool) → MatchBool b ⊥ ⊥ → X
-neither true h = absurd h
-neither false h = absurd h
 
 second : (b : Bool) (A : Type 0) → MatchBool b ⊥ A → A
 second true A h = absurd h
@@ -86,12 +86,6 @@ above_there c start end rule.RefGap w e earlier h = absurd h
 above_there c start end r w e earlier h = absurd h
 
 -- ---- among all commands
-
-get_behind : (before w : List Entry) (p : ℕ) → slice_get (before ++ w) (length before + p) ≡ slice_get w p
-get_behind [] w p = ap (slice_get w) (zero-add p)
-get_behind (x ∷ before) w p =
-    let next : suc (length before) + p ≡ suc (length before + p) = omega arith in
-    ap (slice_get (x ∷ before ++ w)) next ∙ get_behind before w p
 
 drop_behind : (before w : List Entry) (p : ℕ) → drop (length before + p + 1) (before ++ w) ≡ drop (p + 1) w
 drop_behind before w p =
@@ -194,6 +188,10 @@ other_basis c start end rule.RefLate w e evidence is off rank_off never h = cc
 other_basis c start end rule.RefGap w e evidence is off rank_off never h = cc
 other_basis c start end r w e evidence is off rank_off never h = never h
 
+-- at least so many are kept
+filled : (w : List Entry) → FEWEST_KEPT ≤ length w → (w ≡ [] → ⊥)
+filled w many none = let short = ap length none in absurd (omega (arith, many, short))
+
 module _ (r : Recent) (history : List Entry) (last : AreLast r history) where
   -- all commands are kept
   pub all_kept : r.first ≡ 0 → r.entries.items ≡ history
@@ -205,27 +203,34 @@ module _ (r : Recent) (history : List Entry) (last : AreLast r history) where
 
   passed : (c : Config) (start : ℕ) (q : Rule) (e : Entry) → (r.first ≡ 0 → ⊥)
       → (is_by_distance q ≡ true → is_behind_start c.timing r.entries.items e ≡ false → is_behind_start_of_rank c r.entries.items e ≡ false → pair_breaks c.timing q r.entries.items e ≡ false)
+      → is_by_newest q ≡ false → (is_on_own_bank q e ≡ true → list_any (opens e.command) r.entries.items ≡ false)
       → IsPassed c start q history e
-  passed c start q e some none = record {
+  passed c start q e some none older unopened = record {
     before = last.before;
     recent = r.entries.items;
     whole = last.whole;
     enough = last.enough some;
     none = none;
+    older = older;
+    unopened = unopened;
   }
 
   -- nothing was found
   pub none_found : (c : Config) (start : ℕ) (q : Rule) (e : Entry) → false ≡ breaks c start (e.cycle + 1) q r.entries.items e → breaks c start (e.cycle + 1) q history e ≡ true → IsPassed c start q history e
   none_found c start q e kept broken =
-      passed c start q e
-      (λ none. absurd (let same = ap (λ h. breaks c start (e.cycle + 1) q h e) (all_kept none) in cc))
+      let some : r.first ≡ 0 → ⊥ = λ none. absurd (let same = ap (λ h. breaks c start (e.cycle + 1) q h e) (all_kept none) in cc) in
+      let behind : breaks c start (e.cycle + 1) q (last.before ++ r.entries.items) e ≡ true = subst (λ h. breaks c start (e.cycle + 1) q h e ≡ true) last.whole broken in
+      passed c start q e some
       (λ is _ _. none_close c start (e.cycle + 1) q r.entries.items e is (sym kept))
+      (older_breaks c start (e.cycle + 1) q last.before r.entries.items e (filled r.entries.items (last.enough some)) (sym kept) behind)
+      (λ own. none_opened c start (e.cycle + 1) q last.before r.entries.items e own (sym kept) behind)
 
   -- or a thing of which older commands may tell otherwise
   pub not_told : (c : Config) (start : ℕ) (q : Rule) (e : Entry) (evidence : Evidence) → (r.first ≡ 0 → ⊥) → (IsPair c.timing q r.entries.items e evidence → ⊥)
+      → is_by_newest q ≡ false → (is_on_own_bank q e ≡ true → list_any (opens e.command) r.entries.items ≡ false)
       → IsEvidence c start (e.cycle + 1) q r.entries.items e evidence → IsPassed c start q history e
-  not_told c start q e evidence some never h =
-      passed c start q e some (λ is off rank_off. absurd (other_basis c start (e.cycle + 1) q r.entries.items e evidence is off rank_off never h))
+  not_told c start q e evidence some never older unopened h =
+      passed c start q e some (λ is off rank_off. absurd (other_basis c start (e.cycle + 1) q r.entries.items e evidence is off rank_off never h)) older unopened
 
 -- ---- as the newest commands were looked through
 
@@ -269,6 +274,27 @@ module _ (r : Recent) (c : Config) (start : ℕ) (q : Rule) (e : Entry) (s : Lis
     told_outside part number bound is =
         subst (λ h. IsEvidence c start (e.cycle + 1) q h e (Outside part number bound)) (sym last.whole)
         (found_outside c start (e.cycle + 1) q last.before r.entries.items e part number bound (here _ is))
+
+    pub told_start : evidence ≡ BeforeStart → (r.first ≡ 0 → ⊥) → IsEvidence c start (e.cycle + 1) q history e BeforeStart
+    told_start is some =
+        subst (λ h. IsEvidence c start (e.cycle + 1) q h e BeforeStart) (sym last.whole)
+        (start_told c start (e.cycle + 1) q last.before r.entries.items e (filled r.entries.items (last.enough some)) (here _ is))
+
+    pub told_bank : (group bank : ℕ) (opened : Option OpenBank) (changed : Option Placed) (told : Placed) → evidence ≡ Bank group bank opened changed → IsSome changed
+        → IfSome changed (λ ch. (told.place ≡ r.first + ch.place) × (told.entry ≡ ch.entry)) → is_refresh e.command ≡ false → list_any (opens e.command) r.entries.items ≡ true
+        → IsEvidence c start (e.cycle + 1) q history e (Bank group bank opened (Some told))
+    told_bank group bank opened None told is there at off some = cc
+    told_bank group bank opened (Some changed) told is there at off some =
+        subst (λ h. IsEvidence c start (e.cycle + 1) q h e (Bank group bank opened (Some told))) (sym last.whole)
+        (bank_told c start (e.cycle + 1) q last.before r.entries.items e group bank opened changed told off some (at.0 ∙ ap (λ n. n + changed.place) (sym last.many)) at.1 (here _ is))
+
+    pub untold_bank : (group bank : ℕ) (opened : Option OpenBank) (changed : Option Placed) → evidence ≡ Bank group bank opened changed → (r.first ≡ 0 → ⊥)
+        → (is_refresh e.command ≡ false → IsSome changed → list_any (opens e.command) r.entries.items ≡ false) → IsPassed c start q history e
+    untold_bank group bank opened changed is some none =
+        not_told r history last c start q e (Bank group bank opened changed) some (λ k. absurd k)
+        (bank_older c start (e.cycle + 1) q r.entries.items e group bank opened changed (here _ is))
+        (λ own. bank_unopened c start (e.cycle + 1) q r.entries.items e group bank opened changed own (here _ is) none)
+        (here _ is)
 
     pub told_whole : r.first ≡ 0 → IsRight c start q history e evidence
     told_whole none =

@@ -1,3 +1,4 @@
 pub mod KeptLemmas
 pub mod FoundLemmas
 pub mod CountedLemmas
+pub mod NewestLemmas

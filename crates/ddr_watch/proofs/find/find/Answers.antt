@@ -2,7 +2,7 @@
 use Rattle.std.proofs.Common.{◌≡◌, ◌+◌, false, sym, ap, subst, ◌∙◌}
 use Rattle.ddr_trace.specs.Rules.{breaks}
 use Rattle.ddr_watch.specs.Finds.{IsFound}
-use Rattle.ddr_watch.proofs.FoundLemmas.{close_within, far_within, none_found, told_above, told_close, told_far}
+use Rattle.ddr_watch.proofs.FoundLemmas.{close_within, far_within, none_found, told_above, told_bank, told_close, told_far, told_start, untold_bank}
 use Rattle.ddr_watch.proofs.find.find.Goals as goal
 
 pub returns-in_err-found : goal.returns-in_err-found
@@ -29,3 +29,17 @@ returns-in-NotAbove c = λ history last broken.
 pub returns-in-TooFar : goal.returns-in-TooFar
 returns-in-TooFar c = λ history last broken.
     told_far c.args.recent.now c.args.config.now c.args.start c.args.rule c.args.entry.now c.as_slice.result.now c.in_ok-found.found c.as_slice.ensures.value c.in_ok-found.ensures.some history last c.in-TooFar.earlier c.behind-in-TooFar.result c.in-TooFar.distance c.in-TooFar.is c.behind-in-TooFar.ensures.place c.behind-in-TooFar.ensures.entry
+
+pub returns-in-BeforeStart : goal.returns-in-BeforeStart
+returns-in-BeforeStart c = λ history last broken.
+    told_start c.args.recent.now c.args.config.now c.args.start c.args.rule c.args.entry.now c.as_slice.result.now c.in_ok-found.found c.as_slice.ensures.value c.in_ok-found.ensures.some history last c.in-BeforeStart.is c.if-recent-eq0.false
+
+pub returns-in_ok-change_of_own_bank-in-Bank : goal.returns-in_ok-change_of_own_bank-in-Bank
+returns-in_ok-change_of_own_bank-in-Bank c = λ history last broken.
+    let told = c.in_ok-change_of_own_bank-in-Bank in
+    told_bank c.args.recent.now c.args.config.now c.args.start c.args.rule c.args.entry.now c.as_slice.result.now c.in_ok-found.found c.as_slice.ensures.value c.in_ok-found.ensures.some history last c.in-Bank.group c.in-Bank.bank c.in-Bank.opened c.in-Bank.changed told.field-0 c.in-Bank.is told.ensures.there told.ensures.some told.ensures.own told.ensures.opened
+
+pub returns-in_err-change_of_own_bank-in-Bank : goal.returns-in_err-change_of_own_bank-in-Bank
+returns-in_err-change_of_own_bank-in-Bank c = λ history last broken.
+    subst (IsFound c.args.config.now c.args.start c.args.rule history c.args.entry.now) (sym c.from_residual-in_err-change_of_own_bank-in-Bank.ensures)
+    (untold_bank c.args.recent.now c.args.config.now c.args.start c.args.rule c.args.entry.now c.as_slice.result.now c.in_ok-found.found c.as_slice.ensures.value c.in_ok-found.ensures.some history last c.in-Bank.group c.in-Bank.bank c.in-Bank.opened c.in-Bank.changed c.in-Bank.is c.if-recent-eq0.false c.in_err-change_of_own_bank-in-Bank.ensures.none)

@@ -5,10 +5,13 @@ ghost use Rattle.std.specs.Box.Ownership.{box_owns};
 use std::alloc::Allocator;
 use std::marker::Model;
 
-pub(crate) struct Loose<T, A: Allocator> {
-    pub(crate) at: *mut T,
-    pub(crate) alloc: A,
-    pub(crate) ghost value: { T },
+/// The pointer and the allocator of a box that was taken apart, which together are the box still: whoever drops it leaks the block.
+pub struct Loose<T, A: Allocator> {
+    /// Where the value lies.
+    pub at: *mut T,
+    /// What the block came from.
+    pub alloc: A,
+    pub ghost value: { T },
 }
 
 impl<T, A: Allocator> Model for Loose<T, A> {
@@ -16,14 +19,16 @@ impl<T, A: Allocator> Model for Loose<T, A> {
 }
 
 impl<T: Drop, A: Allocator> Loose<T, A> {
-    pub(crate) fn of(value: Box<T, A>) -> Loose<T, A>
+    /// Takes a box apart.
+    pub fn of(value: Box<T, A>) -> Loose<T, A>
         ensures { result.value ≡ value.value }
     {
         let (at, alloc) = Box::into_raw_with_allocator(value);
         Loose { at, alloc }
     }
 
-    pub(crate) fn into_box(self) -> Box<T, A>
+    /// The box again.
+    pub fn into_box(self) -> Box<T, A>
         ensures { result.value ≡ self.value }
     {
         let Loose { at, alloc } = self;
