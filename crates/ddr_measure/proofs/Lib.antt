@@ -1,2 +1,4 @@
 mod ClassLemmas
 mod SumLemmas
+mod BandLemmas
+mod PercentileLemmas

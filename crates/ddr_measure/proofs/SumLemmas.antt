@@ -18,10 +18,10 @@ pub record IsWhole (spread : Distribution) : Type 0 where
   pub classes : sum_by (λ n. n) spread.classes ≡ spread.count
   pub many : length spread.classes ≡ 496
 
-none_whole : IsWhole no_distribution
+pub none_whole : IsWhole no_distribution
 none_whole = record { classes = refl; many = refl }
 
-class_within : (value : ℕ) → value < 2 ^ 64 → class_of value < 496
+pub class_within : (value : ℕ) → value < 2 ^ 64 → class_of value < 496
 class_within value held = omega (arith, scaled value held)
 
 one_more : (number : ℕ) → number + 1 < 2 ^ 64 → min (number + 1) (2 ^ 64 - 1) ≡ number + 1
@@ -47,7 +47,7 @@ value_whole value spread held few whole =
     )
 
 -- one request more, so many behind which so many may come
-request_whole : (group : Group) (span : Span) (spread : Distribution) (request : Timed) → clocks_of span request < 2 ^ 64 → spread.count + 1 < 2 ^ 64 → IsWhole spread
+pub request_whole : (group : Group) (span : Span) (spread : Distribution) (request : Timed) → clocks_of span request < 2 ^ 64 → spread.count + 1 < 2 ^ 64 → IsWhole spread
     → IsWhole (noted group span spread request) × ((noted group span spread request).count ≡ spread.count + cond (holds group request) 1 0)
 request_whole group span spread request held few whole = go (holds group request)
   where
@@ -72,3 +72,6 @@ pub adds_up : (group : Group) (span : Span) (requests : List Timed) → length r
 adds_up group span requests few held =
     let all = all_whole group span requests no_distribution (omega (arith, few)) held none_whole in
     record { count = all.1 ∙ omega arith; classes = all.0.classes }
+
+pub classes_many : (group : Group) (span : Span) (requests : List Timed) → length requests < 2 ^ 64 → AreHeld span requests → length (distribution_of group span requests).classes ≡ 496
+classes_many group span requests few held = (all_whole group span requests no_distribution (omega (arith, few)) held none_whole).0.many

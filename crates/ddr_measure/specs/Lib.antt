@@ -1,5 +1,6 @@
 pub mod Distributions
 pub mod Groups
+pub mod Percentiles
 pub mod Spans
 pub mod Sums
 pub mod Text

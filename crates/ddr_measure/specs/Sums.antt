@@ -1,5 +1,5 @@
 -- The numbers of a distribution together.
-use Rattle.std.specs.Prelude.{◌≡◌, ℕ, ◌<◌, ◌^◌, List, count_by, sum_by}
+use Rattle.std.specs.Prelude.{◌≡◌, ◌<◌, ◌^◌, List, count_by, sum_by}
 use Rattle.std.specs.List.{AllByRecursion}
 use Rattle.ddr_measure.specs.Groups.{distribution_of, holds}
 use Rattle.ddr_measure.specs.Spans.{clocks_of}

@@ -8,6 +8,7 @@
 
 pub mod distribution;
 pub mod group;
+pub mod percentiles;
 pub mod span;
 pub mod sums;
 pub mod text;

@@ -1,4 +1,4 @@
-use Rattle.std.proofs.Common.{◌≤◌, ◌-◌, ◌*◌, ◌^◌, subst, sym, arith, rules}
+use Rattle.std.proofs.Common.{◌≤◌, subst, rules}
 use Rattle.ddr_measure.proofs.ClassLemmas.{first_small}
 use Rattle.ddr_measure.proofs.distribution.first_of.Goals as goal
 

@@ -1,5 +1,4 @@
-use Rattle.std.proofs.Common.{◌≤◌, ◌+◌, ◌-◌, subst, sym, ap, ◌∙◌, arith}
-use Rattle.ddr_measure.specs.Distributions.{first_of}
+use Rattle.std.proofs.Common.{◌≤◌, subst, sym, arith}
 use Rattle.ddr_measure.proofs.ClassLemmas.{first_small, width_small}
 use Rattle.ddr_measure.proofs.distribution.last_of.Goals as goal
 

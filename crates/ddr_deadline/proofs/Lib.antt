@@ -1,0 +1,9 @@
+pub mod OldestLemmas
+pub mod ForcedLemmas
+pub mod BehindLemmas
+pub mod LegalLemmas
+pub mod GrowthLemmas
+pub mod WaitLemmas
+pub mod FreeLemmas
+pub mod SoonLemmas
+pub mod StartLemmas

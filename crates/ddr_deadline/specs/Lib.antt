@@ -1,0 +1,4 @@
+pub mod Behind
+pub mod Legal
+pub mod Oldest
+pub mod Wait
