@@ -3,7 +3,7 @@ ghost use Rattle.std.specs.Prelude.{◌≡◌, ◌+◌, ◌≤◌, ◌==◌, is_
 ghost use Rattle.std.specs.Option.{option_map};
 ghost use Rattle.std.specs.Result.{result_err};
 ghost use Rattle.ddr_address_map.specs.Map.{in_range};
-ghost use Rattle.ddr_reorder.specs.Replies.{front_number, lent_count, lent_service, nth_answer, nth_service, ready_count, said};
+ghost use Rattle.ddr_reorder.specs.Replies.{front_number, lent_count, lent_service, nth_answer, nth_service, ready_count, said, served_answer, served_service};
 ghost use Rattle.ddr_reorder.specs.Sound.{IsSound};
 ghost use Rattle.ddr_reorder.specs.State.{IsRecallable, awaits};
 ghost use Rattle.ddr_ports.specs.Asked.{Asked, asked_of};
@@ -166,6 +166,18 @@ impl PortCore {
         ensures sound { IsSound self.now.reorder }
     {
         self.reorder.nth(k)
+    }
+
+    /// The reply of an outstanding number once its line has come back, whether or not older ones are ready. It is `None` also where
+    /// the number isn't outstanding.
+    pub fn served(&self, number: u64) -> Option<Reply<'_>>
+        ensures answer { option_map said result ≡ served_answer self.now.reorder number }
+        ensures service { option_map lent_service result ≡ served_service self.now.reorder number }
+        ensures number { IfSome result (λ reply. reply.number ≡ number) }
+        ensures count { IfSome result (λ reply. length reply.bytes.now ≡ lent_count reply.echo) }
+        ensures sound { IsSound self.now.reorder }
+    {
+        self.reorder.served(number)
     }
 
     /// How many replies are ready: the oldest numbers, up to the first whose line has not come back.

@@ -1,10 +1,10 @@
 -- The outstanding list, as the ring's slots under their numbers.
 use Rattle.std.proofs.Common.{◌≡◌, ℕ, zero, suc, ◌+◌, ◌<◌, Bool, true, false, ◌||◌, nat_eq, List, [], ◌∷◌, ◌++◌, length, map, take, drop, set, Option, Some, None, is_some, is_none, refl, ap, arith}
-use Rattle.std.specs.List.{list_any, prefix_len, range_with_len, slice_get}
+use Rattle.std.specs.List.{find, list_any, prefix_len, range_with_len, slice_get}
 use Rattle.std.proofs.lemmas.Bool.Decides.{nat_tests}
 use Rattle.std.specs.Option.{option_map, option_map_or}
 use Rattle.ddr_address_map.specs.declared.request.Echo.{Echo}
-use Rattle.ddr_reorder.specs.Replies.{is_filled}
+use Rattle.ddr_reorder.specs.Replies.{has_number, is_filled}
 use Rattle.ddr_reorder.specs.State.{Outstanding, is_awaited, filled}
 use Rattle.ddr_reorder.specs.View.{has_line, waits_for, outstanding_of, numbered}
 use Rattle.ddr_reorder.specs.declared.reply.Service.{Service}
@@ -100,3 +100,18 @@ awaited_at number echo f (slot ∷ slots) zero e =
 awaited_at number echo f (slot ∷ slots) (suc i) e =
     let off : nat_eq f number ≡ false = grind (arith, nat_tests) in
     rw off (awaited_at number echo (f + 1) slots i (omega arith))
+
+-- no slot has a number below the first
+pub found_below : (number f : ℕ) (slots : List Slot) → number < f → find (has_number number) (numbered f slots) ≡ None
+found_below number f [] below = refl
+found_below number f (slot ∷ slots) below = rw (other_number f number below) (found_below number (f + 1) slots (omega arith))
+
+-- a number has the slot at its distance from the first
+pub found_at : (number f : ℕ) (slots : List Slot) (i : ℕ) → f + i ≡ number → find (has_number number) (numbered f slots) ≡ option_map (outstanding_of number) (slice_get slots i)
+found_at number f [] i e = refl
+found_at number f (slot ∷ slots) zero e =
+    let first : f ≡ number = omega arith in
+    rw (same_number f number first) (ap (λ n. Some (outstanding_of n slot)) first)
+found_at number f (slot ∷ slots) (suc i) e =
+    let off : nat_eq f number ≡ false = grind (arith, nat_tests) in
+    rw off (found_at number (f + 1) slots i (omega arith))

@@ -5,13 +5,13 @@ use Rattle.std.specs.Option.{option_and_then, option_map}
 use Rattle.std.proofs.lemmas.List.{length-take-le}
 use Rattle.std.proofs.lemmas.List.Sums.{prefix_len-le-length}
 use Rattle.std.proofs.lemmas.Option.{slice_get_past}
-use Rattle.ddr_reorder.specs.Replies.{Answer, answer_of, filled_prefix, front_number, is_filled, nth_answer, nth_service, ready_count}
+use Rattle.ddr_reorder.specs.Replies.{Answer, answer_of, filled_prefix, front_number, is_filled, nth_answer, nth_service, outstanding_at, ready_count}
 use Rattle.ddr_reorder.specs.State.{Outstanding, ReorderState}
 use Rattle.ddr_reorder.specs.View.{outstanding_of, state_of, IsWithin, IsWhole}
 use Rattle.ddr_reorder.specs.declared.reorder.Reorder.TheInside.{Inside}
 use Rattle.ddr_reorder.specs.declared.slot.Returned.{Returned}
 use Rattle.ddr_reorder.specs.declared.slot.Slot.{Slot}
-use Rattle.ddr_reorder.proofs.Numbered.{length-numbered, prefix_len-numbered, slice_get-numbered}
+use Rattle.ddr_reorder.proofs.Numbered.{found_at, found_below, length-numbered, prefix_len-numbered, slice_get-numbered}
 use Rattle.ddr_reorder.proofs.Prefix.{slice_get-take}
 
 -- the number of the oldest slot
@@ -63,6 +63,18 @@ nth_slot a k n o whole within first at = within_ready answer_of a k n o whole wi
 pub service_slot : (a : Inside) (k n : ℕ) (o : Option Slot) → IsWhole a → k < a.ready → n ≡ first_of a → slice_get a.slots.items k ≡ o
     → nth_service (state_of a) k ≡ option_and_then (λ slot. (outstanding_of (n + k) slot).service) o
 service_slot a k n o whole within first at = within_ready (λ o. o.service) a k n o whole within first at
+
+-- what an outstanding number has come to, by its slot
+pub served_slot : {Y : Type 0} (f : Outstanding → Option Y) (a : Inside) (number i : ℕ) (o : Option Slot) → first_of a + i ≡ number → slice_get a.slots.items i ≡ o
+    → option_and_then f (outstanding_at (state_of a) number) ≡ option_and_then (λ slot. f (outstanding_of number slot)) o
+served_slot f a number i o at there =
+    ap (option_and_then f) (found_at number (first_of a) a.slots.items i at)
+    ∙ and_then-map f (outstanding_of number) (slice_get a.slots.items i)
+    ∙ ap (option_and_then (λ slot. f (outstanding_of number slot))) there
+
+-- a number before the oldest is none
+pub served_below : {Y : Type 0} (f : Outstanding → Option Y) (a : Inside) (number : ℕ) → number < first_of a → option_and_then f (outstanding_at (state_of a) number) ≡ None
+served_below f a number below = ap (option_and_then f) (found_below number (first_of a) a.slots.items below)
 
 -- the oldest number, as it was told
 pub first_is : (a : Inside) (s : ReorderState) (n : ℕ) → IsWhole a → state_of a ≡ s → n + length s.outstanding ≡ s.next → n ≡ first_of a

@@ -1,6 +1,6 @@
 -- What is lent of the outstanding numbers whose lines have come back.
-use Rattle.std.specs.Prelude.{ℕ, ◌+◌, ◌%◌, Bool, List, [], length, Option, is_some, slice_get, slice_range}
-use Rattle.std.specs.List.{take_while}
+use Rattle.std.specs.Prelude.{ℕ, ◌+◌, ◌%◌, ◌==◌, Bool, List, [], length, Option, is_some, slice_get, slice_range}
+use Rattle.std.specs.List.{find, take_while}
 use Rattle.std.specs.Option.{option_map, option_and_then}
 use Rattle.ddr_timing.specs.declared.units.TheConstants.{LINE_BYTES}
 use Rattle.ddr_address_map.specs.declared.request.Echo.{Echo}
@@ -66,3 +66,18 @@ nth_service s k = option_and_then (λ o. o.service) (slice_get (filled_prefix s)
 -- the number of the oldest reply, where it stands ready
 abbrev pub front_number : ReorderState → Option ℕ
 front_number s = option_map (λ answer. answer.number) (nth_answer s 0)
+
+-- the outstanding number, where it is one
+abbrev pub has_number : ℕ → Outstanding → Bool
+has_number number o = o.number == number
+
+abbrev pub outstanding_at : ReorderState → ℕ → Option Outstanding
+outstanding_at s number = find (has_number number) s.outstanding
+
+-- the reply to it, once its line has come back, whether or not older ones stand ready
+abbrev pub served_answer : ReorderState → ℕ → Option Answer
+served_answer s number = option_and_then answer_of (outstanding_at s number)
+
+-- when its request was served
+abbrev pub served_service : ReorderState → ℕ → Option Service
+served_service s number = option_and_then (λ o. o.service) (outstanding_at s number)

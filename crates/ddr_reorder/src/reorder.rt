@@ -2,7 +2,7 @@
 ghost use Rattle.std.specs.Prelude.{◌≡◌, ◌+◌, ◌≤◌, IfSome, is_ok, IfErr, IfOk, OnErr, OnOk, OnSome, IfNone, length};
 ghost use Rattle.std.specs.Option.{option_map};
 ghost use Rattle.std.specs.Result.{result_err};
-ghost use Rattle.ddr_reorder.specs.Replies.{front_number, lent_count, lent_service, nth_answer, nth_service, ready_count, said};
+ghost use Rattle.ddr_reorder.specs.Replies.{front_number, lent_count, lent_service, nth_answer, nth_service, ready_count, said, served_answer, served_service};
 ghost use Rattle.ddr_reorder.specs.Sound.{IsSound};
 ghost use Rattle.ddr_reorder.specs.State.{ReorderState, IsWithinLine, opened, issue_refusal, after_issue, IsRecallable, after_recall, awaits, after_fill, after_release};
 
@@ -162,6 +162,21 @@ impl Reorder {
         let number = self.first() + k as u64;
         let slot = self.slots.get(k)?;
         slot.reply(number)
+    }
+
+    /// The reply of an outstanding number once its line has come back, whether or not older ones are ready. It is `None` also where
+    /// the number isn't outstanding.
+    pub fn served(&self, number: u64) -> Option<Reply<'_>>
+        ensures answer { option_map said result ≡ served_answer self.now number }
+        ensures service { option_map lent_service result ≡ served_service self.now number }
+        ensures number { IfSome result (λ reply. reply.number ≡ number) }
+        ensures count { IfSome result (λ reply. length reply.bytes.now ≡ lent_count reply.echo) }
+        ensures sound { IsSound self.now }
+    {
+        let slots = &self.slots;
+        let index = number.checked_sub(self.first())?;
+        let outstanding = slots.get(index as usize)?;
+        outstanding.reply(number)
     }
 
     /// How many replies are ready: the oldest numbers, up to the first whose line has not come back.

@@ -10,7 +10,7 @@ use Rattle.ddr_address_map.specs.declared.request.Kind.TheVariants.{Read, Write}
 use Rattle.ddr_timing.specs.declared.config.Config.{Config}
 use Rattle.ddr_address_map.specs.declared.request.Echo.{Echo}
 use Rattle.ddr_address_map.specs.Requests.{Request, Completion}
-use Rattle.ddr_channel.proofs.HeldLemmas.{weigh_request, weigh_done, held, sum_replaced, sum_dropped, sum_last}
+use Rattle.ddr_channel.proofs.HeldLemmas.{weigh_request, weigh_done, sum_replaced, sum_dropped, sum_last}
 use Rattle.ddr_channel.proofs.ListLemmas.{at_map}
 use Rattle.ddr_channel.specs.Promise.{requests_of}
 use Rattle.ddr_channel.specs.State.{is_queue_full}
@@ -26,9 +26,9 @@ use Rattle.ddr_world.specs.Served.{WasServed}
 use Rattle.ddr_world.specs.State.{PortSide, ChannelSide, State}
 use Rattle.ddr_world.specs.Step.{with_port, with_channel, queued, after_take, sent, after_deliver, after_collect, after_release, after_end}
 use Rattle.ddr_world.proofs.CoreCounts.{requests_in-append, number_at, weigh_waiting, sum_filled}
-use Rattle.ddr_world.proofs.CoreFrames.{with_next_other, with_next_same, before_or_last, channels_after, ports_after, channel_changed, port_changed, admitted_keeps, popped_keeps}
-use Rattle.ddr_world.proofs.CoreKeeps.{requests_in, ChannelKeeps, Right, IsSettledAt, PortKeeps, PortServed, CoreKeeps, weight, held_in, delivered_in, waiting_in, grows_none, replaced_at}
-use Rattle.ddr_world.proofs.CoreReplies.{awaited, awaited_test, done_right, same_request, IsFront, is_front, lent_next}
+use Rattle.ddr_world.proofs.CoreFrames.{with_next_other, with_next_same, before_or_last, channels_after, ports_after, channel_changed, queue_changed, port_changed, admitted_keeps, popped_keeps}
+use Rattle.ddr_world.proofs.CoreKeeps.{requests_in, ChannelKeeps, Right, IsSettledAt, PortKeeps, PortServed, CoreKeeps, weight, held_in, delivered_in, waiting_in, grows_none, port_with, replaced_at}
+use Rattle.ddr_world.proofs.CoreReplies.{awaited, awaited_test, done_right, same_request, IsLent, is_front, lent_next}
 use Rattle.ddr_world.proofs.CoreServed.{done_served, port_served_still, traces_grow}
 use Rattle.ddr_world.proofs.PlaceLemmas.{placed_in_range}
 
@@ -60,18 +60,7 @@ take_request_keeps o h c side r rest k was items free =
 pub take_end_keeps : (o : Opening) (h : History) (c : ℕ) (side : ChannelSide) (p : ℕ) (rest : List Item) → CoreKeeps o h → slice_get h.state.channels c ≡ Some side
     → side.requests ≡ item.End p ∷ rest → CoreKeeps o (record h { state = with_channel c (after_take (item.End p) side) h.state })
 take_end_keeps o h c side p rest k was items =
-    let keeps = k.channels c side was in
-    let same : requests_in (drop 1 side.requests) ≡ requests_in side.requests = ap (λ (its : List Item). requests_in (drop 1 its)) items ∙ ap requests_in (sym items) in
-    channel_changed o h h.admitted c side (after_take (item.End p) side) k was (λ i other. refl)
-    (record {
-      calls = keeps.calls;
-      calls_are = keeps.calls_are;
-      state = keeps.state;
-      admitted_are = keeps.admitted_are;
-      accepted_are = ap (λ (rs : List Request). h.admitted c ++ rs) same ∙ keeps.accepted_are;
-    })
-    (grows_none side.channel.trace side.channel.trace refl)
-    (λ f i. ap (λ (rs : List Request). sum_by (weigh_request (weight f i)) rs + held (weight f i) side.channel) same)
+    queue_changed o h c side (after_take (item.End p) side) k was refl (ap (λ (its : List Item). requests_in (drop 1 its)) items ∙ ap requests_in (sym items))
 
 -- Deliver
 
@@ -86,23 +75,11 @@ delivered_served config s d port k told = record {
 
 delivered_keeps : (o : Opening) (h : History) (d : Completion) (port : PortSide) → PortKeeps o h.accepted (h.sent d.port) (h.taken d.port) d.port port → Right o.number h.accepted (h.sent d.port) d
     → PortKeeps o h.accepted (h.sent d.port) (h.taken d.port) d.port (after_deliver d port)
-delivered_keeps o h d port k right = record {
-  port = k.port;
-  geometry = k.geometry;
-  window = k.window;
-  next = k.next;
-  numbers = k.numbers;
-  accepted_are = k.accepted_are;
-  taken_are = k.taken_are;
-  counted = k.counted;
-  ends = k.ends;
-  ended = k.ended;
-  settled = k.settled;
-  right = λ j x is. elim (before_or_last port.completions d x j is) [
-    | inl before ↦ k.right j x before
-    | inr last ↦ subst (λ (y : Completion). Right o.number h.accepted (h.sent d.port) y) (sym last.1) right
-  ];
-}
+delivered_keeps o h d port k right =
+    port_with o h.accepted h.accepted (h.sent d.port) (h.taken d.port) d.port port port.core.finished (port.completions ++ d ∷ []) port.pushed k refl k.ended k.settled (λ j x is. elim (before_or_last port.completions d x j is) [
+      | inl before ↦ k.right j x before
+      | inr last ↦ subst (λ (y : Completion). Right o.number h.accepted (h.sent d.port) y) (sym last.1) right
+    ])
 
 pub deliver_keeps : (o : Opening) (h : History) (c : ℕ) (side : ChannelSide) (d : Completion) (port : PortSide) → CoreKeeps o h → slice_get h.state.channels c ≡ Some side → slice_get side.channel.done 0 ≡ Some d
     → slice_get h.state.ports d.port ≡ Some port → CoreKeeps o (record h { state = with_port d.port (after_deliver d port) (with_channel c (sent side) h.state) })
@@ -249,7 +226,7 @@ one_less : {X : Type 0} (xs : List X) (x : X) → slice_get xs 0 ≡ Some x → 
 one_less [] x is = cc
 one_less (y ∷ ys) x is = refl
 
-released_keeps : (o : Opening) (h : History) (p : ℕ) (port : PortSide) (a : Answer) → PortKeeps o h.accepted (h.sent p) (h.taken p) p port → IsFront port.core.reorder a
+released_keeps : (o : Opening) (h : History) (p : ℕ) (port : PortSide) (a : Answer) → PortKeeps o h.accepted (h.sent p) (h.taken p) p port → IsLent port.core.reorder 0 a
     → PortKeeps o h.accepted (h.sent p) (h.taken p ++ a ∷ []) p (after_release port)
 released_keeps o h p port a k front =
     let xs = port.core.reorder.outstanding in
@@ -297,20 +274,8 @@ release_keeps o h p port a k was is =
 -- End
 
 ended_keeps : (o : Opening) (h : History) (p c : ℕ) (port : PortSide) → PortKeeps o h.accepted (h.sent p) (h.taken p) p port → PortKeeps o h.accepted (h.sent p) (h.taken p) p (after_end c port)
-ended_keeps o h p c port k = record {
-  port = k.port;
-  geometry = k.geometry;
-  window = k.window;
-  next = k.next;
-  numbers = k.numbers;
-  accepted_are = k.accepted_are;
-  taken_are = k.taken_are;
-  counted = k.counted;
-  ends = length-set port.pushed c true ∙ k.ends;
-  ended = λ i is. refl;
-  settled = k.settled;
-  right = k.right;
-}
+ended_keeps o h p c port k =
+    port_with o h.accepted h.accepted (h.sent p) (h.taken p) p port true port.completions (set port.pushed c true) k (length-set port.pushed c true) (λ i is. refl) k.settled k.right
 
 pub end_keeps : (o : Opening) (h : History) (p c : ℕ) (port : PortSide) (side : ChannelSide) → CoreKeeps o h → slice_get h.state.ports p ≡ Some port → slice_get h.state.channels c ≡ Some side
     → CoreKeeps o (record h { state = with_channel c (queued (item.End p) side) (with_port p (after_end c port) h.state) })
@@ -318,15 +283,4 @@ end_keeps o h p c port side k was there =
     let first : History = record h { state = with_port p (after_end c port) h.state } in
     let finished : CoreKeeps o first = port_changed o h h.taken p port (after_end c port) k was (λ i other. refl) (ended_keeps o h p c port (k.ports p port was))
     (record { queue = (k.served p port was).queue; filled = (k.served p port was).filled }) (k.taken p) (λ f. refl) in
-    let keeps = k.channels c side there in
-    let same : requests_in (side.requests ++ item.End p ∷ []) ≡ requests_in side.requests = requests_in-append side.requests (item.End p ∷ []) ∙ append-nil (requests_in side.requests) in
-    channel_changed o first h.admitted c side (queued (item.End p) side) finished there (λ i other. refl)
-    (record {
-      calls = keeps.calls;
-      calls_are = keeps.calls_are;
-      state = keeps.state;
-      admitted_are = keeps.admitted_are;
-      accepted_are = ap (λ (rs : List Request). h.admitted c ++ rs) same ∙ keeps.accepted_are;
-    })
-    (grows_none side.channel.trace side.channel.trace refl)
-    (λ f i. ap (λ (rs : List Request). sum_by (weigh_request (weight f i)) rs + held (weight f i) side.channel) same)
+    queue_changed o first c side (queued (item.End p) side) finished there refl (requests_in-append side.requests (item.End p ∷ []) ∙ append-nil (requests_in side.requests))

@@ -18,7 +18,7 @@ use Rattle.ddr_channel.specs.History.{Call, Admit, Cycle, Pop, begun, after_call
 use Rattle.ddr_channel.specs.Promise.{MayCall}
 use Rattle.ddr_channel.specs.State as channel_state
 use Rattle.ddr_channel.specs.State.{after_admit, after_pop, is_queue_full}
-use Rattle.ddr_channel.proofs.HeldLemmas.{weigh_request, held_cycle, sum_replaced}
+use Rattle.ddr_channel.proofs.HeldLemmas.{weigh_request, held, held_cycle, sum_replaced}
 use Rattle.ddr_channel.proofs.ListLemmas.{All-last}
 use Rattle.ddr_channel.proofs.StandsLemmas.{cycle_accepted}
 use Rattle.ddr_channel.proofs.ToldLemmas.{told_traced}
@@ -155,6 +155,22 @@ channel_changed o h admitted c old new k was others keeps longer same = record {
       let none = k.no_channel i past' in
       (none.0, others i (past_other h.state.channels c i old was past') ∙ none.1);
 }
+
+-- of the channel no more changes than its queue and the Ends that it noted, and the queue has the same requests
+pub queue_changed : (o : Opening) (h : History) (c : ℕ) (old new : ChannelSide) → CoreKeeps o h → slice_get h.state.channels c ≡ Some old → new.channel ≡ old.channel → requests_in new.requests ≡ requests_in old.requests
+    → CoreKeeps o (record h { state = with_channel c new h.state })
+queue_changed o h c old new k was same requests =
+    let keeps = k.channels c old was in
+    channel_changed o h h.admitted c old new k was (λ i other. refl)
+    (record {
+      calls = keeps.calls;
+      calls_are = keeps.calls_are;
+      state = same ∙ keeps.state;
+      admitted_are = keeps.admitted_are;
+      accepted_are = ap (λ (rs : List Request). h.admitted c ++ rs) requests ∙ keeps.accepted_are;
+    })
+    (grows_none old.channel.trace new.channel.trace (ap (λ (s : channel_state.State). s.trace) same))
+    (λ f p. ap₂ (λ (rs : List Request) (s : channel_state.State). sum_by (weigh_request (weight f p)) rs + held (weight f p) s) requests same)
 
 -- one port alone
 

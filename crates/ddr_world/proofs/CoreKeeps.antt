@@ -1,5 +1,5 @@
 -- What every record of events keeps of the core, from which its promise follows.
-use Rattle.std.proofs.Common.{◌≡◌, ◌≢◌, ℕ, ◌+◌, ◌≤◌, ◌⊎◌, true, cond, eqb, List, [], ◌∷◌, ◌++◌, Some, IfSome, is_none, map, take, length, set, append-nil, refl, sym, ap, subst, ◌∙◌, inl, inr, arith}
+use Rattle.std.proofs.Common.{◌≡◌, ◌≢◌, ℕ, ◌+◌, ◌≤◌, ◌⊎◌, Bool, true, cond, eqb, List, [], ◌∷◌, ◌++◌, Some, IfSome, is_none, map, take, length, set, append-nil, refl, sym, ap, subst, ◌∙◌, inl, inr, arith}
 use Rattle.std.specs.List.{sum_by, range_with_len, slice_get}
 use Rattle.std.proofs.lemmas.Bool.Decides.{eqb_tells}
 use Rattle.std.proofs.lemmas.Option.{slice_get_within}
@@ -181,9 +181,12 @@ settled_at_still old new was now k e grows sent s = record {
   settled = settled_still old new s.at e grows s.settled;
 }
 
--- of a port that the event leaves alone
-pub port_still : (o : Opening) (old new : ℕ → List Request) (sent : List Whereabouts) (taken : List Answer) (p : ℕ) (side : PortSide) → ((c : ℕ) → Grows (old c) (new c)) → PortKeeps o old sent taken p side → PortKeeps o new sent taken p side
-port_still o old new sent taken p side grows k = record {
+-- of a port of which an event changed no more than its completions, its Ends and whether it is finished
+pub port_with : (o : Opening) (old new : ℕ → List Request) (sent : List Whereabouts) (taken : List Answer) (p : ℕ) (side : PortSide) (finished : Bool) (completions : List Completion) (pushed : List Bool) → PortKeeps o old sent taken p side
+    → length pushed ≡ length side.pushed → ((c : ℕ) → slice_get pushed c ≡ Some true → finished ≡ true)
+    → ((j : ℕ) (e : Outstanding) → slice_get side.core.reorder.outstanding j ≡ Some e → IsSettledAt new sent (length taken + j) e) → ((j : ℕ) (d : Completion) → slice_get completions j ≡ Some d → Right o.number new sent d)
+    → PortKeeps o new sent taken p (record side { core = record side.core { finished = finished }; completions = completions; pushed = pushed })
+port_with o old new sent taken p side finished completions pushed k ends ended settled right = record {
   port = k.port;
   geometry = k.geometry;
   window = k.window;
@@ -192,11 +195,18 @@ port_still o old new sent taken p side grows k = record {
   accepted_are = k.accepted_are;
   taken_are = k.taken_are;
   counted = k.counted;
-  ends = k.ends;
-  ended = k.ended;
-  settled = λ j e is. settled_at_still old new sent sent (length taken + j) e grows (grows_none sent sent refl) (k.settled j e is);
-  right = λ j d is. right_still o.number old new sent sent d grows (grows_none sent sent refl) (k.right j d is);
+  ends = ends ∙ k.ends;
+  ended = ended;
+  settled = settled;
+  right = right;
 }
+
+-- of a port that the event leaves alone
+pub port_still : (o : Opening) (old new : ℕ → List Request) (sent : List Whereabouts) (taken : List Answer) (p : ℕ) (side : PortSide) → ((c : ℕ) → Grows (old c) (new c)) → PortKeeps o old sent taken p side → PortKeeps o new sent taken p side
+port_still o old new sent taken p side grows k =
+    port_with o old new sent taken p side side.core.finished side.completions side.pushed k refl k.ended
+    (λ j e is. settled_at_still old new sent sent (length taken + j) e grows (grows_none sent sent refl) (k.settled j e is))
+    (λ j d is. right_still o.number old new sent sent d grows (grows_none sent sent refl) (k.right j d is))
 
 -- a list one of whose elements was replaced
 pub replaced_at : {X : Type 0} (xs : List X) (i j : ℕ) (old x y : X) → slice_get xs i ≡ Some old → slice_get (set xs i x) j ≡ Some y → ((j ≡ i) × (y ≡ x)) ⊎ ((j ≢ i) × (slice_get xs j ≡ Some y))

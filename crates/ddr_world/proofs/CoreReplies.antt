@@ -1,8 +1,8 @@
 -- A completion that is done is the right one, its port waits for it, and the reply that a port lends is the next.
 use Rattle.std.proofs.Common.{◌≡◌, ℕ, zero, suc, ◌+◌, ◌%◌, ◌≤◌, Bool, true, false, cond, ◌||◌, List, [], ◌∷◌, ◌++◌, Option, Some, None, IfSome, take, length, refl, sym, ap, subst, ◌∙◌, arith}
-use Rattle.std.specs.List.{sum_by, slice_get, slice_range, list_any, take_while, prefix_len, AllByRecursion}
+use Rattle.std.specs.List.{find, sum_by, slice_get, slice_range, list_any, AllByRecursion}
 use Rattle.std.specs.Option.{option_map, option_and_then}
-use Rattle.std.proofs.lemmas.Bool.{eq-eqb}
+use Rattle.std.proofs.lemmas.Bool.{eq-eqb, eqb-true}
 use Rattle.std.proofs.lemmas.List.{append_assoc}
 use Rattle.circular_buffer.proofs.Places.{slice_get-append_right}
 use Rattle.ddr_address_map.specs.declared.request.Echo.{Echo}
@@ -18,7 +18,7 @@ use Rattle.ddr_channel.specs.State as channel_state
 use Rattle.ddr_channel.proofs.HeldLemmas.{part_of_sum}
 use Rattle.ddr_channel.proofs.ListLemmas.{at_map, mapped_at}
 use Rattle.ddr_channel.proofs.PromiseLemmas.{promise_kept}
-use Rattle.ddr_reorder.specs.Replies.{Answer, asked_bytes, lent_bytes, answer_of, is_filled, nth_answer}
+use Rattle.ddr_reorder.specs.Replies.{Answer, asked_bytes, lent_bytes, answer_of, filled_prefix, has_number, nth_answer, outstanding_at, served_answer}
 use Rattle.ddr_reorder.specs.State.{Outstanding, ReorderState, is_same_kind, is_same_echo, is_awaited, awaits}
 use Rattle.ddr_world.specs.History.{Opening, Whereabouts, History}
 use Rattle.ddr_world.specs.Promise.{bytes_after, bytes_for, reply_of, reply_at, replies_of_port}
@@ -174,63 +174,101 @@ awaited_test o h p side d a =
 
 -- the reply that a port lends
 
-pub record IsFront (s : ReorderState) (a : Answer) : Type 0 where
+-- of a number, the line that came back for it
+pub record IsLent (s : ReorderState) (j : ℕ) (a : Answer) : Type 0 where
   pub entry : Outstanding
   pub line : List ℕ
-  pub there : slice_get s.outstanding 0 ≡ Some entry
+  pub there : slice_get s.outstanding j ≡ Some entry
   pub filled : entry.line ≡ Some line
   pub answer : record { number = entry.number; echo = entry.echo; bytes = lent_bytes entry.echo line } ≡ a
 
-front_by : (e : Outstanding) (rest : List Outstanding) (a : Answer) (l : Option (List ℕ)) (b : Bool) → e.line ≡ l → is_filled e ≡ b → option_and_then answer_of (slice_get (take (cond b (1 + prefix_len is_filled rest) 0) (e ∷ rest)) 0) ≡ Some a
-    → (line : List ℕ) × (e.line ≡ Some line) × (record { number = e.number; echo = e.echo; bytes = lent_bytes e.echo line } ≡ a)
-front_by e rest a None b none test is = absurd (by_test b test is)
-  where
-    by_test : (b : Bool) → is_filled e ≡ b → option_and_then answer_of (slice_get (take (cond b (1 + prefix_len is_filled rest) 0) (e ∷ rest)) 0) ≡ Some a → ⊥
-    by_test true test is =
-        let no_answer : answer_of e ≡ None = ap (λ (l : Option (List ℕ)). option_map (λ line. record { number = e.number; echo = e.echo; bytes = lent_bytes e.echo line }) l) none in
-        let more : suc (prefix_len is_filled rest) ≡ 1 + prefix_len is_filled rest = omega arith in
-        let here : answer_of e ≡ Some a = ap (λ n. option_and_then answer_of (slice_get (take n (e ∷ rest)) 0)) more ∙ is in
-        cc
-    by_test false test is = cc
-front_by e rest a (Some line) true has test is =
-    let answer : answer_of e ≡ Some (record { number = e.number; echo = e.echo; bytes = lent_bytes e.echo line }) = ap (λ (l : Option (List ℕ)). option_map (λ line. record { number = e.number; echo = e.echo; bytes = lent_bytes e.echo line }) l) has in
-    let more : suc (prefix_len is_filled rest) ≡ 1 + prefix_len is_filled rest = omega arith in
-    let both : Some (record { number = e.number; echo = e.echo; bytes = lent_bytes e.echo line }) ≡ Some a = sym answer ∙ ap (λ n. option_and_then answer_of (slice_get (take n (e ∷ rest)) 0)) more ∙ is in
-    let same : record { number = e.number; echo = e.echo; bytes = lent_bytes e.echo line } ≡ a = cc in
-    (line, has, same)
-front_by e rest a (Some line) false has test is = cc
+pub some_of_then : {X Y : Type 0} (f : X → Option Y) (o : Option X) (y : Y) → option_and_then f o ≡ Some y → (x : X) × (o ≡ Some x) × (f x ≡ Some y)
+some_of_then f None y is = cc
+some_of_then f (Some x) y is = (x, refl, is)
 
-pub is_front : (s : ReorderState) (a : Answer) → nth_answer s 0 ≡ Some a → IsFront s a
-is_front s a is = by_list s.outstanding refl
+pub at_take : {X : Type 0} (n : ℕ) (xs : List X) (k : ℕ) (x : X) → slice_get (take n xs) k ≡ Some x → slice_get xs k ≡ Some x
+at_take zero xs k x is = cc
+at_take (suc n) [] k x is = is
+at_take (suc n) (y ∷ ys) zero x is = is
+at_take (suc n) (y ∷ ys) (suc k) x is = at_take n ys k x is
+
+-- an element that passes a test is one of them all
+pub record IsFound {X : Type 0} (test : X → Bool) (xs : List X) (x : X) : Type 0 where
+  pub place : ℕ
+  pub there : slice_get xs place ≡ Some x
+  pub passes : test x ≡ true
+
+pub found_place : {X : Type 0} (test : X → Bool) (xs : List X) (x : X) → find test xs ≡ Some x → IsFound test xs x
+found_place test [] x is = cc
+found_place test (y ∷ ys) x is = by_test (test y) refl is (found_place test ys x)
   where
-    by_list : (xs : List Outstanding) → s.outstanding ≡ xs → IsFront s a
-    by_list [] none = let no_answer : nth_answer s 0 ≡ None = ap (λ (es : List Outstanding). option_and_then answer_of (slice_get (take_while is_filled es) 0)) none in cc
-    by_list (e ∷ rest) some =
-        let here : option_and_then answer_of (slice_get (take_while is_filled (e ∷ rest)) 0) ≡ Some a = ap (λ (es : List Outstanding). option_and_then answer_of (slice_get (take_while is_filled es) 0)) (sym some) ∙ is in
-        let found = front_by e rest a e.line (is_filled e) refl refl here in
-        record { entry = e; line = found.0; there = ap (λ (es : List Outstanding). slice_get es 0) some; filled = found.1; answer = found.2 }
+    by_test : (b : Bool) → test y ≡ b → cond b (Some y) (find test ys) ≡ Some x → (find test ys ≡ Some x → IsFound test ys x) → IsFound test (y ∷ ys) x
+    by_test true passes is later = let same : y ≡ x = cc in record { place = 0; there = is; passes = subst (λ z. test z ≡ true) same passes }
+    by_test false passes is later = let rest = later is in record { place = suc rest.place; there = rest.there; passes = rest.passes }
+
+lent_by : (s : ReorderState) (j : ℕ) (e : Outstanding) (a : Answer) → slice_get s.outstanding j ≡ Some e → answer_of e ≡ Some a → IsLent s j a
+lent_by s j e a there is =
+    let found = some_of_map (λ line. record { number = e.number; echo = e.echo; bytes = lent_bytes e.echo line }) e.line a is in
+    record { entry = e; line = found.0; there = there; filled = found.1; answer = found.2 }
+
+pub is_front : (s : ReorderState) (a : Answer) → nth_answer s 0 ≡ Some a → IsLent s 0 a
+is_front s a is =
+    let lent = some_of_then answer_of (slice_get (filled_prefix s) 0) a is in
+    lent_by s 0 lent.0 a (at_take _ s.outstanding 0 lent.0 lent.1) lent.2
+
+-- the reply to an outstanding number
+pub record IsServed (s : ReorderState) (number : ℕ) (a : Answer) : Type 0 where
+  pub place : ℕ
+  pub lent : IsLent s place a
+  pub number_is : a.number ≡ number
+
+pub is_served : (s : ReorderState) (number : ℕ) (a : Answer) → served_answer s number ≡ Some a → IsServed s number a
+unfolding lent_by some_of_then
+is_served s number a is =
+    let told = some_of_then answer_of (outstanding_at s number) a is in
+    let found = found_place (has_number number) s.outstanding told.0 told.1 in
+    let lent = lent_by s found.place told.0 a found.there told.2 in
+    record {
+      place = found.place;
+      lent = lent;
+      number_is = ap (λ (x : Answer). x.number) (sym lent.answer) ∙ eqb-true told.0.number number found.passes;
+    }
 
 pub same_answer : (a b : Answer) → a.number ≡ b.number → a.echo ≡ b.echo → a.bytes ≡ b.bytes → a ≡ b
 same_answer a b number echo bytes = λ i. record { number = number i; echo = echo i; bytes = bytes i }
 
--- it is the next one of the port's replies
-pub lent_next : (o : Opening) (h : History) (p : ℕ) (side : PortSide) (a : Answer) → CoreKeeps o h → slice_get h.state.ports p ≡ Some side → nth_answer side.core.reorder 0 ≡ Some a
-    → slice_get (replies_of_port h p) (length (h.taken p)) ≡ Some (Some a)
-lent_next o h p side a k was is =
+-- it is the right one of the port's replies
+pub record IsRightly (o : Opening) (h : History) (p n : ℕ) (a : Answer) : Type 0 where
+  pub number : a.number ≡ o.number + n
+  pub right : slice_get (replies_of_port h p) n ≡ Some (Some a)
+
+pub lent_right : (o : Opening) (h : History) (p : ℕ) (side : PortSide) (j : ℕ) (a : Answer) → CoreKeeps o h → slice_get h.state.ports p ≡ Some side → IsLent side.core.reorder j a
+    → IsRightly o h p (length (h.taken p) + j) a
+lent_right o h p side j a k was lent =
     let keeps = k.ports p side was in
-    let front = is_front side.core.reorder a is in
-    let settled = keeps.settled 0 front.entry front.there in
-    let number = number_at (o.number + length (h.taken p)) side.core.reorder.outstanding 0 front.entry keeps.numbers front.there in
-    let n = length (h.taken p) in
-    let at : slice_get (h.sent p) n ≡ Some settled.at = ap (slice_get (h.sent p)) (omega arith) ∙ settled.sent_at in
+    let settled = keeps.settled j lent.entry lent.there in
+    let number = number_at (o.number + length (h.taken p)) side.core.reorder.outstanding j lent.entry keeps.numbers lent.there in
+    let n = length (h.taken p) + j in
+    let at : slice_get (h.sent p) n ≡ Some settled.at = settled.sent_at in
     let sent = k.sent p n settled.at at in
     let r = settled.settled.request in
     let same = same_request h.accepted (h.sent p) n n settled.at settled.at sent.request r refl at at sent.there settled.settled.there in
     let its_number : sent.request.number ≡ r.number = ap (λ (q : Request). q.number) same.1 in
-    let bytes : lent_bytes front.entry.echo front.line ≡ (reply_of (take settled.at.place (h.accepted settled.at.channel)) r).bytes =
-    subst (λ (l : Option (List ℕ)). IfSome l (λ line. lent_bytes front.entry.echo line ≡ (reply_of (take settled.at.place (h.accepted settled.at.channel)) r).bytes)) front.filled settled.settled.line in
+    let bytes : lent_bytes lent.entry.echo lent.line ≡ (reply_of (take settled.at.place (h.accepted settled.at.channel)) r).bytes =
+    subst (λ (l : Option (List ℕ)). IfSome l (λ line. lent_bytes lent.entry.echo line ≡ (reply_of (take settled.at.place (h.accepted settled.at.channel)) r).bytes)) lent.filled settled.settled.line in
     let reply : a ≡ reply_of (take settled.at.place (h.accepted settled.at.channel)) r =
-    sym front.answer ∙ same_answer _ _ (let numbers : front.entry.number ≡ r.number = omega (arith, number, sent.number, its_number) in numbers) settled.settled.echo bytes in
-    mapped_at (reply_at h) (h.sent p) n settled.at at
-    ∙ ap (λ (x : Option Request). Some (option_map (reply_of (take settled.at.place (h.accepted settled.at.channel))) x)) settled.settled.there
-    ∙ ap (λ (x : Answer). Some (Some x)) (sym reply)
+    sym lent.answer ∙ same_answer _ _ (let numbers : lent.entry.number ≡ r.number = omega (arith, number, sent.number, its_number) in numbers) settled.settled.echo bytes in
+    let told : a.number ≡ lent.entry.number = ap (λ (x : Answer). x.number) (sym lent.answer) in
+    record {
+      number = omega (arith, number, told);
+      right =
+          mapped_at (reply_at h) (h.sent p) n settled.at at
+          ∙ ap (λ (x : Option Request). Some (option_map (reply_of (take settled.at.place (h.accepted settled.at.channel))) x)) settled.settled.there
+          ∙ ap (λ (x : Answer). Some (Some x)) (sym reply);
+    }
+
+-- that in front is the next one
+pub lent_next : (o : Opening) (h : History) (p : ℕ) (side : PortSide) (a : Answer) → CoreKeeps o h → slice_get h.state.ports p ≡ Some side → nth_answer side.core.reorder 0 ≡ Some a
+    → slice_get (replies_of_port h p) (length (h.taken p)) ≡ Some (Some a)
+lent_next o h p side a k was is =
+    ap (slice_get (replies_of_port h p)) (omega arith) ∙ (lent_right o h p side 0 a k was (is_front side.core.reorder a is)).right

@@ -19,7 +19,7 @@ use Rattle.ddr_channel.proofs.HistoryLemmas.{kept_run}
 use Rattle.ddr_channel.proofs.ListLemmas.{at_map, mapped_at}
 use Rattle.ddr_channel.proofs.PromiseLemmas.{promise_kept}
 use Rattle.ddr_reorder.specs.declared.reply.Service.{Service}
-use Rattle.ddr_reorder.specs.Replies.{Answer, answer_of, filled_prefix, lent_bytes, nth_answer, nth_service}
+use Rattle.ddr_reorder.specs.Replies.{Answer, answer_of, filled_prefix, has_number, lent_bytes, nth_answer, nth_service, outstanding_at, served_answer, served_service}
 use Rattle.ddr_reorder.specs.State.{Outstanding}
 use Rattle.ddr_ports.specs.State.{service_of}
 use Rattle.ddr_world.specs.History.{Opening, History}
@@ -28,7 +28,7 @@ use Rattle.ddr_world.specs.Served.{WasServed}
 use Rattle.ddr_world.specs.State.{PortSide, ChannelSide, State}
 use Rattle.ddr_world.specs.Step.{with_channel}
 use Rattle.ddr_world.proofs.CoreKeeps.{PortServed, CoreKeeps, requests_in, Grows, grows_by, grows_none, there_still}
-use Rattle.ddr_world.proofs.CoreReplies.{done_answer}
+use Rattle.ddr_world.proofs.CoreReplies.{at_take, done_answer, found_place, some_of_then}
 
 -- what is told stays, as the traces grow
 
@@ -111,16 +111,6 @@ done_served o h c side d k was done =
 
 -- of the reply that a port lends
 
-some_of_then : {X Y : Type 0} (f : X → Option Y) (o : Option X) (y : Y) → option_and_then f o ≡ Some y → (x : X) × (o ≡ Some x) × (f x ≡ Some y)
-some_of_then f None y is = cc
-some_of_then f (Some x) y is = (x, refl, is)
-
-at_take : {X : Type 0} (n : ℕ) (xs : List X) (k : ℕ) (x : X) → slice_get (take n xs) k ≡ Some x → slice_get xs k ≡ Some x
-at_take zero xs k x is = cc
-at_take (suc n) [] k x is = is
-at_take (suc n) (y ∷ ys) zero x is = is
-at_take (suc n) (y ∷ ys) (suc k) x is = at_take n ys k x is
-
 answer_echo : (e : Outstanding) (a : Answer) → answer_of e ≡ Some a → e.echo ≡ a.echo
 answer_echo e a is = by_line e.line is
   where
@@ -128,14 +118,24 @@ answer_echo e a is = by_line e.line is
     by_line None is = cc
     by_line (Some line) is = let same : record { number = e.number; echo = e.echo; bytes = lent_bytes e.echo line } ≡ a = cc in ap (λ (x : Answer). x.echo) same
 
-pub front_served : (config : Config) (s : State) (side : PortSide) (a : Answer) (v : Service) → PortServed config s side → nth_answer side.core.reorder 0 ≡ Some a → nth_service side.core.reorder 0 ≡ Some v → WasServed config s a.echo v
-front_served config s side a v k answer service =
-    let first = slice_get (filled_prefix side.core.reorder) 0 in
-    let told = some_of_then (λ (e : Outstanding). e.service) first v service in
-    let lent = some_of_then answer_of first a answer in
+both_served : (config : Config) (s : State) (side : PortSide) (o : Option Outstanding) (a : Answer) (v : Service) → PortServed config s side
+    → ((e : Outstanding) → o ≡ Some e → (j : ℕ) × (slice_get side.core.reorder.outstanding j ≡ Some e)) → option_and_then answer_of o ≡ Some a → option_and_then (λ e. e.service) o ≡ Some v → WasServed config s a.echo v
+both_served config s side o a v k place answer service =
+    let told = some_of_then (λ (e : Outstanding). e.service) o v service in
+    let lent = some_of_then answer_of o a answer in
     let one : Some told.0 ≡ Some lent.0 = sym told.1 ∙ lent.1 in
     let same : told.0 ≡ lent.0 = cc in
     let echo : told.0.echo ≡ a.echo = ap (λ (e : Outstanding). e.echo) same ∙ answer_echo lent.0 a lent.2 in
-    let there = at_take _ side.core.reorder.outstanding 0 told.0 told.1 in
-    let served : WasServed config s told.0.echo v = subst (λ (o : Option Service). IfSome o (WasServed config s told.0.echo)) told.2 (k.filled 0 told.0 there) in
+    let there = place told.0 told.1 in
+    let served : WasServed config s told.0.echo v = subst (λ (o : Option Service). IfSome o (WasServed config s told.0.echo)) told.2 (k.filled there.0 told.0 there.1) in
     subst (λ (x : Echo). WasServed config s x v) echo served
+
+pub front_served : (config : Config) (s : State) (side : PortSide) (a : Answer) (v : Service) → PortServed config s side → nth_answer side.core.reorder 0 ≡ Some a → nth_service side.core.reorder 0 ≡ Some v → WasServed config s a.echo v
+front_served config s side a v k answer service =
+    both_served config s side (slice_get (filled_prefix side.core.reorder) 0) a v k (λ e is. (0, at_take _ side.core.reorder.outstanding 0 e is)) answer service
+
+pub number_served : (config : Config) (s : State) (side : PortSide) (number : ℕ) (a : Answer) (v : Service) → PortServed config s side → served_answer side.core.reorder number ≡ Some a
+    → served_service side.core.reorder number ≡ Some v → WasServed config s a.echo v
+number_served config s side number a v k answer service =
+    both_served config s side (outstanding_at side.core.reorder number) a v k
+    (λ e is. let found = found_place (has_number number) side.core.reorder.outstanding e is in (found.place, found.there)) answer service

@@ -3,6 +3,7 @@ pub mod SideLemmas
 mod StepLemmas
 mod StandsLemmas
 mod WholeLemmas
+mod SubmitLemmas
 mod OpenLemmas
 pub mod LineBytes
 pub mod CoreKeeps

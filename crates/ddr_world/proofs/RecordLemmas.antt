@@ -8,17 +8,18 @@ use Rattle.ddr_timing.specs.declared.config.Config.{Config}
 use Rattle.ddr_trace.specs.Legality.{IsLegal, IsRefreshed}
 use Rattle.ddr_channel.proofs.ListLemmas.{All-at}
 use Rattle.ddr_reorder.specs.declared.reply.Reply.{Reply}
-use Rattle.ddr_reorder.specs.Replies.{Answer, lent_service, said, nth_answer, nth_service}
+use Rattle.ddr_reorder.specs.Replies.{Answer, lent_service, said, nth_answer, nth_service, served_answer, served_service}
 use Rattle.ddr_world.specs.Close.{trace_of, IsRightTrace, GaveAll}
 use Rattle.ddr_world.specs.History.{Opening, History, front_of, run}
 use Rattle.ddr_world.specs.Kept.{KeptSide, Kept, Left, side_of, state_of}
 use Rattle.ddr_world.specs.Promise.{replies_of_port, KeepsPromise}
-use Rattle.ddr_world.specs.Record.{IsNext}
+use Rattle.ddr_world.specs.Record.{IsNext, IsRightAt}
 use Rattle.ddr_world.specs.Served.{WasServed, TellsService}
 use Rattle.ddr_world.specs.State.{PortSide, ChannelSide, State, IsPortDrained, IsDrained}
 use Rattle.ddr_world.proofs.CorePromise.{core_keeps_promise}
 use Rattle.ddr_world.proofs.CoreRuns.{run_keeps}
-use Rattle.ddr_world.proofs.CoreServed.{front_served}
+use Rattle.ddr_world.proofs.CoreReplies.{is_served, lent_right}
+use Rattle.ddr_world.proofs.CoreServed.{front_served, number_served}
 
 -- the reply that is lent is the next one of the port
 pub lent_is_next : (k : Kept) (p : ℕ) (side : PortSide) (result : Option Reply) → slice_get k.ports p ≡ Some side → option_map said result ≡ nth_answer side.core.reorder 0 → IfSome result (λ reply. IsNext k p (said reply))
@@ -38,6 +39,27 @@ lent_tells k p side (Some reply) there answer service = λ opening events stands
     let h = run opening events in
     let at : slice_get h.state.ports p ≡ Some side = ap (λ (s : State). slice_get s.ports p) (sym stands.state) ∙ there in
     let served = front_served opening.config h.state side (said reply) (lent_service reply) ((run_keeps opening events).served p side at) (sym answer) (sym service) in
+    subst₂ (λ (config : Config) (s : State). WasServed config s (said reply).echo (lent_service reply)) (sym stands.config) (sym stands.state) served
+
+-- the reply to a number is the right one
+pub served_is_right : (k : Kept) (p number : ℕ) (side : PortSide) (result : Option Reply) → slice_get k.ports p ≡ Some side → option_map said result ≡ served_answer side.core.reorder number
+    → IfSome result (λ reply. IsRightAt k p number (said reply))
+served_is_right k p number side None there is = tt
+served_is_right k p number side (Some reply) there is = λ opening events stands.
+    let h = run opening events in
+    let at : slice_get h.state.ports p ≡ Some side = ap (λ (s : State). slice_get s.ports p) (sym stands.state) ∙ there in
+    let served = is_served side.core.reorder number (said reply) (sym is) in
+    let right = lent_right opening h p side served.place (said reply) (run_keeps opening events) at served.lent in
+    (length (h.taken p) + served.place, sym served.number_is ∙ right.number, right.right)
+
+-- and it tells when its request was served
+pub served_tells : (k : Kept) (p number : ℕ) (side : PortSide) (result : Option Reply) → slice_get k.ports p ≡ Some side → option_map said result ≡ served_answer side.core.reorder number
+    → option_map lent_service result ≡ served_service side.core.reorder number → IfSome result (λ reply. TellsService k (said reply) (lent_service reply))
+served_tells k p number side None there answer service = tt
+served_tells k p number side (Some reply) there answer service = λ opening events stands.
+    let h = run opening events in
+    let at : slice_get h.state.ports p ≡ Some side = ap (λ (s : State). slice_get s.ports p) (sym stands.state) ∙ there in
+    let served = number_served opening.config h.state side number (said reply) (lent_service reply) ((run_keeps opening events).served p side at) (sym answer) (sym service) in
     subst₂ (λ (config : Config) (s : State). WasServed config s (said reply).echo (lent_service reply)) (sym stands.config) (sym stands.state) served
 
 told_by_index : {X : Type 0} (f : X → ℕ) (g : ℕ → ℕ) (a : ℕ) (xs : List X) → ((i : ℕ) (x : X) → slice_get xs i ≡ Some x → f x ≡ g (a + i)) → map f xs ≡ map g (range_with_len a (length xs))

@@ -4,7 +4,7 @@ use Rattle.std.specs.Prelude.{ℕ, ◌==◌, if◌then◌else◌, List, [], ◌�
 use Rattle.std.specs.Option.{option_and_then, option_map_or}
 use Rattle.ddr_timing.specs.declared.config.Config.{Config}
 use Rattle.ddr_address_map.specs.Requests.{Request}
-use Rattle.ddr_reorder.specs.Replies.{Answer, nth_answer}
+use Rattle.ddr_reorder.specs.Replies.{Answer, nth_answer, served_answer}
 use Rattle.ddr_ports.specs.Asked.{Asked}
 use Rattle.ddr_ports.specs.State.{request_at}
 use Rattle.ddr_world.specs.declared.event.Outcome.{Outcome}
@@ -82,6 +82,10 @@ next_item s c = option_and_then (λ side. slice_get side.requests 0) (slice_get 
 -- the reply that the port lends
 abbrev pub front_of : State → ℕ → Option Answer
 front_of s p = option_and_then (λ port. nth_answer port.core.reorder 0) (slice_get s.ports p)
+
+-- the reply to the port's request of a number, once its line is there
+abbrev pub served_of : State → ℕ → ℕ → Option Answer
+served_of s p number = option_and_then (λ port. served_answer port.core.reorder number) (slice_get s.ports p)
 
 -- what is noted of a made event, before the state changes
 abbrev pub note : Event → History → History

@@ -1,5 +1,5 @@
 -- The records that a core stands for.
-use Rattle.std.specs.Prelude.{◌≡◌, ℕ, List, [], ◌∷◌, ◌++◌, length, map, count_by, slice_get, Some, Result, Ok, Err, is_ok, is_err}
+use Rattle.std.specs.Prelude.{◌≡◌, ℕ, ◌+◌, List, [], ◌∷◌, ◌++◌, length, map, count_by, slice_get, Some, Result, Ok, Err, is_ok, is_err}
 use Rattle.ddr_reorder.specs.Replies.{Answer}
 use Rattle.ddr_world.specs.declared.event.Outcome.{Outcome}
 use Rattle.ddr_world.specs.declared.event.Refusal.{Refusal}
@@ -32,6 +32,11 @@ pub record StandsFor (k : Kept) (opening : Opening) (events : List Answered) : T
 abbrev pub IsNext : Kept → ℕ → Answer → Type 0
 IsNext k p a = (opening : Opening) (events : List Answered) → StandsFor k opening events
     → slice_get (replies_of_port (run opening events) p) (length ((run opening events).taken p)) ≡ Some (Some a)
+
+-- What is lent is, for every record that the core stands for, the right reply to the port's request of this number.
+abbrev pub IsRightAt : Kept → ℕ → ℕ → Answer → Type 0
+IsRightAt k p number a = (opening : Opening) (events : List Answered) → StandsFor k opening events
+    → (i : ℕ) × (number ≡ opening.number + i) × (slice_get (replies_of_port (run opening events) p) i ≡ Some (Some a))
 
 -- The answers to a list of events, one each and in order, which lead on from every record that the core stood for.
 pub record RunsTo (before after : Kept) (events : List Event) (made refused : ℕ) : Type 0 where

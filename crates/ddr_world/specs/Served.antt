@@ -9,7 +9,7 @@ use Rattle.ddr_address_map.specs.Map.{place_of}
 use Rattle.ddr_arbiter.specs.Commands.{column_at}
 use Rattle.ddr_channel.specs.Cycle.{service_time}
 use Rattle.ddr_reorder.specs.declared.reply.Service.{Service}
-use Rattle.ddr_reorder.specs.Replies.{Answer, nth_service}
+use Rattle.ddr_reorder.specs.Replies.{Answer, nth_service, served_service}
 use Rattle.ddr_world.specs.History.{Opening, Answered}
 use Rattle.ddr_world.specs.Kept.{Kept, state_of}
 use Rattle.ddr_world.specs.Promise.{trace_at}
@@ -19,6 +19,10 @@ use Rattle.ddr_world.specs.State.{State}
 -- when the request was served whose reply the port lends
 abbrev pub front_service : State → ℕ → Option Service
 front_service s p = option_and_then (λ port. nth_service port.core.reorder 0) (slice_get s.ports p)
+
+-- when the port's request of a number was served, once its line is there
+abbrev pub served_service_of : State → ℕ → ℕ → Option Service
+served_service_of s p number = option_and_then (λ port. served_service port.core.reorder number) (slice_get s.ports p)
 
 -- A request that asks for this was served in these cycles: in the first one its read or write stands in the trace of the
 -- channel that the address names, and the second one is a latency and a burst later.

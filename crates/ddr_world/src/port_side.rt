@@ -3,7 +3,7 @@ ghost use Rattle.std.specs.Prelude.{◌≡◌, ◌+◌, ◌-◌, ◌<◌, ◌≤
 ghost use Rattle.std.specs.Option.{option_map};
 ghost use Rattle.std.specs.Result.{result_err};
 ghost use Rattle.ddr_address_map.specs.Map.{in_range};
-ghost use Rattle.ddr_reorder.specs.Replies.{front_number, lent_service, nth_answer, nth_service, said};
+ghost use Rattle.ddr_reorder.specs.Replies.{front_number, lent_service, nth_answer, nth_service, said, served_answer, served_service};
 ghost use Rattle.ddr_reorder.specs.State.{IsRecallable};
 ghost use Rattle.ddr_ports.specs.Asked.{Asked, asked_of};
 ghost use Rattle.ddr_ports.specs.State.{refusal_of, request_at};
@@ -131,6 +131,14 @@ impl PortSide {
         ensures service { option_map lent_service result ≡ nth_service self.now.core.reorder 0 }
     {
         self.core.front()
+    }
+
+    /// The reply of an outstanding number once its line has come back, whether or not older ones are ready.
+    pub(crate) fn served(&self, number: u64) -> Option<Reply<'_>>
+        ensures answer { option_map said result ≡ served_answer self.now.core.reorder number }
+        ensures service { option_map lent_service result ≡ served_service self.now.core.reorder number }
+    {
+        self.core.served(number)
     }
 
     /// Gives up the oldest reply, where it is ready, and tells its number.

@@ -11,11 +11,11 @@ ghost use Rattle.ddr_world.specs.Answer.{IsAnswered};
 ghost use Rattle.ddr_world.specs.Close.{GaveAll, IsLeftOf, trace_of};
 ghost use Rattle.ddr_world.specs.Events as events;
 ghost use Rattle.ddr_world.specs.Events.{event_of};
-ghost use Rattle.ddr_world.specs.History.{Answered, Opening, front_of};
+ghost use Rattle.ddr_world.specs.History.{Answered, Opening, front_of, served_of};
 ghost use Rattle.ddr_world.specs.Kept.{side_of, state_of};
 ghost use Rattle.ddr_world.specs.Quiet.{IsQuiet, IsQuietSide, cycles_made, passed, side_passed};
-ghost use Rattle.ddr_world.specs.Record.{IsNext, RunsTo, StandsFor};
-ghost use Rattle.ddr_world.specs.Served.{TellsService, front_service};
+ghost use Rattle.ddr_world.specs.Record.{IsNext, IsRightAt, RunsTo, StandsFor};
+ghost use Rattle.ddr_world.specs.Served.{TellsService, front_service, served_service_of};
 ghost use Rattle.ddr_world.specs.State.{IsChannelDrained, IsDrained, IsPortDrained, opened, opened_channel, opened_port};
 ghost use Rattle.ddr_world.specs.Told.{TellsOf, counts_of, cycle_answer};
 
@@ -362,6 +362,21 @@ impl World {
         self.ports[port as usize].front()
     }
 
+    /// The reply to the port's request of this number, once the port has collected its line, whether or not those before it are ready.
+    /// It stays the port's, which gives it up in its turn. It is `None` also where the number isn't outstanding, and where there is no
+    /// such port.
+    pub fn served(&self, port: u32, number: u64) -> Option<Reply<'_>>
+        ensures answer { option_map said result ≡ served_of (state_of self.now) port number }
+        ensures right { IfSome result (λ reply. IsRightAt self.now port number (said reply)) }
+        ensures service { option_map lent_service result ≡ served_service_of (state_of self.now) port number }
+        ensures served { IfSome result (λ reply. TellsService self.now (said reply) (lent_service reply)) }
+    {
+        if !self.has_port(port) {
+            return None;
+        }
+        self.ports[port as usize].served(number)
+    }
+
     /// What the port has done so far, if there is one of that number.
     pub fn counts(&self, port: u32) -> Option<Counts>
         ensures { result ≡ option_map counts_of (slice_get self.now.ports port) }
@@ -378,7 +393,9 @@ impl World {
 
     /// The channel of that number, if there is one.
     pub fn channel(&self, channel: u32) -> Option<&Channel>
-        ensures { option_copied result ≡ option_map (λ side. side.channel) (slice_get self.now.channels channel) }
+        ensures value { option_copied result ≡ option_map (λ side. side.channel) (slice_get self.now.channels channel) }
+        ensures within { IfSome result (λ there. channel < self.now.config.geometry.channels) }
+        ensures config { IfSome result (λ there. there.now.config ≡ self.now.config) }
     {
         if !self.has_channel(channel) {
             return None;

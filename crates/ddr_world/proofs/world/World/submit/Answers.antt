@@ -1,11 +1,9 @@
 -- The port prepares a request and pushes it on the queue of its channel.
-use Rattle.std.proofs.Common.{◌≡◌, ◌<◌, true, false, Some, Result, Ok, Err, length, sym, ap, subst, ◌∙◌, arith}
+use Rattle.std.proofs.Common.{◌≡◌, false, Some, Result, Ok, Err, sym, ap, subst, ◌∙◌, arith}
 use Rattle.std.specs.List.{slice_set}
 use Rattle.std.specs.Vec.{with_item}
-use Rattle.ddr_address_map.specs.Map.{in_range}
 use Rattle.ddr_address_map.specs.Requests.{Request}
 use Rattle.ddr_ports.specs.Asked.{asked_of}
-use Rattle.ddr_ports.specs.State.{request_at}
 use Rattle.ddr_world.specs.declared.event.Outcome.{Outcome}
 use Rattle.ddr_world.specs.declared.event.Outcome.TheVariants.{Accepted}
 use Rattle.ddr_world.specs.declared.event.Refusal.{Refusal}
@@ -19,24 +17,22 @@ use Rattle.ddr_world.specs.State.{is_busy}
 use Rattle.ddr_world.specs.Step.{queued}
 use Rattle.ddr_world.specs.View.{kept_of}
 use Rattle.ddr_world.proofs.StepLemmas.{submit_refused, submit_busy, submit_made}
-use Rattle.ddr_world.proofs.WholeLemmas.{port_there, channel_there, old_port, old_channel, whole_port, whole_channel, of_same, of_submit, err_of, same_channel, channel_within, served_there}
+use Rattle.ddr_world.proofs.SubmitLemmas.{has_port, has_channel_of, whole_still}
+use Rattle.ddr_world.proofs.WholeLemmas.{channel_there, old_channel, whole_port, whole_channel, of_submit, err_of, same_channel, served_there}
 use Rattle.ddr_world.proofs.world.World.submit.Goals as goal
 
 pub invariant_of-self : goal.invariant_of-self
 invariant_of-self c =
     let a = c.self.inside in
     let old = c.index_mut-side.result.now in
-    let within = subst (λ (k : Kept). c.args.port < length k.ports) (sym c.self.view_is) (c.has_port.ensures.0 c.if-not-has_port.false) in
-    let of = old_port a c.args.port old c.self.invariant within c.index_mut-side.ensures.value in
-    whole_port a c.args.port c.submit.new.self c.self.invariant (of_same a.config old c.submit.new.self of c.in_err-made.ensures.err)
+    let port = has_port a c.args.port old c.self.invariant c.self.view_is (c.has_port.ensures.0 c.if-not-has_port.false) c.index_mut-side.ensures.value in
+    whole_still a c.args.port old c.submit.new.self port c.in_err-made.ensures.err
 
 pub returns-in_err-made : goal.returns-in_err-made
 returns-in_err-made c =
     let a = c.self.inside in
     let old = c.index_mut-side.result.now in
-    let within = subst (λ (k : Kept). c.args.port < length k.ports) (sym c.self.view_is) (c.has_port.ensures.0 c.if-not-has_port.false) in
-    let of = old_port a c.args.port old c.self.invariant within c.index_mut-side.ensures.value in
-    let there = port_there a c.args.port old within c.index_mut-side.ensures.value in
+    let port = has_port a c.args.port old c.self.invariant c.self.view_is (c.has_port.ensures.0 c.if-not-has_port.false) c.index_mut-side.ensures.value in
     let asked = asked_of c.args.request in
     let cause = c.in_err-made.field-0.0 in
     let found = err_of c.from_residual.result _ c.from_residual.ensures.1 in
@@ -44,19 +40,14 @@ returns-in_err-made c =
     let after = record (kept_of a) { ports = slice_set a.ports.items c.args.port c.submit.new.self } in
     subst (λ (r : Result Outcome Refusal). IsAnswered c.args.self.now after (Submit c.args.port asked) r) (sym is)
     (subst (λ (k : Kept). IsAnswered k after (Submit c.args.port asked) (Err (refusal_from cause))) c.self.view_is
-    (submit_refused (kept_of a) c.args.port old c.submit.new.self asked cause there (sym c.in_err-made.ensures.refused) c.in_err-made.ensures.err))
+    (submit_refused (kept_of a) c.args.port old c.submit.new.self asked cause port.there (sym c.in_err-made.ensures.refused) c.in_err-made.ensures.err))
 
 pub index-requires : goal.index-requires
 index-requires c =
     let a = c.self.inside in
     let old = c.index_mut-side.result.now in
-    let within = subst (λ (k : Kept). c.args.port < length k.ports) (sym c.self.view_is) (c.has_port.ensures.0 c.if-not-has_port.false) in
-    let of = old_port a c.args.port old c.self.invariant within c.index_mut-side.ensures.value in
-    let m = c.made.inside in
-    let q : Request = record { port = m.port; number = m.number; echo = m.echo; place = m.place; mask = m.mask; line = m.line.value } in
-    let place_is : m.place ≡ c.in_ok-made.made.place = ap (λ (r : Request). r.place) c.made.view_is in
-    let placed : in_range old.core.geometry m.place ≡ true = ap (in_range old.core.geometry) place_is ∙ c.in_ok-made.ensures.placed in
-    let on_channel = channel_within a old m.place c.self.invariant of placed in
+    let port = has_port a c.args.port old c.self.invariant c.self.view_is (c.has_port.ensures.0 c.if-not-has_port.false) c.index_mut-side.ensures.value in
+    let on_channel = has_channel_of a c.args.port old port c.made.view_is c.in_ok-made.ensures.placed in
     omega (arith, on_channel, a.channels.ok.0)
 
 pub retract-requires : goal.retract-requires
@@ -66,104 +57,70 @@ pub invariant_of-self-then-is_busy : goal.invariant_of-self-then-is_busy
 invariant_of-self-then-is_busy c =
     let a = c.self.inside in
     let old = c.index_mut-side.result.now in
-    let within = subst (λ (k : Kept). c.args.port < length k.ports) (sym c.self.view_is) (c.has_port.ensures.0 c.if-not-has_port.false) in
-    let of = old_port a c.args.port old c.self.invariant within c.index_mut-side.ensures.value in
-    whole_port a c.args.port c.retract.new.self c.self.invariant
-    (of_same a.config old c.retract.new.self of (c.retract.ensures.undone old (asked_of c.args.request) c.in_ok-made.ensures.ok))
+    let port = has_port a c.args.port old c.self.invariant c.self.view_is (c.has_port.ensures.0 c.if-not-has_port.false) c.index_mut-side.ensures.value in
+    whole_still a c.args.port old c.retract.new.self port (c.retract.ensures.undone old (asked_of c.args.request) c.in_ok-made.ensures.ok)
 
 pub returns-then-is_busy : goal.returns-then-is_busy
 returns-then-is_busy c =
     let a = c.self.inside in
     let old = c.index_mut-side.result.now in
-    let within = subst (λ (k : Kept). c.args.port < length k.ports) (sym c.self.view_is) (c.has_port.ensures.0 c.if-not-has_port.false) in
-    let of = old_port a c.args.port old c.self.invariant within c.index_mut-side.ensures.value in
-    let m = c.made.inside in
-    let q : Request = record { port = m.port; number = m.number; echo = m.echo; place = m.place; mask = m.mask; line = m.line.value } in
-    let place_is : m.place ≡ c.in_ok-made.made.place = ap (λ (r : Request). r.place) c.made.view_is in
-    let placed : in_range old.core.geometry m.place ≡ true = ap (in_range old.core.geometry) place_is ∙ c.in_ok-made.ensures.placed in
-    let on_channel = channel_within a old m.place c.self.invariant of placed in
-    let there = port_there a c.args.port old within c.index_mut-side.ensures.value in
+    let port = has_port a c.args.port old c.self.invariant c.self.view_is (c.has_port.ensures.0 c.if-not-has_port.false) c.index_mut-side.ensures.value in
+    let on_channel = has_channel_of a c.args.port old port c.made.view_is c.in_ok-made.ensures.placed in
     let asked = asked_of c.args.request in
-    let prepared : request_at old.core asked ≡ Some q = c.in_ok-made.ensures.prepared ∙ ap (λ (r : Request). Some r) (sym c.made.view_is) in
-    let channel = channel_there a m.place.channel c.index.result.now on_channel c.index.ensures in
-    subst (λ (k : Kept). IsAnswered k (record (kept_of a) { ports = slice_set a.ports.items c.args.port c.retract.new.self }) (Submit c.args.port asked) (Err (Busy m.place.channel))) c.self.view_is
-    (submit_busy (kept_of a) c.args.port old c.retract.new.self asked q c.index.result.now there (sym c.in_ok-made.ensures.refused) prepared channel
+    let prepared = c.in_ok-made.ensures.prepared ∙ ap (λ (r : Request). Some r) (sym c.made.view_is) in
+    let channel = channel_there a c.made.inside.place.channel c.index.result.now on_channel c.index.ensures in
+    subst (λ (k : Kept). IsAnswered k (record (kept_of a) { ports = slice_set a.ports.items c.args.port c.retract.new.self }) (Submit c.args.port asked) (Err (Busy c.made.inside.place.channel))) c.self.view_is
+    (submit_busy (kept_of a) c.args.port old c.retract.new.self asked _ c.index.result.now port.there (sym c.in_ok-made.ensures.refused) prepared channel
     (sym c.is_busy.ensures ∙ c.if-is_busy.true) (c.retract.ensures.undone old asked c.in_ok-made.ensures.ok))
 
 pub index_mut-requires : goal.index_mut-requires
 index_mut-requires c =
     let a = c.self.inside in
     let old = c.index_mut-side.result.now in
-    let within = subst (λ (k : Kept). c.args.port < length k.ports) (sym c.self.view_is) (c.has_port.ensures.0 c.if-not-has_port.false) in
-    let of = old_port a c.args.port old c.self.invariant within c.index_mut-side.ensures.value in
-    let m = c.made.inside in
-    let q : Request = record { port = m.port; number = m.number; echo = m.echo; place = m.place; mask = m.mask; line = m.line.value } in
-    let place_is : m.place ≡ c.in_ok-made.made.place = ap (λ (r : Request). r.place) c.made.view_is in
-    let placed : in_range old.core.geometry m.place ≡ true = ap (in_range old.core.geometry) place_is ∙ c.in_ok-made.ensures.placed in
-    let on_channel = channel_within a old m.place c.self.invariant of placed in
+    let port = has_port a c.args.port old c.self.invariant c.self.view_is (c.has_port.ensures.0 c.if-not-has_port.false) c.index_mut-side.ensures.value in
+    let on_channel = has_channel_of a c.args.port old port c.made.view_is c.in_ok-made.ensures.placed in
     omega (arith, on_channel, a.channels.ok.0)
 
 pub push-requires-clause-free : goal.push-requires-clause-free
 push-requires-clause-free c =
     let a = c.self.inside in
     let old = c.index_mut-side.result.now in
-    let within = subst (λ (k : Kept). c.args.port < length k.ports) (sym c.self.view_is) (c.has_port.ensures.0 c.if-not-has_port.false) in
-    let of = old_port a c.args.port old c.self.invariant within c.index_mut-side.ensures.value in
-    let m = c.made.inside in
-    let q : Request = record { port = m.port; number = m.number; echo = m.echo; place = m.place; mask = m.mask; line = m.line.value } in
-    let place_is : m.place ≡ c.in_ok-made.made.place = ap (λ (r : Request). r.place) c.made.view_is in
-    let placed : in_range old.core.geometry m.place ≡ true = ap (in_range old.core.geometry) place_is ∙ c.in_ok-made.ensures.placed in
-    let on_channel = channel_within a old m.place c.self.invariant of placed in
-    ap (λ (side : KeptSide). is_busy (side_of side)) (same_channel a m.place.channel c.index_mut.result.now c.index.result.now on_channel c.index_mut.ensures.value c.index.ensures)
+    let port = has_port a c.args.port old c.self.invariant c.self.view_is (c.has_port.ensures.0 c.if-not-has_port.false) c.index_mut-side.ensures.value in
+    let on_channel = has_channel_of a c.args.port old port c.made.view_is c.in_ok-made.ensures.placed in
+    ap (λ (side : KeptSide). is_busy (side_of side)) (same_channel a c.made.inside.place.channel c.index_mut.result.now c.index.result.now on_channel c.index_mut.ensures.value c.index.ensures)
     ∙ sym c.is_busy.ensures ∙ c.if-is_busy.false
 
 pub push-requires-clause-served : goal.push-requires-clause-served
 push-requires-clause-served c =
     let a = c.self.inside in
     let old = c.index_mut-side.result.now in
-    let within = subst (λ (k : Kept). c.args.port < length k.ports) (sym c.self.view_is) (c.has_port.ensures.0 c.if-not-has_port.false) in
-    let of = old_port a c.args.port old c.self.invariant within c.index_mut-side.ensures.value in
-    let m = c.made.inside in
-    let q : Request = record { port = m.port; number = m.number; echo = m.echo; place = m.place; mask = m.mask; line = m.line.value } in
-    let place_is : m.place ≡ c.in_ok-made.made.place = ap (λ (r : Request). r.place) c.made.view_is in
-    let placed : in_range old.core.geometry m.place ≡ true = ap (in_range old.core.geometry) place_is ∙ c.in_ok-made.ensures.placed in
-    let on_channel = channel_within a old m.place c.self.invariant of placed in
-    served_there a old c.index_mut.result.now c.in_ok-made.made.place of
-    (old_channel a m.place.channel c.index_mut.result.now c.self.invariant on_channel c.index_mut.ensures.value) c.in_ok-made.ensures.placed
+    let port = has_port a c.args.port old c.self.invariant c.self.view_is (c.has_port.ensures.0 c.if-not-has_port.false) c.index_mut-side.ensures.value in
+    let on_channel = has_channel_of a c.args.port old port c.made.view_is c.in_ok-made.ensures.placed in
+    served_there a old c.index_mut.result.now c.in_ok-made.made.place port.of
+    (old_channel a c.made.inside.place.channel c.index_mut.result.now c.self.invariant on_channel c.index_mut.ensures.value) c.in_ok-made.ensures.placed
 
 pub invariant_of-self-2 : goal.invariant_of-self-2
 invariant_of-self-2 c =
     let a = c.self.inside in
     let old = c.index_mut-side.result.now in
-    let within = subst (λ (k : Kept). c.args.port < length k.ports) (sym c.self.view_is) (c.has_port.ensures.0 c.if-not-has_port.false) in
-    let of = old_port a c.args.port old c.self.invariant within c.index_mut-side.ensures.value in
-    let m = c.made.inside in
-    let q : Request = record { port = m.port; number = m.number; echo = m.echo; place = m.place; mask = m.mask; line = m.line.value } in
-    let place_is : m.place ≡ c.in_ok-made.made.place = ap (λ (r : Request). r.place) c.made.view_is in
-    let placed : in_range old.core.geometry m.place ≡ true = ap (in_range old.core.geometry) place_is ∙ c.in_ok-made.ensures.placed in
-    let on_channel = channel_within a old m.place c.self.invariant of placed in
-    whole_channel (record a { ports = with_item a.ports c.args.port c.submit.new.self }) m.place.channel c.push.new.self
-    (whole_port a c.args.port c.submit.new.self c.self.invariant (of_submit a.config old c.submit.new.self (asked_of c.args.request) of c.in_ok-made.ensures.ok))
-    (c.push.ensures.config ∙ old_channel a m.place.channel c.index_mut.result.now c.self.invariant on_channel c.index_mut.ensures.value)
+    let port = has_port a c.args.port old c.self.invariant c.self.view_is (c.has_port.ensures.0 c.if-not-has_port.false) c.index_mut-side.ensures.value in
+    let on_channel = has_channel_of a c.args.port old port c.made.view_is c.in_ok-made.ensures.placed in
+    whole_channel (record a { ports = with_item a.ports c.args.port c.submit.new.self }) c.made.inside.place.channel c.push.new.self
+    (whole_port a c.args.port c.submit.new.self c.self.invariant (of_submit a.config old c.submit.new.self (asked_of c.args.request) port.of c.in_ok-made.ensures.ok))
+    (c.push.ensures.config ∙ old_channel a c.made.inside.place.channel c.index_mut.result.now c.self.invariant on_channel c.index_mut.ensures.value)
 
 pub returns : goal.returns
 returns c =
     let a = c.self.inside in
     let old = c.index_mut-side.result.now in
-    let within = subst (λ (k : Kept). c.args.port < length k.ports) (sym c.self.view_is) (c.has_port.ensures.0 c.if-not-has_port.false) in
-    let of = old_port a c.args.port old c.self.invariant within c.index_mut-side.ensures.value in
-    let m = c.made.inside in
-    let q : Request = record { port = m.port; number = m.number; echo = m.echo; place = m.place; mask = m.mask; line = m.line.value } in
-    let place_is : m.place ≡ c.in_ok-made.made.place = ap (λ (r : Request). r.place) c.made.view_is in
-    let placed : in_range old.core.geometry m.place ≡ true = ap (in_range old.core.geometry) place_is ∙ c.in_ok-made.ensures.placed in
-    let on_channel = channel_within a old m.place c.self.invariant of placed in
-    let there = port_there a c.args.port old within c.index_mut-side.ensures.value in
+    let port = has_port a c.args.port old c.self.invariant c.self.view_is (c.has_port.ensures.0 c.if-not-has_port.false) c.index_mut-side.ensures.value in
+    let on_channel = has_channel_of a c.args.port old port c.made.view_is c.in_ok-made.ensures.placed in
     let asked = asked_of c.args.request in
-    let prepared : request_at old.core asked ≡ Some q = c.in_ok-made.ensures.prepared ∙ ap (λ (r : Request). Some r) (sym c.made.view_is) in
+    let prepared = c.in_ok-made.ensures.prepared ∙ ap (λ (r : Request). Some r) (sym c.made.view_is) in
     let side = c.index_mut.result.now in
-    let channel = channel_there a m.place.channel side on_channel c.index_mut.ensures.value in
-    let free : is_busy (side_of side) ≡ false = ap (λ (s : KeptSide). is_busy (side_of s)) (same_channel a m.place.channel side c.index.result.now on_channel c.index_mut.ensures.value c.index.ensures)
+    let channel = channel_there a c.made.inside.place.channel side on_channel c.index_mut.ensures.value in
+    let free : is_busy (side_of side) ≡ false = ap (λ (s : KeptSide). is_busy (side_of s)) (same_channel a c.made.inside.place.channel side c.index.result.now on_channel c.index_mut.ensures.value c.index.ensures)
     ∙ sym c.is_busy.ensures ∙ c.if-is_busy.false in
-    subst (λ (k : Kept). IsAnswered k (record (kept_of a) { ports = slice_set a.ports.items c.args.port c.submit.new.self; channels = slice_set a.channels.items m.place.channel c.push.new.self }) (Submit c.args.port asked) (Ok (Accepted m.number))) c.self.view_is
-    (submit_made (kept_of a) c.args.port old c.submit.new.self asked q side c.push.new.self there (sym c.in_ok-made.ensures.refused) prepared channel free c.in_ok-made.ensures.ok
+    subst (λ (k : Kept). IsAnswered k (record (kept_of a) { ports = slice_set a.ports.items c.args.port c.submit.new.self; channels = slice_set a.channels.items c.made.inside.place.channel c.push.new.self }) (Submit c.args.port asked) (Ok (Accepted c.made.inside.number))) c.self.view_is
+    (submit_made (kept_of a) c.args.port old c.submit.new.self asked _ side c.push.new.self port.there (sym c.in_ok-made.ensures.refused) prepared channel free c.in_ok-made.ensures.ok
     (c.push.ensures.state ∙ ap (λ (r : Request). queued (item.Request r) (side_of side)) (sym c.made.view_is)))
