@@ -1,4 +1,5 @@
 pub mod ContinueLemmas
+pub mod DrainLemmas
 pub mod EventLemmas
 pub mod PartLemmas
 pub mod QuietLemmas

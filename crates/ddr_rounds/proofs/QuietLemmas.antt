@@ -76,14 +76,14 @@ ports_quiet (suc p) s none =
     ap (until_refused (Collect p)) (ports_quiet p s none)
     ∙ nothing_popped (Collect p) s (none_collected (slice_get s.ports p) (λ port there. All-at (λ port. port.completions ≡ []) s.ports p port none there))
 
-round_quiet : (config : Config) (count : ℕ) (s : State) → length s.channels ≡ config.geometry.channels → IsQuietFor (suc count) s → round config s ≡ Some (passed 1 s)
+pub round_quiet : (config : Config) (count : ℕ) (s : State) → length s.channels ≡ config.geometry.channels → IsQuietFor (suc count) s → round config s ≡ Some (passed 1 s)
 round_quiet config count s are is =
     let each = λ (c : ℕ) (side : ChannelSide) (there : slice_get s.channels c ≡ Some side). fewer_of_side 1 (suc count) side (omega arith) (All-at (IsQuietSide (suc count)) s.channels c side is.channels there) in
     ap (λ n. option_map (ports_collected config.limits.ports) (channels_served n s)) (sym are)
     ∙ ap (option_map (ports_collected config.limits.ports)) (channels_quiet (length s.channels) s (omega arith) each ∙ ap (λ (xs : List ChannelSide). Some (record s { channels = xs })) (first_all 1 s.channels))
     ∙ ap (λ (t : State). Some t) (ports_quiet config.limits.ports (passed 1 s) is.ports)
 
-quiet_on : (count : ℕ) (s : State) → IsQuietFor (suc count) s → IsQuietFor count (passed 1 s)
+pub quiet_on : (count : ℕ) (s : State) → IsQuietFor (suc count) s → IsQuietFor count (passed 1 s)
 quiet_on count s is = record {
   channels = All-map (IsQuietSide count) (side_passed 1) s.channels (λ k d within. side_quiet_on count _ (is.channels k d within));
   ports = is.ports;

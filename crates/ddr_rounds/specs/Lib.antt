@@ -1,3 +1,4 @@
 pub mod Continues
+pub mod Drains
 pub mod Rounds
 pub mod Telling

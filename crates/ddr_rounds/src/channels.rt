@@ -18,7 +18,7 @@ use ddr_world::world::World;
 /// The parts of the first so many channels, in order. The watcher is told each command that is issued.
 ///
 /// Fails as `OutOfMemory`, as `ClockSpent`, and as `NoSuch` where there are fewer channels.
-#[inline]
+#[inline(always)]
 pub fn serve_channels<W: Watcher>(
     world: &mut World,
     channels: u32,
@@ -41,7 +41,7 @@ pub fn serve_channels<W: Watcher>(
 }
 
 /// A channel's part of a round: it takes what there is room for, makes a cycle, and delivers what is done.
-#[inline]
+#[inline(always)]
 fn serve_channel<W: Watcher>(
     world: &mut World,
     channel: u32,

@@ -22,7 +22,7 @@ use ddr_world::event::{Event, Outcome, Refusal};
 use ddr_world::world::World;
 
 /// Lets a port collect what was delivered, and tells whether anything was.
-#[inline]
+#[inline(always)]
 pub fn collect(world: &mut World, port: u32) -> bool
     ensures state { state_of world.new ≡ until_refused (Collect port) (state_of world.old) }
     ensures some { result ≡ is_ok (step (state_of world.old) (Collect port)) }
@@ -49,7 +49,7 @@ pub fn collect_ports(world: &mut World, ports: u32)
 }
 
 /// Whether a reply is in front of one of the first so many ports.
-#[inline]
+#[inline(always)]
 pub fn has_front(world: &World, ports: u32) -> bool
     ensures replies { result ≡ false → (port : ℕ) → port < ports → front_of (state_of world.now) port ≡ None }
     ensures services { result ≡ false → (port : ℕ) → port < ports → front_service (state_of world.now) port ≡ None }

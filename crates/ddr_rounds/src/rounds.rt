@@ -1,14 +1,16 @@
 //! Rounds of the core, one after another, in which its ports collect and give up nothing, and quiet ones at once.
 //!
 //! `channels`, `ports` and `ddr_world` stand below, and the crates above this one above.
-ghost use Rattle.std.specs.Prelude.{◌≡◌, ◌+◌, ◌<◌, ◌≤◌, IfErr, IfNone, IfOk, IfSome, OnOk, Some};
+ghost use Rattle.std.specs.Prelude.{◌≡◌, ◌+◌, ◌<◌, ◌≤◌, ℕ, IfErr, IfNone, IfOk, IfSome, OnOk, Some};
 ghost use Rattle.ddr_world.specs.Kept.{state_of};
 ghost use Rattle.ddr_world.specs.Quiet.{IsQuiet, passed};
 ghost use Rattle.ddr_rounds.specs.Continues.{Continues};
+ghost use Rattle.ddr_rounds.specs.Drains.{AreRaised, counted_in, drained};
 ghost use Rattle.ddr_rounds.specs.Rounds.{IsRefusedBehind, IsRoundRefused, IsStopped, round, rounds};
 ghost use Rattle.ddr_rounds.specs.Telling.{IsHeard};
 
 use crate::channels::serve_channels;
+use crate::drains::count_drains;
 use crate::ports::collect_ports;
 use crate::told::Told;
 use crate::watcher::Watcher;
@@ -23,7 +25,7 @@ pub struct Rounds {
 }
 
 /// Makes rounds until so many are made or one is refused. Quiet ones are made at once. `ports` and `channels` are how many
-/// the core has.
+/// the core has. Of each channel, `drains` counts the cycles of these rounds in which writes were drained.
 ///
 /// A round is refused as `OutOfMemory` or as `ClockSpent`.
 pub fn make_rounds<W: Watcher>(
@@ -32,6 +34,7 @@ pub fn make_rounds<W: Watcher>(
     channels: u32,
     count: u64,
     watcher: &mut W,
+    drains: &mut [u64],
 ) -> Rounds
     requires ports { ports ≡ world.old.config.limits.ports }
     requires channels { channels ≡ world.old.config.geometry.channels }
@@ -39,13 +42,17 @@ pub fn make_rounds<W: Watcher>(
     ensures stopped { IfSome result.stopped (λ cause. (result.made < count) × IsStopped cause (rounds world.old.config (result.made + 1) (state_of world.old))) }
     ensures refused { IfSome result.stopped (λ cause. IsRefusedBehind cause world.old.config result.made (state_of world.old) (state_of world.new)) }
     ensures heard { IsHeard W.hears watcher.old watcher.new (state_of world.old) (state_of world.new) }
+    ensures drains { AreRaised channels (drained world.old.config result.made (state_of world.old)) drains.old drains.new }
     ensures config { world.new.config ≡ world.old.config }
     ensures continues { Continues world.old world.new }
 {
     let mut made = 0u64;
     'rounds: while made < count {
         match advance(world, ports, channels, count - made, watcher) {
-            Ok(more) => made += more,
+            Ok(more) => {
+                count_drains(world, channels, more, drains);
+                made += more;
+            }
             Err(cause) => {
                 return Rounds {
                     made,
@@ -73,6 +80,7 @@ fn advance<W: Watcher>(
     requires channels { channels ≡ world.old.config.geometry.channels }
     ensures some { IfOk result (λ made. (0 < made) × (made ≤ most)) }
     ensures made { IfOk result (λ made. rounds world.old.config made (state_of world.old) ≡ Some (state_of world.new)) }
+    ensures steady { IfOk result (λ made. (c : ℕ) → drained world.old.config made (state_of world.old) c ≡ counted_in made (state_of world.new) c) }
     ensures stopped { IfErr result (λ cause. IsStopped cause (round world.old.config (state_of world.old))) }
     ensures refused { IfErr result (λ cause. IsRoundRefused cause world.old.config (state_of world.old) (state_of world.new)) }
     ensures heard { IsHeard W.hears watcher.old watcher.new (state_of world.old) (state_of world.new) }

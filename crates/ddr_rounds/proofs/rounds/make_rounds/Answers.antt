@@ -2,8 +2,10 @@
 use Rattle.std.proofs.Common.{◌≡◌, ◌+◌, Some, arith, refl, sym, ap, subst, ◌∙◌}
 use Rattle.ddr_timing.specs.declared.config.Config.{Config}
 use Rattle.ddr_world.specs.Kept.{state_of}
+use Rattle.ddr_rounds.specs.Drains.{counted_in, drained}
 use Rattle.ddr_rounds.specs.Rounds.{IsRoundRefused, IsStopped, round, rounds}
 use Rattle.ddr_rounds.proofs.ContinueLemmas.{continues_still, continues_then}
+use Rattle.ddr_rounds.proofs.DrainLemmas.{drained_then, raised_nothing, raised_then}
 use Rattle.ddr_rounds.proofs.QuietLemmas.{rounds_stopped, rounds_then}
 use Rattle.ddr_rounds.proofs.TraceLemmas.{heard_nothing, heard_then}
 use Rattle.ddr_rounds.proofs.rounds.make_rounds.Goals as goal
@@ -13,6 +15,7 @@ rounds-init g c = record {
   within = omega arith;
   made = refl;
   heard = heard_nothing g.W.Watcher.hears c.args.watcher.now (state_of c.args.world.now) (state_of c.args.world.now) (λ d. refl);
+  drains = raised_nothing c.args.channels (drained c.args.world.now.config 0 (state_of c.args.world.now)) c.args.drains.now (λ d. refl);
   config = refl;
   continues = continues_still c.args.world.now;
 }
@@ -35,6 +38,11 @@ rounds-preserved g c =
       made = rounds_then before.config c.rounds.made more (c.rounds.made + more) (state_of before) (state_of now) (state_of next) refl kept.made
           (subst (λ (k : Config). rounds k more (state_of now) ≡ Some (state_of next)) kept.config c.in-Ok.ensures.made);
       heard = heard_then g.W.Watcher.hears c.args.watcher.now c.rounds.watcher c.advance.new.watcher (state_of before) (state_of now) (state_of next) kept.heard c.advance.ensures.heard;
+      drains = raised_then c.args.channels (drained before.config c.rounds.made (state_of before)) (counted_in more (state_of next)) (drained before.config (c.rounds.made + more) (state_of before)) c.args.drains.now c.rounds.drains
+          c.count_drains.new.drains
+          (λ d. drained_then before.config c.rounds.made more (state_of before) (state_of now) d kept.made
+          ∙ ap (λ n. drained before.config c.rounds.made (state_of before) d + n) (subst (λ (k : Config). drained k more (state_of now) d ≡ counted_in more (state_of next) d) kept.config (c.in-Ok.ensures.steady d)))
+          kept.drains c.count_drains.ensures;
       config = c.advance.ensures.config ∙ kept.config;
       continues = continues_then before now next kept.continues c.advance.ensures.continues;
     }
