@@ -1,31 +1,10 @@
--- Quiet rounds, in each of which the same channels drain writes.
-use Rattle.std.proofs.Common.{◌≡◌, ◌≢◌, ◌≤◌, ℕ, zero, suc, Bool, true, false, List, [], ◌∷◌, Option, None, Some, if◌then◌else◌, refl, sym, ap, ◌∙◌, arith}
-use Rattle.std.specs.List.{slice_get, slice_index_or, slice_set}
-use Rattle.std.specs.Option.{option_map, option_map_or}
-use Rattle.std.proofs.lemmas.Option.{slice_get-map}
-use Rattle.ddr_channel.proofs.QuietLemmas.{cycles_idle}
-use Rattle.ddr_channel.specs.State as channel
+-- Cycles in which channels drain writes, some at once or one after another.
+use Rattle.std.proofs.Common.{◌≡◌, ◌≢◌, ◌≤◌, ℕ, zero, suc, Bool, true, false, List, [], ◌∷◌, if◌then◌else◌, refl, ap, ◌∙◌, arith}
+use Rattle.std.specs.List.{slice_index_or, slice_set}
 use Rattle.ddr_statistics.specs.Noted.{raised}
-use Rattle.ddr_world.specs.Quiet.{IsQuietSide, passed, side_passed}
-use Rattle.ddr_world.specs.State.{ChannelSide, State}
-use Rattle.ddr_replay.specs.Drains.{all_drained, drained, is_draining}
+use Rattle.ddr_replay.specs.Drains.{all_drained, drained}
 use Rattle.ddr_replay.specs.Ledgers.{Ledger, with_drained, with_full}
 use Rattle.ddr_replay.specs.Waits.{all_full, filled}
-
--- from the first of them on the mode stays
-
-abbrev mode_of : Option ChannelSide → Bool
-mode_of o = option_map_or (λ (side : ChannelSide). side.channel.drain) o false
-
-settled_of : (count : ℕ) (o : Option ChannelSide) → ((side : ChannelSide) → o ≡ Some side → IsQuietSide (suc count) side) → mode_of (option_map (side_passed (suc count)) o) ≡ mode_of (option_map (side_passed 1) o)
-settled_of count None each = refl
-settled_of count (Some side) each =
-    let quiet = (each side refl).channel in
-    ap (λ (s : channel.State). s.drain) (cycles_idle (suc count) side.channel quiet) ∙ sym (ap (λ (s : channel.State). s.drain) (cycles_idle 1 side.channel (quiet.0, tt)))
-
-pub mode_settled : (count c : ℕ) (s : State) → ((k : ℕ) (side : ChannelSide) → slice_get s.channels k ≡ Some side → IsQuietSide (suc count) side) → is_draining (passed (suc count) s) c ≡ is_draining (passed 1 s) c
-mode_settled count c s each =
-    ap mode_of (slice_get-map (side_passed (suc count)) s.channels c) ∙ settled_of count (slice_get s.channels c) (each c) ∙ sym (ap mode_of (slice_get-map (side_passed 1) s.channels c))
 
 -- of one channel
 

@@ -1,11 +1,9 @@
 mod DrainLemmas
 mod FoundLemmas
-mod LegalLemmas
 mod NumberLemmas
 mod QuietLemmas
 mod ReleaseLemmas
 mod ReplayLemmas
-mod StepLemmas
 mod SubmitLemmas
 mod TurnLemmas
 mod WaitLemmas

@@ -9,7 +9,7 @@ use Rattle.ddr_channel.specs.Kept as channel_kept
 use Rattle.ddr_world.specs.Kept.{Kept, KeptSide, side_of, state_of}
 use Rattle.ddr_world.specs.State.{ChannelSide, State}
 use Rattle.ddr_replay.specs.declared.numbers.Numbers.{Numbers}
-use Rattle.ddr_replay.specs.Drains.{is_draining}
+use Rattle.ddr_rounds.specs.Drains.{is_draining}
 use Rattle.ddr_replay.specs.Numbers.{IsCounted, is_spent, no_numbers, numbers_at, numbers_in}
 use Rattle.ddr_text.specs.declared.fault.Fault.{Fault}
 use Rattle.ddr_text.specs.declared.fault.Fault.TheVariants.{ClockSpent}

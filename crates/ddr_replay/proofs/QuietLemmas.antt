@@ -16,16 +16,18 @@ use Rattle.ddr_world.specs.State.{ChannelSide, State}
 use Rattle.ddr_world.proofs.QuietLemmas.{fewer_of_side, first_all, side_quiet_on}
 use Rattle.ddr_text.specs.declared.fault.Fault.{Fault}
 use Rattle.ddr_text.specs.declared.fault.Fault.TheVariants as faults
-use Rattle.ddr_sim.specs.Rounds.{channels_served, items_of}
-use Rattle.ddr_sim.specs.Simulated.{IsCycleFault}
-use Rattle.ddr_sim.proofs.QuietLemmas.{channels_quiet, none_collected, nothing_popped, passed_more}
-use Rattle.ddr_replay.specs.Drains.{all_drained, is_draining}
+use Rattle.ddr_rounds.specs.Rounds.{channels_served, items_of}
+use Rattle.ddr_rounds.proofs.EventLemmas.{nothing_popped}
+use Rattle.ddr_rounds.proofs.QuietLemmas.{channels_quiet, fewer_quiet, none_collected, passed_more}
+use Rattle.ddr_rounds.specs.Drains.{is_draining}
+use Rattle.ddr_replay.specs.Drains.{all_drained}
 use Rattle.ddr_replay.specs.Ledgers.{Ledger}
 use Rattle.ddr_replay.specs.Runs.{Run, channels_counted, port_served, ports_served, ports_submitted, released, replayed, round_closed, round_made, turn, unserved}
 use Rattle.ddr_stream.specs.Stream.{Queues, queue_at}
-use Rattle.ddr_replay.specs.View.{IsButLedger, IsRunFault, IsSame, Replay, run_of}
+use Rattle.ddr_replay.specs.View.{IsButLedger, IsCycleFault, IsRunFault, IsSame, Replay, run_of}
 use Rattle.ddr_replay.specs.Waits.{AreQuiet, AreWaiting, all_full, come_of}
-use Rattle.ddr_replay.proofs.DrainLemmas.{channels_again, channels_alike, mode_settled, ports_past}
+use Rattle.ddr_rounds.proofs.DrainLemmas.{mode_settled}
+use Rattle.ddr_replay.proofs.DrainLemmas.{channels_again, channels_alike, ports_past}
 use Rattle.ddr_replay.proofs.ReleaseLemmas.{none_given, same_run}
 use Rattle.ddr_replay.proofs.WaitLemmas.{come_still, noted, ports_wait, waits_on}
 use Rattle.ddr_replay.proofs.WaitedLemmas.{all_again, all_alike, all_none}
@@ -111,13 +113,11 @@ quiet_turns config n (suc k) until run are waits within busy =
 -- the core is quiet for as many rounds or fewer, and no reply is in front
 pub are_quiet : (config : Config) (count quiet : ℕ) (k : Kept) → k.config ≡ config → length k.channels ≡ k.config.geometry.channels → IsQuiet quiet (state_of k)
     → ((port : ℕ) → port < config.limits.ports → front_service (state_of k) port ≡ None) → 0 < count → count ≤ quiet → AreQuiet config count (state_of k)
-are_quiet config count quiet k same shape is fronts some within =
-    let all = is (omega (arith, some, within)) in
-    record {
-      channels = length-map k.channels side_of ∙ shape ∙ ap (λ (c : Config). c.geometry.channels) same;
-      core = record { channels = λ i d inside. fewer_of_side count quiet _ within (all.channels i d inside); ports = all.ports };
-      fronts = fronts;
-    }
+are_quiet config count quiet k same shape is fronts some within = record {
+  channels = length-map k.channels side_of ∙ shape ∙ ap (λ (c : Config). c.geometry.channels) same;
+  core = fewer_quiet count quiet (state_of k) within is some;
+  fronts = fronts;
+}
 
 -- one round of so many that may be made
 

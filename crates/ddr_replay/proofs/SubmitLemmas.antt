@@ -19,8 +19,8 @@ use Rattle.ddr_world.specs.Events.{Submit}
 use Rattle.ddr_world.specs.Refusals.{refusal_from}
 use Rattle.ddr_world.specs.State.{PortSide, State, is_busy}
 use Rattle.ddr_world.specs.Step.{Step, after_submit, made, push_on, push_request, queued, step, submit, submit_by, with_channel, with_port}
-use Rattle.ddr_sim.specs.Rounds.{outstanding}
-use Rattle.ddr_sim.proofs.StepCounts.{Counted, at_channel_has, at_port_has, either_has, made_counts, maybe_has}
+use Rattle.ddr_rounds.specs.Rounds.{outstanding}
+use Rattle.ddr_rounds.proofs.StepCounts.{Counted, at_channel_has, at_port_has, either_has, made_counts, maybe_has}
 use Rattle.ddr_stream.specs.declared.ask.Ask.{Ask}
 use Rattle.ddr_stream.specs.Asks.{asked_by}
 use Rattle.ddr_replay.specs.Ledgers.{Ledger, with_accepted, with_wait}

@@ -6,13 +6,13 @@ use Rattle.ddr_world.specs.Kept.{state_of}
 use Rattle.ddr_world.specs.Quiet.{passed}
 use Rattle.ddr_world.specs.State.{State}
 use Rattle.ddr_text.specs.declared.fault.Fault.{Fault}
-use Rattle.ddr_sim.specs.Simulated.{IsCycleFault}
-use Rattle.ddr_sim.specs.Rounds.{channels_served}
-use Rattle.ddr_replay.specs.Drains.{all_drained, is_draining}
+use Rattle.ddr_rounds.specs.Rounds.{channels_served}
+use Rattle.ddr_rounds.specs.Drains.{is_draining}
+use Rattle.ddr_replay.specs.Drains.{all_drained}
 use Rattle.ddr_replay.specs.Ledgers.{Ledger}
 use Rattle.ddr_replay.specs.Runs.{Run, ports_submitted, replayed, round_made, unserved}
 use Rattle.ddr_stream.specs.Stream.{Queues}
-use Rattle.ddr_replay.specs.View.{IsRunFault, Replay, run_of}
+use Rattle.ddr_replay.specs.View.{IsCycleFault, IsRunFault, Replay, run_of}
 use Rattle.ddr_replay.specs.Waits.{AreQuiet, AreWaiting, all_full, come_of}
 use Rattle.ddr_replay.proofs.QuietLemmas.{turn_failed, turn_made, turns_passed}
 

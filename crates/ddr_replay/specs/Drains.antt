@@ -1,13 +1,7 @@
 -- In how many cycles of each channel writes were drained.
-use Rattle.std.specs.Prelude.{ℕ, zero, suc, Bool, false, if◌then◌else◌, List, fold, slice_get}
-use Rattle.std.specs.Option.{option_map_or}
+use Rattle.std.specs.Prelude.{ℕ, zero, suc, Bool, if◌then◌else◌, List, fold}
 use Rattle.ddr_statistics.specs.Noted.{raised}
-use Rattle.ddr_world.specs.State.{State}
 use Rattle.ddr_replay.specs.Ledgers.{Ledger, with_drained}
-
--- in the channel of that number writes were drained in the cycle before
-abbrev pub is_draining : State → ℕ → Bool
-is_draining s c = option_map_or (λ side. side.channel.drain) (slice_get s.channels c) false
 
 -- a channel in which writes are drained counts so many cycles more, and so does each of the first so many channels
 abbrev pub drained : ℕ → (ℕ → Bool) → ℕ → Ledger → Ledger

@@ -1,4 +1,5 @@
 pub mod Drains
+pub mod Drampower
 pub mod Found
 pub mod Ledgers
 pub mod Measured

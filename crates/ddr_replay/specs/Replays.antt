@@ -1,6 +1,7 @@
 -- What the command `replay` writes, and by which faults it ends.
-use Rattle.std.specs.Prelude.{◌≡◌, ℕ, ◌<◌, ◌≤◌, Bool, true, false, nat_le, if◌then◌else◌, List, drop, length, map, Option, Result, Ok, Err}
+use Rattle.std.specs.Prelude.{◌≡◌, ℕ, ◌<◌, ◌≤◌, Bool, true, false, nat_le, if◌then◌else◌, List, [], drop, length, map, slice_get, Option, Result, Ok, Err}
 use Rattle.std.specs.Io.KnownBytes.{Appends}
+use Rattle.std.specs.Option.{option_map_or}
 use Rattle.std.specs.Str.{IsUtf8}
 use Rattle.ddr_timing.specs.declared.config.Config.{Config}
 use Rattle.ddr_text.specs.declared.fault.Fault.{Fault}
@@ -9,13 +10,15 @@ use Rattle.ddr_replay.specs.Taken.{taken_of}
 use Rattle.ddr_replay.specs.declared.taken.Taking.{Taking}
 use Rattle.ddr_replay.specs.declared.wanted.Wanted.{Wanted}
 use Rattle.ddr_replay.specs.declared.wanted.Wanted.TheVariants as told
-use Rattle.ddr_sim.specs.Runs.{channel_text}
+use Rattle.ddr_trace.specs.Text.{trace_text}
+use Rattle.ddr_world.specs.State.{State}
 use Rattle.ddr_text.specs.Body.{HasParts, IsRefused, parts_of}
 use Rattle.ddr_text.specs.Instructions.{◌>>>◌}
 use Rattle.ddr_replay.specs.declared.replaying.TheConstants.{MOST_ROUNDS}
 use Rattle.ddr_stream.specs.declared.stream.TheConstants.{LONGEST_STREAM}
 use Rattle.ddr_replay.specs.declared.numbers.Requests.{Requests}
 use Rattle.ddr_measure.specs.Text.{measured_text}
+use Rattle.ddr_replay.specs.Drampower.{drampower_text}
 use Rattle.ddr_replay.specs.Found.{findings_of}
 use Rattle.ddr_replay.specs.Measured.{timed_of}
 use Rattle.ddr_replay.specs.Numbers.{is_any_spent, requests_in}
@@ -43,11 +46,20 @@ measured config skip clock run =
     if is_any_spent run.state channels then Err faults.ClockSpent
     else Ok (measured_text channels clock (map (timed_of config.geometry (findings_of run.state channels)) (drop skip run.ledger.served)))
 
--- what is to be told of a run: its statistics, its requests, the trace of a channel, or its numbers
+-- the trace of a channel, as a text
+abbrev pub channel_text : State → ℕ → List ℕ
+channel_text s c = option_map_or (λ side. trace_text side.channel.trace side.channel.now) (slice_get s.channels c) []
+
+-- the commands of a channel, as DRAMPower reads them
+abbrev pub channel_commands : State → ℕ → List ℕ
+channel_commands s c = option_map_or (λ side. drampower_text side.channel.trace side.channel.now) (slice_get s.channels c) []
+
+-- what is to be told of a run: its statistics, its requests, the trace of a channel in one of two forms, or its numbers
 abbrev pub told_of : Config → Wanted → List Requests → Run → Result (List ℕ) Fault
 told_of config told.Statistics requests run = reported config requests run
 told_of config told.Requests requests run = listed config run
 told_of config (told.Trace channel) requests run = Ok (channel_text run.state channel)
+told_of config (told.Drampower channel) requests run = Ok (channel_commands run.state channel)
 told_of config (told.Numbers skip clock) requests run = measured config skip clock run
 
 -- the requests that were served are kept where they are to be told
@@ -56,9 +68,10 @@ keeps_served told.Requests = true
 keeps_served (told.Numbers skip clock) = true
 keeps_served _ = false
 
--- a trace is asked for of a channel that isn't there
+-- the commands are asked for of a channel that isn't there
 abbrev pub names_no_channel : Config → Wanted → Bool
 names_no_channel config (told.Trace channel) = nat_le config.geometry.channels channel
+names_no_channel config (told.Drampower channel) = nat_le config.geometry.channels channel
 names_no_channel config _ = false
 
 -- what is told of the run that these requests come to, or why it ends before

@@ -1,4 +1,4 @@
--- A replay: before each round each port submits what it may, then comes the round of `sim`.
+-- A replay: before each round each port submits what it may, then comes the round, in which it releases its replies.
 use Rattle.std.specs.Prelude.{ℕ, Bool, ◌+◌, ◌==◌, suc, zero, nat_lt, if◌then◌else◌, List, [], ◌∷◌, length, slice_set, sum_by, Option, Result, Ok, Err}
 use Rattle.std.specs.Option.{option_map, option_map_or}
 use Rattle.ddr_timing.specs.declared.config.Config.{Config}
@@ -10,11 +10,12 @@ use Rattle.ddr_text.specs.declared.fault.Fault.{Fault}
 use Rattle.ddr_text.specs.declared.fault.Fault.TheVariants.{ClockSpent, ReplayLimit}
 use Rattle.ddr_world.specs.Served.{front_service}
 use Rattle.ddr_reorder.specs.declared.reply.Service.{Service}
-use Rattle.ddr_sim.specs.Rounds.{after, channels_served, items_of, outstanding, until_refused}
+use Rattle.ddr_rounds.specs.Rounds.{after, channels_served, items_of, outstanding, until_refused}
 use Rattle.ddr_stream.specs.declared.ask.Ask.{Ask}
 use Rattle.ddr_replay.specs.declared.times.Accepted.{Accepted}
 use Rattle.ddr_stream.specs.Asks.{asked_by}
-use Rattle.ddr_replay.specs.Drains.{all_drained, is_draining}
+use Rattle.ddr_rounds.specs.Drains.{is_draining}
+use Rattle.ddr_replay.specs.Drains.{all_drained}
 use Rattle.ddr_replay.specs.Ledgers.{Ledger, no_ledger, noted, with_accepted, with_wait}
 use Rattle.ddr_stream.specs.Stream.{Queues, queue_at}
 
@@ -86,7 +87,7 @@ channels_counted config run s = record run { state = s; ledger = all_drained 1 (
 abbrev pub round_closed : Config → Run → State → Run
 round_closed config run s = let last = ports_served config.limits.ports (channels_counted config run s) in record last { round = last.round + 1 }
 
--- the round of `sim`: each channel's part, then each port's; none where a clock is spent
+-- a round: each channel's part, then each port's; none where a clock is spent
 abbrev pub round_made : Config → Run → Option Run
 round_made config run = option_map (round_closed config run) (channels_served config.geometry.channels run.state)
 

@@ -3,7 +3,7 @@ use Rattle.std.specs.Prelude.{◌≡◌, ℕ, ◌*◌, ◌-◌, ◌<◌, ◌≤�
 use Rattle.ddr_timing.specs.declared.config.Config.{Config}
 use Rattle.ddr_latency.specs.Latency.{leaves_time}
 use Rattle.ddr_text.specs.declared.fault.Fault.{Fault}
-use Rattle.ddr_sim.specs.Rounds.{outstanding}
+use Rattle.ddr_rounds.specs.Rounds.{outstanding}
 use Rattle.ddr_stream.specs.Stream.{Queues}
 use Rattle.ddr_replay.specs.declared.replaying.TheConstants.{MOST_ROUNDS, STUCK_INTERVALS}
 use Rattle.ddr_replay.specs.Runs.{Run, begun, replayed}

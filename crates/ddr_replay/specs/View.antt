@@ -1,9 +1,9 @@
 -- What contracts see of a replay.
-use Rattle.std.specs.Prelude.{◌≡◌, ℕ, Bool, true, false, length, Some, None, Result, Err}
+use Rattle.std.specs.Prelude.{◌≡◌, ℕ, Bool, true, false, length, Option, Some, None, Result, Err}
 use Rattle.ddr_timing.specs.declared.config.Config.{Config}
-use Rattle.ddr_world.specs.Events.{Event, Take, Deliver, Collect, Release}
 use Rattle.ddr_world.specs.Kept.{Kept, state_of}
 use Rattle.ddr_world.specs.Served.{front_service}
+use Rattle.ddr_world.specs.State.{State}
 use Rattle.ddr_reorder.specs.declared.reply.Service.{Service}
 use Rattle.ddr_text.specs.declared.fault.Fault.{Fault}
 use Rattle.ddr_text.specs.declared.fault.Fault.TheVariants as faults
@@ -53,13 +53,11 @@ abbrev pub IsFrontReleased : ℕ → Run → Run → Bool → Type 0
 IsFrontReleased p old new true = (v : Service) × (front_service old.state p ≡ Some v) × (new ≡ released_by p old v)
 IsFrontReleased p old new false = (front_service old.state p ≡ None) × (new ≡ old)
 
--- an event that pops an item each time that it is made
-abbrev pub is_popping : Event → Bool
-is_popping (Take c) = true
-is_popping (Deliver c) = true
-is_popping (Collect p) = true
-is_popping (Release p) = true
-is_popping _ = false
+-- a part of a round ends by a fault where there is none to be made, or for want of memory
+abbrev pub IsCycleFault : Fault → Option State → Type 0
+IsCycleFault faults.ClockSpent part = part ≡ None
+IsCycleFault faults.OutOfMemory part = Unit {0}
+IsCycleFault _ part = ⊥
 
 -- a fault ends the run as said, unless memory ran out, or where it can go on no more
 abbrev pub IsRunFault : Config → Fault → Result Run Fault → Type 0

@@ -1,10 +1,9 @@
 //! What a replay comes to: of each channel the numbers of its commands, and of each port its requests.
 //!
-//! `ddr_stream`, `ddr_world` and `ddr_statistics` stand below, and `report`, `places` and `telling` above.
-ghost use Rattle.std.specs.Prelude.{◌≡◌, ◌≢◌, All, true, false, ◌+◌, ◌<◌, ◌≤◌, ◌==◌, IfErr, IfOk, IsTrue, length, map};
+//! `ddr_stream`, `ddr_world`, `ddr_counting` and `ddr_statistics` stand below, and `report`, `places` and `telling` above.
+ghost use Rattle.std.specs.Prelude.{◌≡◌, ◌≢◌, true, false, ◌+◌, ◌<◌, ◌≤◌, ◌==◌, IfErr, IfOk, length, map};
 ghost use Rattle.std.specs.List.{range_with_len};
 ghost use Rattle.ddr_timing.specs.declared.units.TheConstants.{CLOCK_STOP};
-ghost use Rattle.ddr_trace.specs.Rules.{is_in};
 ghost use Rattle.ddr_statistics.specs.Debts.{IsInOrder};
 ghost use Rattle.ddr_statistics.specs.Stands.{StandsFor};
 ghost use Rattle.ddr_world.specs.Kept.{state_of};
@@ -12,14 +11,13 @@ ghost use Rattle.ddr_replay.specs.Numbers.{IsCounted, added, both, is_any_spent,
 
 use ddr_address_map::request::Kind;
 use ddr_channel::channel::Channel;
+use ddr_counting::counting::Counting;
 use ddr_statistics::counts::Counts;
 use ddr_statistics::statistics::Statistics;
 use ddr_stream::ask::Ask;
 use ddr_stream::queue::Queue;
 use ddr_text::fault::Fault;
-use ddr_timing::config::Config;
 use ddr_timing::units::CLOCK_STOP;
-use ddr_trace::command::Entry;
 use ddr_world::world::World;
 use std::alloc::{AllocError, Global};
 
@@ -183,23 +181,9 @@ pub fn statistics_in(channel: &Channel) -> Statistics
     ensures few { length channel.now.trace < CLOCK_STOP }
     ensures order { IsInOrder channel.now.now channel.now.trace }
 {
-    statistics_of(channel.config(), channel.trace())
-}
-
-/// The statistics of a trace.
-fn statistics_of(config: &Config, trace: &[Entry]) -> Statistics
-    requires placed { All (λ e. IsTrue (is_in config.now.geometry e.command)) trace.now }
-    requires few { length trace.now < CLOCK_STOP }
-    ensures stands { StandsFor result trace.now }
-    ensures geometry { result.geometry ≡ config.now.geometry }
-    ensures timing { result.timing ≡ config.now.timing }
-    ensures start { result.start ≡ 0 }
-{
-    let mut statistics = Statistics::open(config, 0);
-    for entry in trace {
-        statistics.note(entry);
-    }
-    statistics
+    let mut counting = Counting::open(channel.config());
+    counting.catch_up(channel);
+    counting.statistics
 }
 
 /// The numbers of several channels together.

@@ -29,8 +29,8 @@ use std::str;
 /// version, a line `---` and the stream. `taking` says how its lines are read, each of which asks for the whole line of the memory that
 /// holds an address, and whether their cycles count from the first one's. Before each round every port, from port 0 on, submits its next requests in order while their cycle is at
 /// most the rounds made so far and they aren't refused; then comes the round of `sim`; until every request was submitted and its
-/// reply released. Then `told` says what is written: statistics as TOML, the requests as CSV, a channel's trace, or numbers of the requests
-/// as TOML.
+/// reply released. Then `told` says what is written: statistics as TOML, the requests as CSV, a channel's trace in one of two forms, or numbers
+/// of the requests as TOML.
 ///
 /// Fails as `take_apart` does, then as `TraceNoSuch` where there is no channel of that number, then as `ReplayLine` or `ReplayRange` at
 /// the first line of the stream that is at fault, then as `ReplayLimit` where more than `MOST_ROUNDS` rounds are needed, or as
@@ -97,12 +97,14 @@ fn report_of<V: Watch>(
     told_of(alloc, config, told, requests.as_slice(), &replaying)
 }
 
-/// Whether a trace is asked for of a channel that isn't there.
+/// Whether the commands are asked for of a channel that isn't there.
 fn names_no_channel(config: &Config, told: Wanted) -> bool
     ensures { result ≡ names_no_channel config.now told }
 {
     match told {
-        Wanted::Trace { channel } => channel >= config.geometry.channels,
+        Wanted::Trace { channel } | Wanted::Drampower { channel } => {
+            channel >= config.geometry.channels
+        }
         _ => false,
     }
 }

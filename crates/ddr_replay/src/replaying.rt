@@ -1,18 +1,16 @@
 //! The core, and the requests that are still to be submitted: a replay from its first round to its last.
 //!
-//! `submitting`, `ddr_stream`, `ledger`, `watch` and `ddr_world` stand below, and `replay` above.
-ghost use Rattle.std.specs.Prelude.{◌≡◌, ◌==◌, ℕ, ◌+◌, ◌-◌, ◌<◌, ◌≤◌, false, true, IfErr, IfOk, IfSome, IsTrue, OnOk, Some, None, Ok, length, sum_by};
-ghost use Rattle.ddr_sim.specs.Rounds.{channel_served, channels_served, items_of, outstanding, until_refused};
-ghost use Rattle.ddr_sim.specs.Simulated.{IsCycleFault, added};
-ghost use Rattle.ddr_world.specs.Answer.{IsAnswered};
-ghost use Rattle.ddr_world.specs.Events.{event_of, Release};
-ghost use Rattle.ddr_world.specs.Served.{front_service};
+//! `submitting`, `ddr_stream`, `ledger`, `watch`, `ddr_rounds` and `ddr_world` stand below, and `replay` above.
+ghost use Rattle.std.specs.Prelude.{◌≡◌, ◌==◌, ℕ, ◌+◌, ◌-◌, ◌<◌, ◌≤◌, false, true, IfErr, IfOk, IfSome, OnOk, Some, Ok, length};
+ghost use Rattle.ddr_rounds.specs.Rounds.{channels_served, items_of, outstanding, until_refused};
+ghost use Rattle.ddr_world.specs.Events.{Collect, Release};
 ghost use Rattle.ddr_world.specs.Kept.{state_of};
 ghost use Rattle.ddr_world.specs.Quiet.{passed};
-ghost use Rattle.ddr_replay.specs.Drains.{all_drained, drained, is_draining};
+ghost use Rattle.ddr_rounds.specs.Drains.{is_draining};
+ghost use Rattle.ddr_replay.specs.Drains.{all_drained, drained};
 ghost use Rattle.ddr_replay.specs.Runs.{begun, port_served, port_submitted, ports_served, ports_submitted, replayed, round_made, unserved};
 ghost use Rattle.ddr_replay.specs.Stuck.{CannotGoOn};
-ghost use Rattle.ddr_replay.specs.View.{IsButLedger, IsFrontReleased, IsRunFault, IsSame, is_popping, run_of};
+ghost use Rattle.ddr_replay.specs.View.{IsButLedger, IsCycleFault, IsFrontReleased, IsRunFault, IsSame, run_of};
 ghost use Rattle.ddr_replay.specs.Waits.{AreQuiet, AreWaiting, IsWaitingIn, all_full, come_of, filled};
 
 use crate::ledger::Ledger;
@@ -20,11 +18,13 @@ use crate::submitting::submit_from;
 use crate::watch::Watch;
 use ddr_latency::clocks::leaves_time;
 use ddr_reorder::reply::{Reply, Service};
+use ddr_rounds::channels::serve_channels;
+use ddr_rounds::ports::{collect, has_front, release};
 use ddr_stream::queue::Queue;
 use ddr_stream::stream::count_all;
 use ddr_text::fault::Fault;
 use ddr_timing::config::Config;
-use ddr_world::event::{Event, Outcome, Refusal};
+use ddr_world::event::Refusal;
 use ddr_world::world::World;
 use std::alloc::{AllocError, Global};
 use std::marker::Model;
@@ -218,24 +218,12 @@ impl Replaying {
         ensures waits { 0 < result → self.now.round + result ≤ until }
         ensures within { result ≤ MOST_ROUNDS - self.now.round }
     {
-        if self.has_front() {
+        if has_front(&self.world, self.config.limits.ports) {
             return 0;
         }
         let waits = until.saturating_sub(u64::from(self.round));
         let left = u64::from(MOST_ROUNDS - self.round);
         self.world.still().min(waits).min(left) as u32
-    }
-
-    /// Whether a reply is in front of a port.
-    fn has_front(&self) -> bool
-        ensures { result ≡ false → (port : ℕ) → port < self.now.config.limits.ports → front_service (state_of self.now.world) port ≡ None }
-    {
-        for port in 0..self.config.limits.ports {
-            if self.world.front(port).is_some() {
-                return true;
-            }
-        }
-        false
     }
 
     /// Makes so many quiet rounds at once: before the first of them each port has submitted, and before each other one those whose
@@ -339,26 +327,12 @@ impl Replaying {
         ensures fault { IfErr result (λ fault. IsCycleFault fault (channels_served self.old.config.geometry.channels (state_of self.old.world))) }
         ensures same { IsSame self.old self.new }
     {
-        for channel in 0..self.config.geometry.channels {
-            self.serve_channel(channel)?;
+        let channels = self.config.geometry.channels;
+        match serve_channels(&mut self.world, channels, &mut ()) {
+            Ok(()) => Ok(()),
+            Err(Refusal::OutOfMemory) => Err(Fault::OutOfMemory),
+            Err(_) => Err(Fault::ClockSpent),
         }
-        Ok(())
-    }
-
-    /// A channel's part of a round: it takes what there is room for, makes a cycle, and delivers what is done.
-    fn serve_channel(&mut self, channel: u32) -> Result<(), Fault>
-        ensures served { OnOk result (channel_served channel (state_of self.old.world) ≡ Some (state_of self.new.world)) }
-        ensures fault { IfErr result (λ fault. IsCycleFault fault (channel_served channel (state_of self.old.world))) }
-        ensures same { IsSame self.old self.new }
-    {
-        self.repeat(Event::Take(channel));
-        match self.make(Event::Cycle(channel)) {
-            Ok(_) => {}
-            Err(Refusal::OutOfMemory) => return Err(Fault::OutOfMemory),
-            Err(_) => return Err(Fault::ClockSpent),
-        }
-        self.repeat(Event::Deliver(channel));
-        Ok(())
     }
 
     /// The ports' part of a round.
@@ -379,9 +353,17 @@ impl Replaying {
         ensures config { self.new.config ≡ self.old.config }
         ensures round { self.new.round ≡ self.old.round }
     {
-        self.repeat(Event::Collect(port));
+        self.collect(port);
         'replies: while self.release_front(port)? {}
         Ok(())
+    }
+
+    /// Lets a port collect what was delivered: the completions of requests that were served.
+    fn collect(&mut self, port: u32)
+        ensures state { state_of self.new.world ≡ until_refused (Collect port) (state_of self.old.world) }
+        ensures same { IsSame self.old self.new }
+    {
+        self.went_on |= collect(&mut self.world, port);
     }
 
     /// Releases the reply in front of a port, if there is one, and tells whether there was.
@@ -395,34 +377,11 @@ impl Replaying {
             return Ok(false);
         };
         let Reply { issued, due, .. } = reply;
-        let _ = self.make(Event::Release(port));
         self.ledger
             .release(port, Service { issued, due }, self.round)?;
+        let _ = release(&mut self.world, port, &mut ());
+        self.unserved -= 1;
         Ok(true)
-    }
-
-    /// Makes an event that pops something until it is refused.
-    fn repeat(&mut self, event: Event<'_>)
-        requires { IsTrue (is_popping (event_of event)) }
-        ensures state { state_of self.new.world ≡ until_refused (event_of event.entry) (state_of self.old.world) }
-        ensures same { IsSame self.old self.new }
-    {
-        'items: while self.make(event).is_ok() {}
-    }
-
-    /// Makes an event, and counts what is served.
-    fn make(&mut self, event: Event<'_>) -> Result<Outcome, Refusal>
-        requires { added (event_of event) ≡ 0 }
-        ensures answer { IsAnswered self.old.world self.new.world (event_of event.entry) result }
-        ensures same { IsSame self.old self.new }
-    {
-        let outcome = self.world.step(event)?;
-        match outcome {
-            Outcome::Released { .. } => self.unserved -= 1,
-            Outcome::Delivered => self.went_on = true,
-            _ => {}
-        }
-        Ok(outcome)
     }
 
     /// How many rounds were made.

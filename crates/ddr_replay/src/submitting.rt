@@ -2,7 +2,7 @@
 //!
 //! `ddr_stream`, `ledger` and `ddr_world` stand below, and `replaying` above.
 ghost use Rattle.std.specs.Prelude.{◌≡◌, ◌+◌, OnOk, IfOk, length};
-ghost use Rattle.ddr_sim.specs.Rounds.{outstanding};
+ghost use Rattle.ddr_rounds.specs.Rounds.{outstanding};
 ghost use Rattle.ddr_world.specs.Kept.{state_of};
 ghost use Rattle.ddr_replay.specs.Runs.{submitted};
 ghost use Rattle.ddr_replay.specs.Waits.{IsWaiting};

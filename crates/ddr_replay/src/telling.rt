@@ -1,12 +1,14 @@
 //! What is told of a replay that has come to its end.
 //!
-//! `wanted`, `replaying`, `report`, `places`, `served`, `found` and `measured` stand below, and `replay` above.
+//! `wanted`, `replaying`, `report`, `places`, `served`, `found`, `measured` and `drampower` stand below, and `replay` above.
 ghost use Rattle.std.specs.Prelude.{◌≡◌, IfErr, IfOk};
-ghost use Rattle.ddr_sim.specs.Runs.{channel_text};
+ghost use Rattle.ddr_trace.specs.Text.{trace_text};
 ghost use Rattle.ddr_world.specs.Kept.{state_of};
-ghost use Rattle.ddr_replay.specs.Replays.{IsSaid, listed, measured, reported, told_of};
+ghost use Rattle.ddr_replay.specs.Drampower.{drampower_text};
+ghost use Rattle.ddr_replay.specs.Replays.{IsSaid, channel_commands, channel_text, listed, measured, reported, told_of};
 ghost use Rattle.ddr_replay.specs.View.{run_of};
 
+use crate::drampower::drampower_text;
 use crate::found::findings_of;
 use crate::measured::{behind, timed};
 use crate::numbers::{Requests, is_any_spent, numbers_of};
@@ -16,10 +18,11 @@ use crate::report::report_lines;
 use crate::served::served_text;
 use crate::wanted::Wanted;
 use ddr_address_map::map::Map;
+use ddr_channel::channel::Channel;
 use ddr_measure::text::measured_text;
-use ddr_sim::trace::text_of;
 use ddr_text::fault::Fault;
 use ddr_timing::config::Config;
+use ddr_trace::text::write_trace;
 use ddr_world::world::World;
 use std::alloc::Global;
 
@@ -37,6 +40,7 @@ pub fn told_of(
         Wanted::Statistics => reported(alloc, config, requests, replaying),
         Wanted::Requests => listed(alloc, config, replaying),
         Wanted::Trace { channel } => channel_text(alloc, replaying.world(), channel),
+        Wanted::Drampower { channel } => channel_commands(alloc, replaying.world(), channel),
         Wanted::Numbers { skip, clock } => measured(alloc, config, skip, clock, replaying),
     }
 }
@@ -113,7 +117,39 @@ fn channel_text(alloc: Global, world: &World, channel: u32) -> Result<Vec<u8>, F
     ensures refused { IfErr result (λ fault. fault ≡ Fault.OutOfMemory) }
 {
     match world.channel(channel) {
-        Some(channel) => text_of(alloc, channel),
+        Some(channel) => trace_text(alloc, channel),
         None => Ok(Vec::new(alloc)),
     }
+}
+
+/// The text of a channel's trace.
+fn trace_text(alloc: Global, channel: &Channel) -> Result<Vec<u8>, Fault>
+    ensures text { IfOk result (λ v. v.items ≡ trace_text channel.now.trace channel.now.now) }
+    ensures refused { IfErr result (λ fault. fault ≡ Fault.OutOfMemory) }
+{
+    let mut text = Vec::new(alloc);
+    match write_trace(alloc, channel.trace(), channel.now(), &mut text) {
+        Ok(()) => Ok(text),
+        Err(_) => Err(Fault::OutOfMemory),
+    }
+}
+
+/// The commands of a channel in DRAMPower's form, an empty text where there is no such channel.
+fn channel_commands(alloc: Global, world: &World, channel: u32) -> Result<Vec<u8>, Fault>
+    ensures text { IfOk result (λ v. v.items ≡ channel_commands (state_of world.now) channel) }
+    ensures refused { IfErr result (λ fault. fault ≡ Fault.OutOfMemory) }
+{
+    match world.channel(channel) {
+        Some(channel) => commands_text(alloc, channel),
+        None => Ok(Vec::new(alloc)),
+    }
+}
+
+/// The text of a channel's commands in DRAMPower's form.
+fn commands_text(alloc: Global, channel: &Channel) -> Result<Vec<u8>, Fault>
+    ensures text { IfOk result (λ v. v.items ≡ drampower_text channel.now.trace channel.now.now) }
+    ensures refused { IfErr result (λ fault. fault ≡ Fault.OutOfMemory) }
+{
+    let text = drampower_text(alloc, channel.trace(), channel.now())?;
+    Ok(text.into_bytes())
 }

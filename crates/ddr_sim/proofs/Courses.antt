@@ -1,100 +1,38 @@
 -- How the parts of a run follow one another.
-use Rattle.std.proofs.Common.{◌≡◌, ◌<◌, ◌≤◌, ◌-◌, ◌+◌, ℕ, zero, suc, Bool, true, false, cond, List, [], ◌++◌, Option, Some, None, Result, Ok, Err, IsTrue, is_ok, length, drop, map, get_or, IfErr, OnOk, ◌⊎◌, inl, inr, refl, sym, ap, ap₂, subst, ◌∙◌, arith}
+use Rattle.std.proofs.Common.{◌≡◌, ◌<◌, ◌≤◌, ◌-◌, ◌+◌, ℕ, zero, suc, Bool, true, false, cond, List, [], ◌++◌, Option, Some, None, Result, Ok, Err, length, drop, map, get_or, IfErr, OnOk, ◌⊎◌, inl, inr, refl, sym, ap, ap₂, subst, ◌∙◌, arith}
 use Rattle.std.specs.Io.KnownBytes.{Appends}
 use Rattle.std.specs.List.{slice_get}
-use Rattle.std.specs.Option.{option_map, option_and_then, option_map_or}
+use Rattle.std.specs.Option.{option_map, option_map_or}
 use Rattle.std.specs.Prelude.{◌==◌}
 use Rattle.std.proofs.KnownBytes.{Appends-trans}
 use Rattle.ddr_ports.specs.Asked.{Asked}
-use Rattle.ddr_reorder.specs.Replies.{Answer, nth_answer}
+use Rattle.ddr_reorder.specs.Replies.{Answer}
 use Rattle.ddr_timing.specs.declared.config.Config.{Config}
 use Rattle.ddr_world.specs.declared.event.Outcome.{Outcome}
-use Rattle.ddr_world.specs.declared.event.Outcome.TheVariants as outcome
 use Rattle.ddr_world.specs.declared.event.Refusal.{Refusal}
-use Rattle.ddr_world.specs.declared.event.Refusal.TheVariants as refusal
-use Rattle.ddr_world.specs.Answer.{IsAnswered, IsRefused}
-use Rattle.ddr_world.specs.Events.{Event, Submit, Take, Cycle, Deliver, Collect, Release, End}
+use Rattle.ddr_world.specs.Answer.{IsAnswered}
+use Rattle.ddr_world.specs.Events.{Submit, Take, Collect, Release, End}
 use Rattle.ddr_world.specs.History.{front_of}
 use Rattle.ddr_world.specs.Kept.{Kept, KeptSide, side_of, state_of}
-use Rattle.ddr_world.specs.State.{State, PortSide, ChannelSide}
+use Rattle.ddr_world.specs.State.{State, ChannelSide}
 use Rattle.ddr_channel.specs.Kept as channel_kept
 use Rattle.ddr_trace.specs.Text.{trace_text}
 use Rattle.std.proofs.lemmas.Option.{slice_get-map}
-use Rattle.ddr_world.specs.Step.{IsRefusedFor, Made, Step, after_release, made, release_by, step, with_port}
+use Rattle.ddr_world.specs.Step.{Step, made, step}
+use Rattle.ddr_rounds.specs.Rounds.{after, channels_served, items_of, outstanding, until_refused}
+use Rattle.ddr_rounds.proofs.EventLemmas.{after_end_answer, after_made, after_take_answer, front_fewer}
 use Rattle.ddr_text.specs.declared.fault.Fault.{Fault}
 use Rattle.ddr_text.specs.declared.fault.Fault.TheVariants as faults
 use Rattle.ddr_text.specs.Replies.{reply_text}
 use Rattle.ddr_sim.specs.Refusals.{refused_text}
-use Rattle.ddr_sim.specs.Rounds.{Run, Course, ◌then◌, after, channel_served, channels_served, items_of, outstanding, port_served, ports_served, replied, round, rounds, round_closed, stopped, until_refused}
+use Rattle.ddr_sim.specs.Rounds.{Run, Course, ◌then◌, port_served, ports_served, replied, round, rounds, round_closed, stopped}
 use Rattle.ddr_sim.specs.Runs.{after_submit, all_followed, channel_text, channels_ended, served_out, followed, ports_ended, submitted}
 use Rattle.ddr_text.specs.Script.{view}
 use Rattle.ddr_text.specs.Sink.{write_fault}
 use Rattle.ddr_text.specs.declared.script.Instruction as kept
 use Rattle.std.proofs.lemmas.List.{at_drop_more, at_drop_all}
-use Rattle.ddr_sim.specs.Simulated.{BeginsWith, printed_in, ComesTo, IsCycleFault, IsFrontPrinted, IsSameRun, Leads, Prints, Simulated, is_popping, run_at}
-use Rattle.ddr_sim.proofs.Growth.{Grows, begins_on, begins_then, ports_more, round_grows, submitted_grows}
-use Rattle.ddr_sim.proofs.StepCounts.{release_pops}
-
--- what an event was answered
-
-pub answered_ok : (k next : Kept) (event : Event) (r : Result Outcome Refusal) → IsAnswered k next event r → is_ok r ≡ true → (o : Outcome) × (step (state_of k) event ≡ made (state_of next) o)
-answered_ok k next event (Ok o) a is = (o, a.ok)
-answered_ok k next event (Err cause) a is = absurd (let impossible = is in cc)
-
-refused_by : (event : Event) (cause : Refusal) (s : Step) → IsTrue (is_popping event) → IsRefused cause event s → s ≡ Err cause
-refused_by (Take c) cause s popping is = is
-refused_by (Deliver c) cause s popping is = is
-refused_by (Collect p) cause s popping is = is
-refused_by (Submit p asked) cause s popping is = absurd (let impossible = popping in cc)
-refused_by (Cycle c) cause s popping is = absurd (let impossible = popping in cc)
-refused_by (Release p) cause s popping is = absurd (let impossible = popping in cc)
-refused_by (End p c) cause s popping is = absurd (let impossible = popping in cc)
-
-pub answered_err : (k next : Kept) (event : Event) (r : Result Outcome Refusal) → IsTrue (is_popping event) → IsAnswered k next event r → is_ok r ≡ false → (cause : Refusal) × (step (state_of k) event ≡ Err cause) × (state_of next ≡ state_of k)
-answered_err k next event (Ok o) popping a is = absurd (let impossible = is in cc)
-answered_err k next event (Err cause) popping a is = (cause, refused_by event cause (step (state_of k) event) popping a.refused, a.err)
-
--- whatever was answered, the state is that after the event
-after_answer : (k next : Kept) (event : Event) (r : Result Outcome Refusal) → IsAnswered k next event r → ((cause : Refusal) → IsRefused cause event (step (state_of k) event) → step (state_of k) event ≡ Err cause) → state_of next ≡ after (state_of k) event
-after_answer k next event (Ok o) a named = sym (ap (λ (r : Step). elim r as (λ _. State) [ Ok m ↦ m.state | Err cause ↦ state_of k ]) a.ok)
-after_answer k next event (Err cause) a named = a.err ∙ sym (ap (λ (r : Step). elim r as (λ _. State) [ Ok m ↦ m.state | Err cause ↦ state_of k ]) (named cause a.refused))
-
-pub after_end_answer : (k next : Kept) (p c : ℕ) (r : Result Outcome Refusal) → IsAnswered k next (End p c) r → state_of next ≡ after (state_of k) (End p c)
-after_end_answer k next p c r a = after_answer k next (End p c) r a (λ cause is. is)
-
-pub after_take_answer : (k next : Kept) (c : ℕ) (r : Result Outcome Refusal) → IsAnswered k next (Take c) r → state_of next ≡ after (state_of k) (Take c)
-after_take_answer k next c r a = after_answer k next (Take c) r a (λ cause is. is)
-
--- a channel's part of a round
-
-named_refusal : (cause : Refusal) (r : Step) → (cause ≡ refusal.OutOfMemory → ⊥) → IsRefusedFor cause r → r ≡ Err cause
-named_refusal cause (Ok m) other is = absurd (other is)
-named_refusal cause (Err name) other is = ap (λ n. Err n) (sym is)
-
--- the channels before were served
-pub channel_more : (s now next : State) (c n : ℕ) → channels_served c s ≡ Some now → channel_served c now ≡ Some next → n ≡ suc c → channels_served n s ≡ Some next
-channel_more s now next c n before is e = ap (λ k. channels_served k s) e ∙ ap (option_and_then (channel_served c)) before ∙ is
-
-none_later : (s : State) (c k : ℕ) → channels_served c s ≡ None → channels_served (k + c) s ≡ None
-none_later s c zero is =
-    let none : 0 + c ≡ c = omega arith in
-    ap (λ n. channels_served n s) none ∙ is
-none_later s c (suc k) is =
-    let one : suc k + c ≡ suc (k + c) = omega arith in
-    ap (λ n. channels_served n s) one ∙ ap (option_and_then (channel_served (k + c))) (none_later s c k is)
-
-cycle_fault : (fault : Fault) (a b : Option State) → (a ≡ None → b ≡ None) → IsCycleFault fault a → IsCycleFault fault b
-cycle_fault faults.ClockSpent a b none is = none is
-cycle_fault faults.OutOfMemory a b none is = tt
-cycle_fault _ a b none is = absurd is
-
-pub channel_fault : (fault : Fault) (s now : State) (c n : ℕ) → channels_served c s ≡ Some now → c < n → IsCycleFault fault (channel_served c now) → IsCycleFault fault (channels_served n s)
-channel_fault fault s now c n before within is =
-    cycle_fault fault (channel_served c now) (channels_served n s)
-    (λ none.
-    let here : channels_served (suc c) s ≡ None = ap (option_and_then (channel_served c)) before ∙ none in
-    let all : n ≡ (n - suc c) + suc c = omega (arith, within) in
-    ap (λ k. channels_served k s) all ∙ none_later s (suc c) (n - suc c) here) is
+use Rattle.ddr_sim.specs.Simulated.{BeginsWith, printed_in, ComesTo, IsCycleFault, IsFrontPrinted, IsSameRun, Leads, Prints, Simulated, run_at}
+use Rattle.ddr_sim.proofs.Growth.{Grows, all_followed_grow, begins_on, begins_then, ports_more, round_grows, submitted_grows}
 
 -- printing
 
@@ -153,32 +91,6 @@ ports_stop i k n a b d ca cb cd v fault e p q = λ begin text printed.
     (subst (λ (x : Run). BeginsWith (ports_served (k + suc i) (run_at a text)).text (port_served i x).text) here (ports_more (suc i) k (run_at a text))))
     (q begin first.0 first.2)
 
--- the reply in front of a port
-
-front_there : (s : State) (p : ℕ) (a : Answer) (o : Option PortSide) → option_and_then (λ (port : PortSide). nth_answer port.core.reorder 0) o ≡ Some a → (port : PortSide) × (o ≡ Some port) × (nth_answer port.core.reorder 0 ≡ Some a)
-front_there s p a None is = absurd (let impossible = is in cc)
-front_there s p a (Some port) is = (port, refl, is)
-
-release_made : (s : State) (p : ℕ) (a : Answer) (port : PortSide) → slice_get s.ports p ≡ Some port → nth_answer port.core.reorder 0 ≡ Some a → step s (Release p) ≡ made (with_port p (after_release port) s) (outcome.Released a.number)
-release_made s p a port there front =
-    ap (λ o. option_map_or (release_by s p) o (Err refusal.NoSuch)) there
-    ∙ ap (λ o. option_map_or (λ n. made (with_port p (after_release port) s) (outcome.Released n)) (option_map (λ (x : Answer). x.number) o) (Err refusal.Nothing)) front
-
-pub front_released : (s : State) (p : ℕ) (a : Answer) → front_of s p ≡ Some a → (m : Made) × (step s (Release p) ≡ Ok m)
-front_released s p a is =
-    let found = front_there s p a (slice_get s.ports p) is in
-    (record { state = with_port p (after_release found.0) s; outcome = outcome.Released a.number }, release_made s p a found.0 found.1 found.2)
-
-released_by : (k next : Kept) (p : ℕ) (r : Result Outcome Refusal) (m : Made) → step (state_of k) (Release p) ≡ Ok m → IsAnswered k next (Release p) r → (o : Outcome) × (step (state_of k) (Release p) ≡ made (state_of next) o)
-released_by k next p (Ok o) m is a = (o, a.ok)
-released_by k next p (Err cause) m is a = absurd (let impossible = sym is ∙ a.refused in cc)
-
-pub front_answered : (k next : Kept) (p : ℕ) (r : Result Outcome Refusal) (a : Answer) → front_of (state_of k) p ≡ Some a → IsAnswered k next (Release p) r → (o : Outcome) × (step (state_of k) (Release p) ≡ made (state_of next) o)
-front_answered k next p r a front is = let m = front_released (state_of k) p a front in released_by k next p r m.0 m.1 is
-
-pub front_fewer : (s next : State) (p : ℕ) (o : Outcome) → step s (Release p) ≡ made next o → items_of s (Release p) ≡ items_of next (Release p) + 1
-front_fewer s next p o is = subst (λ (r : Step). elim r as (λ _. Type 0) [ Ok m ↦ items_of s (Release p) ≡ items_of m.state (Release p) + 1 | Err cause ↦ Unit {0} ]) is (release_pops s p)
-
 -- the replies in front of a port
 
 abbrev pub replies_of : ℕ → Run → Course
@@ -190,9 +102,6 @@ none_replied (suc n) p run is = ap (λ o. option_map_or (λ a. replied n p (reco
 
 pub no_replies : (p : ℕ) (a : Simulated) (ca : Option (List ℕ)) (v : Unit {0}) → front_of (state_of a.world) p ≡ None → Leads (replies_of p) a ca a ca (Ok v)
 no_replies p a ca v is = leads_nowhere (replies_of p) a ca v (λ text. ap (λ (run : Run). Ok run) (none_replied (items_of (state_of a.world) (Release p)) p (run_at a text) is))
-
-after_made : (s next : State) (event : Event) (o : Outcome) → step s event ≡ made next o → after s event ≡ next
-after_made s next event o is = ap (λ (r : Step). elim r as (λ _. State) [ Ok m ↦ m.state | Err cause ↦ s ]) is
 
 one_replied : (p : ℕ) (a b : Simulated) (x : Answer) (o : Outcome) (text : List ℕ) → front_of (state_of a.world) p ≡ Some x → step (state_of a.world) (Release p) ≡ made (state_of b.world) o → b.left ≡ a.left
     → replies_of p (run_at b (text ++ reply_text p x)) ≡ replies_of p (run_at a text)
@@ -346,6 +255,8 @@ rounds_turn config n m run e =
 pub rounds_end : (config : Config) (n : ℕ) (run : Run) → n ≡ 0 → rounds config n run ≡ Ok run
 rounds_end config n run e = ap (λ k. rounds config k run) e
 
+-- the instructions, one after another
+
 pub followed_turn : (config : Config) (xs : List kept.Instruction) (i : ℕ) (x : kept.Instruction) (run : Run) → i < length xs → x ≡ get_or xs i x
     → all_followed config (map view (drop i xs)) run ≡ (followed config (view x) run then all_followed config (map view (drop (i + 1) xs)))
 followed_turn config xs i x run within is =
@@ -354,6 +265,20 @@ followed_turn config xs i x run within is =
 
 pub followed_end : (config : Config) (xs : List kept.Instruction) (i : ℕ) (run : Run) → length xs ≤ i → all_followed config (map view (drop i xs)) run ≡ Ok run
 followed_end config xs i run out = at_drop_all (λ ys. all_followed config (map view ys) run) xs i out
+
+-- one instruction more is followed: those after it are left
+pub followed_on : (xs : List kept.Instruction) (i : ℕ) (x : kept.Instruction) (s a b : Simulated) (cs ca cb : Option (List ℕ)) (v : Unit {0}) → i < length xs → x ≡ get_or xs i x → a.config ≡ s.config → Leads (followed a.config (view x)) a ca b cb (Ok v)
+    → Onward (all_followed s.config (map view xs)) s cs (all_followed s.config (map view (drop i xs))) a ca → Onward (all_followed s.config (map view xs)) s cs (all_followed s.config (map view (drop (i + 1) xs))) b cb
+followed_on xs i x s a b cs ca cb v within is same p onward =
+    onward_turn (all_followed s.config (map view xs)) s cs (all_followed s.config (map view (drop i xs))) (followed s.config (view x)) (all_followed s.config (map view (drop (i + 1) xs))) a b ca cb v
+    (λ text. followed_turn s.config xs i x (run_at a text) within is) (subst (λ (k : Config). Leads (followed k (view x)) a ca b cb (Ok v)) same p) onward
+
+-- one that fails ends them all
+pub followed_stop : (xs : List kept.Instruction) (i : ℕ) (x : kept.Instruction) (s a b : Simulated) (cs ca cb : Option (List ℕ)) (fault : Fault) → i < length xs → x ≡ get_or xs i x → a.config ≡ s.config → Leads (followed a.config (view x)) a ca b cb (Err fault)
+    → Onward (all_followed s.config (map view xs)) s cs (all_followed s.config (map view (drop i xs))) a ca → Leads (all_followed s.config (map view xs)) s cs b cb (Err fault)
+followed_stop xs i x s a b cs ca cb fault within is same p onward =
+    onward_stop (all_followed s.config (map view xs)) s cs (all_followed s.config (map view (drop i xs))) (followed s.config (view x)) (all_followed s.config (map view (drop (i + 1) xs))) a b ca cb fault
+    (all_followed_grow s.config (map view (drop (i + 1) xs))) (λ text. followed_turn s.config xs i x (run_at a text) within is) (subst (λ (k : Config). Leads (followed k (view x)) a ca b cb (Err fault)) same p) onward
 
 -- the trace of a channel
 

@@ -24,11 +24,12 @@ use Rattle.ddr_world.specs.State.{PortSide, ChannelSide, State, is_busy, IsDrain
 use Rattle.ddr_world.specs.Step.{Step, made, with_port, with_channel, at_channel, change_channel, queued, after_take, taken, after_end, end_at, step}
 use Rattle.ddr_world.proofs.CoreKeeps.{replaced_at}
 use Rattle.ddr_world.proofs.CorePromise.{core_keeps_promise}
+use Rattle.ddr_rounds.specs.Rounds.{after, after_step, outstanding}
+use Rattle.ddr_rounds.proofs.StepCounts.{slice_get-set}
 use Rattle.ddr_text.specs.Script.{Instruction}
-use Rattle.ddr_sim.specs.Rounds.{Run, Course, ◌then◌, after, after_step, outstanding}
+use Rattle.ddr_sim.specs.Rounds.{Run, Course, ◌then◌}
 use Rattle.ddr_sim.specs.Runs.{all_followed, begun, channels_ended, ended, ports_ended, run_of, served_out, whole}
 use Rattle.ddr_sim.proofs.Reached.{IsRequest, IsUnendedPort, IsReached, IsServedRun, ok_then, opening_of, run_reached}
-use Rattle.ddr_sim.proofs.StepCounts.{slice_get-set}
 
 -- the element of a place that is there
 some_at : {X : Type 0} (xs : List X) (i : ℕ) → i < length xs → (x : X) × (slice_get xs i ≡ Some x)

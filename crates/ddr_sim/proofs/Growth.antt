@@ -9,10 +9,11 @@ use Rattle.ddr_world.specs.Events.{Submit, Collect, Release}
 use Rattle.ddr_world.specs.History.{front_of}
 use Rattle.ddr_world.specs.State.{State}
 use Rattle.ddr_world.specs.Step.{Step, step}
+use Rattle.ddr_rounds.specs.Rounds.{after, channels_served, items_of, outstanding, until_refused}
 use Rattle.ddr_text.specs.declared.fault.Fault.TheVariants as faults
 use Rattle.ddr_text.specs.Replies.{reply_text}
 use Rattle.ddr_sim.specs.Refusals.{refused_text}
-use Rattle.ddr_sim.specs.Rounds.{Run, Course, ◌then◌, after, channels_served, items_of, outstanding, port_served, ports_served, replied, round, round_closed, rounds, stopped, until_refused}
+use Rattle.ddr_sim.specs.Rounds.{Run, Course, ◌then◌, port_served, ports_served, replied, round, round_closed, rounds, stopped}
 use Rattle.ddr_sim.specs.Runs.{after_submit, all_followed, served_out, ended, followed, submitted}
 use Rattle.ddr_text.specs.Script.{Instruction, Ask, Rounds}
 use Rattle.ddr_sim.specs.Simulated.{BeginsWith, printed_in}

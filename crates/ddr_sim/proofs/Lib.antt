@@ -5,4 +5,3 @@ pub mod LineLemmas
 pub mod QuietLemmas
 pub mod Reached
 pub mod RunLemmas
-pub mod StepCounts

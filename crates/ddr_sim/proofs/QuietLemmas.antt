@@ -1,67 +1,29 @@
 -- In quiet rounds the core's cycles pass, and nothing else comes of them.
-use Rattle.std.proofs.Common.{◌≡◌, ◌<◌, ◌≤◌, ◌-◌, ◌+◌, ℕ, zero, suc, Bool, false, cond, List, [], ◌∷◌, Option, Some, None, Ok, Err, IfOk, All, length, map, refl, sym, ap, ap₂, subst, ◌∙◌, arith}
+use Rattle.std.proofs.Common.{◌≡◌, ◌<◌, ◌≤◌, ◌-◌, ◌+◌, ℕ, zero, suc, Bool, false, cond, List, [], Option, Some, None, Ok, Err, IfOk, All, length, refl, sym, ap, ap₂, subst, ◌∙◌, arith}
 use Rattle.std.specs.Prelude.{◌==◌}
-use Rattle.std.specs.List.{slice_get, slice_set}
-use Rattle.std.specs.Option.{is_some, option_map, option_and_then, option_map_or}
+use Rattle.std.specs.List.{slice_get}
 use Rattle.std.proofs.lemmas.Bool.{ne_eqb}
 use Rattle.std.proofs.lemmas.List.{length-map, map-id}
 use Rattle.std.proofs.lemmas.List.Elements.{All-map}
-use Rattle.std.proofs.lemmas.Option.{slice_get_within}
 use Rattle.ddr_channel.proofs.ListLemmas.{All-at}
 use Rattle.ddr_timing.specs.declared.config.Config.{Config}
-use Rattle.ddr_reorder.specs.declared.reply.Reply.{Reply}
-use Rattle.ddr_reorder.specs.Replies.{Answer, said}
-use Rattle.ddr_world.specs.Events.{Event, Take, Cycle, Deliver, Collect, Release}
+use Rattle.ddr_world.specs.Events.{Collect, Release}
 use Rattle.ddr_world.specs.History.{front_of}
 use Rattle.ddr_world.specs.Kept.{Kept, side_of, state_of}
 use Rattle.ddr_world.specs.Quiet.{IsQuiet, IsQuietSide, passed, side_passed}
-use Rattle.ddr_world.specs.State.{ChannelSide, PortSide, State}
-use Rattle.ddr_world.specs.Step.{Step, step, with_channel}
-use Rattle.ddr_world.proofs.QuietLemmas.{fewer_of_side, first_all, first_at, first_more, first_passed, side_quiet_on, some_side, step_cycle}
+use Rattle.ddr_world.specs.State.{ChannelSide, State}
+use Rattle.ddr_world.proofs.QuietLemmas.{fewer_of_side, first_all, side_quiet_on}
+use Rattle.ddr_rounds.specs.Rounds.{channels_served, items_of, outstanding}
+use Rattle.ddr_rounds.proofs.EventLemmas.{nothing_popped}
+use Rattle.ddr_rounds.proofs.QuietLemmas.{channels_quiet, none_collected, passed_more}
 use Rattle.ddr_text.specs.declared.fault.Fault.TheVariants as faults
 use Rattle.ddr_sim.specs.Quiet.{AreQuiet, HasMade, quietly}
-use Rattle.ddr_sim.specs.Rounds.{Run, Course, ◌then◌, channel_served, channels_served, items_of, made_state, outstanding, port_served, ports_served, repeated, replied, round, round_closed, rounds, stopped, until_refused}
+use Rattle.ddr_sim.specs.Rounds.{Run, Course, ◌then◌, port_served, ports_served, replied, round, round_closed, rounds, stopped}
 use Rattle.ddr_sim.specs.Runs.{served_out}
 use Rattle.ddr_sim.specs.Simulated.{Prints, Simulated, run_at}
 use Rattle.ddr_sim.proofs.Courses.{none_replied}
 
-written_there : (xs : List ChannelSide) (c : ℕ) (side : ChannelSide) → c < length xs → slice_get (slice_set xs c side) c ≡ Some side
-written_there [] c side within = absurd (omega (arith, within))
-written_there (x ∷ xs) zero side within = refl
-written_there (x ∷ xs) (suc c) side within = written_there xs c side (omega (arith, within))
-
--- an event that finds nothing to pop
-pub nothing_popped : (event : Event) (s : State) → items_of s event ≡ 0 → until_refused event s ≡ s
-nothing_popped event s none = ap (λ n. repeated n event s) none
-
--- a channel's part of a quiet round
-channel_quiet : (c : ℕ) (s : State) (side : ChannelSide) → slice_get s.channels c ≡ Some side → IsQuietSide 1 side → channel_served c s ≡ Some (with_channel c (side_passed 1 side) s)
-channel_quiet c s side there is =
-    let next = with_channel c (side_passed 1 side) s in
-    let on = side_quiet_on 0 side is in
-    let found = written_there s.channels c (side_passed 1 side) (slice_get_within s.channels c side there) in
-    let none_queued = ap (λ (o : Option ChannelSide). option_map_or (λ x. length x.requests) o 0) there ∙ ap length is.requests in
-    let none_done = ap (λ (o : Option ChannelSide). option_map_or (λ x. length x.channel.done) o 0) found ∙ ap length on.done in
-    ap (λ (t : State). option_map (until_refused (Deliver c)) (made_state (step t (Cycle c)))) (nothing_popped (Take c) s none_queued)
-    ∙ ap (λ (r : Step). option_map (until_refused (Deliver c)) (made_state r)) (step_cycle s c side there is.channel.0.clock)
-    ∙ ap (λ (t : State). Some t) (nothing_popped (Deliver c) next none_done)
-
-pub channels_quiet : (k : ℕ) (s : State) → k ≤ length s.channels → ((c : ℕ) (side : ChannelSide) → slice_get s.channels c ≡ Some side → IsQuietSide 1 side)
-    → channels_served k s ≡ Some (record s { channels = first_passed 1 k s.channels })
-channels_quiet zero s within is = refl
-channels_quiet (suc k) s within is =
-    let xs = s.channels in
-    let found = some_side k xs (omega (arith, within)) in
-    let next : State = record s { channels = first_passed 1 k xs } in
-    ap (option_and_then (channel_served k)) (channels_quiet k s (omega (arith, within)) is)
-    ∙ channel_quiet k next found.0 (first_at 1 k xs ∙ found.1) (is k found.0 found.1)
-    ∙ ap (λ (ys : List ChannelSide). Some (record s { channels = ys })) (first_more 1 k xs found.0 found.1)
-
 -- a port's part of a quiet round
-
-pub none_collected : (x : Option PortSide) → ((port : PortSide) → x ≡ Some port → port.completions ≡ []) → option_map_or (λ (port : PortSide). length port.completions) x 0 ≡ 0
-none_collected None none = refl
-none_collected (Some port) none = ap length (none port refl)
 
 port_quiet : (p : ℕ) (run : Run) → All (λ port. port.completions ≡ []) run.state.ports → front_of run.state p ≡ None → port_served p run ≡ run
 port_quiet p run none front =
@@ -95,10 +57,6 @@ quiet_on config count s left are = record {
   fronts = are.fronts;
   most = omega (arith, are.most);
 }
-
-pub passed_more : (count : ℕ) (xs : List ChannelSide) → map (side_passed count) (map (side_passed 1) xs) ≡ map (side_passed (suc count)) xs
-passed_more count [] = refl
-passed_more count (x ∷ xs) = ap (λ (ys : List ChannelSide). side_passed (suc count) x ∷ ys) (passed_more count xs)
 
 -- so many quiet rounds
 pub rounds_quiet : (config : Config) (count : ℕ) (run : Run) → (0 < count → AreQuiet config count run.state run.left) → rounds config count run ≡ Ok (quietly count run)
@@ -173,11 +131,6 @@ served_out_some config now m made left busy waits text =
     let all : now.left ≡ made + m = omega (arith, left) in
     ap (λ k. served_out config k (run_at now text)) all
     ∙ served_out_behind config made m (run_at now text) (λ k below. waits_on (rounds config k (run_at now text)) (state_of now.world) busy (waits text k below))
-
--- no reply was found in front of a port
-pub none_in_front : (found : Option Reply) (front : Option Answer) → is_some found ≡ false → option_map said found ≡ front → front ≡ None
-none_in_front None front none is = sym is
-none_in_front (Some reply) front none is = absurd (let impossible = none in cc)
 
 -- the rounds for which the core is quiet, or fewer, are quiet
 pub are_quiet : (config : Config) (count quiet : ℕ) (k : Kept) (left : ℕ) → k.config ≡ config → length k.channels ≡ k.config.geometry.channels → IsQuiet quiet (state_of k)

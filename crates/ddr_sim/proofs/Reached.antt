@@ -28,12 +28,13 @@ use Rattle.ddr_world.specs.History.{Opening, Answered, History, front_of}
 use Rattle.ddr_world.specs.Refusals.{refusal_from}
 use Rattle.ddr_world.specs.State.{PortSide, ChannelSide, State, is_busy, is_completion_queue_full, opened, opened_port, opened_channel}
 use Rattle.ddr_world.specs.Step.{Step, made, with_port, with_channel, change_channel, queued, after_submit, push_on, push_request, submit_by, taken, cycled, sent, after_deliver, deliver_to, push_completion, deliver_by, after_collect, collect_by, after_release, release_by, after_take, step}
+use Rattle.ddr_rounds.specs.Rounds.{after, after_step, channel_served, channels_served, items_of, made_state, outstanding, repeated, until_refused}
+use Rattle.ddr_rounds.proofs.StepCounts.{at_channel_has, at_port_has, either_has, maybe_has}
 use Rattle.ddr_text.specs.declared.fault.Fault.TheVariants as faults
 use Rattle.ddr_text.specs.Replies.{reply_text}
 use Rattle.ddr_text.specs.Script.{Instruction, Ask, Rounds}
-use Rattle.ddr_sim.specs.Rounds.{Run, Course, ◌then◌, after, after_step, channel_served, channels_served, items_of, made_state, outstanding, port_served, ports_served, repeated, replied, round, round_closed, rounds, stopped, until_refused}
+use Rattle.ddr_sim.specs.Rounds.{Run, Course, ◌then◌, port_served, ports_served, replied, round, round_closed, rounds, stopped}
 use Rattle.ddr_sim.specs.Runs.{after_submit as after_answer, all_followed, begun, followed, served_out, submitted}
-use Rattle.ddr_sim.proofs.StepCounts.{at_channel_has, at_port_has, either_has, maybe_has}
 
 -- a core in which no End was pushed
 

@@ -19,29 +19,38 @@ use Rattle.ddr_sim.specs.Simulated.{BeginsWith, printed_in, ComesTo, Leads, Prin
 use Rattle.ddr_sim.specs.Sims.{AsksFor, HasSimFault, IsBeginning, IsRun, NamesNoChannel, Says, has_channel}
 use Rattle.ddr_sim.proofs.Drained.{run_drained}
 
+-- the bytes that were there to be read were read whole, and are a text
+pub record IsInput (remaining : Option (List ℕ)) (items text : List ℕ) : Type 0 where
+  pub known : IfSome remaining (λ input. items ≡ input)
+  pub same : text ≡ items
+  pub is_text : IsText items
+
+pub input_of : (remaining : Option (List ℕ)) {items bytes text : List ℕ} → bytes ≡ items → (text ≡ bytes) × IsText bytes → IfSome remaining (λ input. items ≡ input) → IsInput remaining items text
+input_of remaining is told known = record { known = known; same = told.0 ∙ is; is_text = subst IsText is told.1 }
+
 -- what was read and opened says what the body says
-pub said_by : (remaining : Option (List ℕ)) (items text profile : List ℕ) (sample : Bool) (trace : Option ℕ) (config : Config) (body : List ℕ) (said : Result (List Instruction) Fault) → IfSome remaining (λ bytes. items ≡ bytes) → text ≡ items → IsText items
+pub said_by : {remaining : Option (List ℕ)} {items text : List ℕ} (profile : List ℕ) (sample : Bool) (trace : Option ℕ) (config : Config) (body : List ℕ) (said : Result (List Instruction) Fault) → IsInput remaining items text
     → HasParts (parts_of sample profile text) config body → has_channel config trace ≡ true → instructions_of (form_of config true) body ≡ said → IfSome remaining (λ input. Says sample profile trace input config said)
-said_by None items text profile sample trace config body said known same is_text opened there e = tt
-said_by (Some input) items text profile sample trace config body said known same is_text opened there e =
-    subst (λ i. Says sample profile trace i config said) known (record {
-      text = is_text;
+said_by {remaining = None} profile sample trace config body said read opened there e = tt
+said_by {remaining = Some input} profile sample trace config body said read opened there e =
+    subst (λ i. Says sample profile trace i config said) read.known (record {
+      text = read.is_text;
       body = body;
-      opened = subst (λ t. HasParts (parts_of sample profile t) config body) same opened;
+      opened = subst (λ t. HasParts (parts_of sample profile t) config body) read.same opened;
       there = there;
       script = e;
     })
 
 -- a channel that is not there
-pub names_no_channel : (remaining : Option (List ℕ)) (items text profile : List ℕ) (sample : Bool) (trace : Option ℕ) (config : Config) (body : List ℕ) → IfSome remaining (λ bytes. items ≡ bytes) → text ≡ items → IsText items → HasParts (parts_of sample profile text) config body → has_channel config trace ≡ false
+pub names_no_channel : {remaining : Option (List ℕ)} {items text : List ℕ} (profile : List ℕ) (sample : Bool) (trace : Option ℕ) (config : Config) (body : List ℕ) → IsInput remaining items text → HasParts (parts_of sample profile text) config body → has_channel config trace ≡ false
     → IfSome remaining (λ input. NamesNoChannel sample profile trace input)
-names_no_channel None items text profile sample trace config body known same is_text opened absent = tt
-names_no_channel (Some input) items text profile sample trace config body known same is_text opened absent =
-    subst (λ i. NamesNoChannel sample profile trace i) known (record {
-      text = is_text;
+names_no_channel {remaining = None} profile sample trace config body read opened absent = tt
+names_no_channel {remaining = Some input} profile sample trace config body read opened absent =
+    subst (λ i. NamesNoChannel sample profile trace i) read.known (record {
+      text = read.is_text;
       config = config;
       body = body;
-      opened = subst (λ t. HasParts (parts_of sample profile t) config body) same opened;
+      opened = subst (λ t. HasParts (parts_of sample profile t) config body) read.same opened;
       absent = absent;
     })
 
@@ -81,12 +90,12 @@ text_fault profile text sample trace old faults.ClockSpent is_text refused = not
 text_fault profile text sample trace old faults.PortBroken is_text refused = not_of_parts (parts_of sample profile text) faults.PortBroken refused refl
 text_fault profile text sample trace old faults.ThreadsRefused is_text refused = not_of_parts (parts_of sample profile text) faults.ThreadsRefused refused refl
 
-pub parts_fault : (remaining : Option (List ℕ)) (items text profile : List ℕ) (sample : Bool) (trace : Option ℕ) (old : Option (List ℕ)) (fault : Fault) → IfSome remaining (λ bytes. items ≡ bytes) → text ≡ items → IsText items → IsRefused (parts_of sample profile text) fault
+pub parts_fault : {remaining : Option (List ℕ)} {items text : List ℕ} (profile : List ℕ) (sample : Bool) (trace : Option ℕ) (old : Option (List ℕ)) (fault : Fault) → IsInput remaining items text → IsRefused (parts_of sample profile text) fault
     → IfSome remaining (λ input. HasSimFault sample profile trace input old old fault)
-parts_fault None items text profile sample trace old fault known same is_text refused = tt
-parts_fault (Some input) items text profile sample trace old fault known same is_text refused =
-    subst (λ i. HasSimFault sample profile trace i old old fault) known
-    (text_fault profile items sample trace old fault is_text (subst (λ t. IsRefused (parts_of sample profile t) fault) same refused))
+parts_fault {remaining = None} profile sample trace old fault read refused = tt
+parts_fault {remaining = Some input} {items} profile sample trace old fault read refused =
+    subst (λ i. HasSimFault sample profile trace i old old fault) read.known
+    (text_fault profile items sample trace old fault read.is_text (subst (λ t. IsRefused (parts_of sample profile t) fault) read.same refused))
 
 -- a script that is at fault
 pub no_script : {X : Type 0} (view : X → List Instruction) (remaining : Option (List ℕ)) (profile : List ℕ) (sample : Bool) (trace : Option ℕ) (config : Config) (fault : Fault) (said : Result (List Instruction) Fault) (old : Option (List ℕ)) → AreRead view (Err fault) said
@@ -108,9 +117,29 @@ unfolding run_of
 course_of config same xs instructions sim e f is =
     ap (λ (k : Config). whole k xs (run_at sim [])) e ∙ ap (λ (ys : List Instruction). whole config ys (run_at sim [])) f ∙ ap (whole config instructions) is
 
-pub came_to : (config same : Config) (xs instructions : List Instruction) (sim after : Simulated) (old new : Option (List ℕ)) (r : Result (Unit {0}) Fault) → same ≡ config → xs ≡ instructions → run_at sim [] ≡ begun config → Leads (whole same xs) sim old after new r → ComesTo old after new r (run_of config instructions)
+came_to : (config same : Config) (xs instructions : List Instruction) (sim after : Simulated) (old new : Option (List ℕ)) (r : Result (Unit {0}) Fault) → same ≡ config → xs ≡ instructions → run_at sim [] ≡ begun config → Leads (whole same xs) sim old after new r → ComesTo old after new r (run_of config instructions)
 came_to config same xs instructions sim after old new r e f is leads =
     subst (ComesTo old after new r) (course_of config same xs instructions sim e f is) (leads old [] (nothing_printed sim.silent old))
+
+-- the input asks for a run, and it came to this
+pub record HasRun (remaining : Option (List ℕ)) (profile : List ℕ) (sample : Bool) (trace : Option ℕ) (sim : Simulated) (old new : Option (List ℕ)) (r : Result (Unit {0}) Fault) : Type 0 where
+  pub config : Config
+  pub instructions : List Instruction
+  pub says : IfSome remaining (λ input. Says sample profile trace input config (Ok instructions))
+  pub silent : sim.silent ≡ is_some trace
+  pub came : ComesTo old sim new r (run_of config instructions)
+
+-- a simulation that began with the configuration that was read, and ran the instructions that were
+pub has_run : {remaining : Option (List ℕ)} {items text : List ℕ} (profile : List ℕ) (sample : Bool) (trace : Option ℕ) {config : Config} (body : List ℕ) {xs instructions : List Instruction} (began sim : Simulated) (old new : Option (List ℕ)) (r : Result (Unit {0}) Fault)
+    → began.config ≡ config → run_at began [] ≡ begun config → began.silent ≡ is_some trace → xs ≡ instructions → IsInput remaining items text → HasParts (parts_of sample profile text) config body → has_channel config trace ≡ true
+    → instructions_of (form_of config true) body ≡ Ok instructions → sim.silent ≡ began.silent → Leads (whole began.config xs) began old sim new r → HasRun remaining profile sample trace sim old new r
+has_run profile sample trace {config} body {xs} {instructions} began sim old new r same begins silent read_are read opened there script still leads = record {
+  config = config;
+  instructions = instructions;
+  says = said_by profile sample trace config body (Ok instructions) read opened there script;
+  silent = still ∙ silent;
+  came = came_to config began.config xs instructions began sim old new r same read_are begins leads;
+}
 
 late : (old new : Option (List ℕ)) (sim : Simulated) (fault : Fault) (course : Course) → ComesTo old sim new (Err fault) course → is_before_output fault ≡ false
 late old new sim faults.ScriptLimit course is = refl
@@ -120,16 +149,17 @@ late old new sim faults.Write course is = refl
 late old new sim _ course is = absurd is
 
 -- a fault of a run isn't one before any output
-pub late_untouched : (old new : Option (List ℕ)) (sim : Simulated) (fault : Fault) (course : Course) (A : Type 0) → ComesTo old sim new (Err fault) course → IsTrue (is_before_output fault) → A
-late_untouched old new sim fault course A is before = absurd (both_ways (is_before_output fault) (late old new sim fault course is) before)
+pub late_untouched : {remaining : Option (List ℕ)} {profile : List ℕ} {sample : Bool} {trace : Option ℕ} {sim : Simulated} {old new : Option (List ℕ)} {fault : Fault} {A : Type 0} → HasRun remaining profile sample trace sim old new (Err fault) → IsTrue (is_before_output fault) → A
+late_untouched {sim} {old} {new} {fault} ran before = absurd (both_ways (is_before_output fault) (late old new sim fault (run_of ran.config ran.instructions) ran.came) before)
 
 -- nor a failed read
-pub late_unread : (old new : Option (List ℕ)) (sim : Simulated) (fault : Fault) (course : Course) (A : Type 0) → ComesTo old sim new (Err fault) course → ◌≡◌ {A = Result (Unit {0}) Fault} (Err fault) (Err faults.Read) → A
-late_unread old new sim faults.ScriptLimit course A is read = absurd (let impossible = read in cc)
-late_unread old new sim faults.ClockSpent course A is read = absurd (let impossible = read in cc)
-late_unread old new sim faults.OutOfMemory course A is read = absurd (let impossible = read in cc)
-late_unread old new sim faults.Write course A is read = absurd (let impossible = read in cc)
-late_unread old new sim _ course A is read = absurd is
+pub late_unread : {remaining : Option (List ℕ)} {profile : List ℕ} {sample : Bool} {trace : Option ℕ} {sim : Simulated} {old new : Option (List ℕ)} {fault : Fault} {A : Type 0} → HasRun remaining profile sample trace sim old new (Err fault)
+    → ◌≡◌ {A = Result (Unit {0}) Fault} (Err fault) (Err faults.Read) → A
+late_unread {fault = faults.ScriptLimit} ran read = absurd (let impossible = read in cc)
+late_unread {fault = faults.ClockSpent} ran read = absurd (let impossible = read in cc)
+late_unread {fault = faults.OutOfMemory} ran read = absurd (let impossible = read in cc)
+late_unread {fault = faults.Write} ran read = absurd (let impossible = read in cc)
+late_unread {fault = _} ran read = absurd ran.came
 
 asked_so : (remaining : Option (List ℕ)) (profile : List ℕ) (sample : Bool) (trace : Option ℕ) (config : Config) (instructions : List Instruction) (course : Course) → IfSome remaining (λ input. Says sample profile trace input config (Ok instructions)) → run_of config instructions ≡ course
     → IfSome remaining (λ input. AsksFor sample profile trace input course)
@@ -147,48 +177,48 @@ beginning None silent old new text course e begins printed = (text, begins, subs
 beginning (Some c) silent old new text course e begins printed = subst (λ b. Prints b old new text) e printed
 
 -- a run that a fault ended
-pub run_fault : (remaining : Option (List ℕ)) (profile : List ℕ) (sample : Bool) (trace : Option ℕ) (config : Config) (instructions : List Instruction) (sim : Simulated) (old new : Option (List ℕ)) (fault : Fault) → IfSome remaining (λ input. Says sample profile trace input config (Ok instructions))
-    → sim.silent ≡ is_some trace → ComesTo old sim new (Err fault) (run_of config instructions) → IfSome remaining (λ input. HasSimFault sample profile trace input old new fault)
-run_fault None profile sample trace config instructions sim old new fault says silent is = tt
-run_fault (Some input) profile sample trace config instructions sim old new faults.ScriptLimit says silent is = inr (record {
-  stop = record { fault = faults.ScriptLimit; text = is.0 };
-  asks = record { config = config; instructions = instructions; says = says; course_is = is.1 };
+pub run_fault : {remaining : Option (List ℕ)} {profile : List ℕ} {sample : Bool} {trace : Option ℕ} {sim : Simulated} {old new : Option (List ℕ)} {fault : Fault} → HasRun remaining profile sample trace sim old new (Err fault)
+    → IfSome remaining (λ input. HasSimFault sample profile trace input old new fault)
+run_fault {remaining = None} ran = tt
+run_fault {remaining = Some input} {trace} {sim} {old} {new} {fault = faults.ScriptLimit} ran = inr (record {
+  stop = record { fault = faults.ScriptLimit; text = ran.came.0 };
+  asks = record { config = ran.config; instructions = ran.instructions; says = ran.says; course_is = ran.came.1 };
   fault_is = refl;
-  written = stop_written trace sim.silent old new faults.ScriptLimit is.0 silent is.2;
+  written = stop_written trace sim.silent old new faults.ScriptLimit ran.came.0 ran.silent ran.came.2;
 })
-run_fault (Some input) profile sample trace config instructions sim old new faults.ClockSpent says silent is = record {
-  stop = record { fault = faults.ClockSpent; text = is.0 };
-  asks = record { config = config; instructions = instructions; says = says; course_is = is.1 };
+run_fault {remaining = Some input} {trace} {sim} {old} {new} {fault = faults.ClockSpent} ran = record {
+  stop = record { fault = faults.ClockSpent; text = ran.came.0 };
+  asks = record { config = ran.config; instructions = ran.instructions; says = ran.says; course_is = ran.came.1 };
   fault_is = refl;
-  written = stop_written trace sim.silent old new faults.ClockSpent is.0 silent is.2;
+  written = stop_written trace sim.silent old new faults.ClockSpent ran.came.0 ran.silent ran.came.2;
 }
-run_fault (Some input) profile sample trace config instructions sim old new faults.OutOfMemory says silent is = inr (record {
-  course = run_of config instructions;
-  asks = record { config = config; instructions = instructions; says = says; course_is = refl };
-  written = beginning trace sim.silent old new is.0 (run_of config instructions) silent is.1 is.2;
+run_fault {remaining = Some input} {trace} {sim} {old} {new} {fault = faults.OutOfMemory} ran = inr (record {
+  course = run_of ran.config ran.instructions;
+  asks = record { config = ran.config; instructions = ran.instructions; says = ran.says; course_is = refl };
+  written = beginning trace sim.silent old new ran.came.0 (run_of ran.config ran.instructions) ran.silent ran.came.1 ran.came.2;
 })
-run_fault (Some input) profile sample trace config instructions sim old new faults.Write says silent is = (run_of config instructions, record { config = config; instructions = instructions; says = says; course_is = refl })
-run_fault (Some input) profile sample trace config instructions sim old new _ says silent is = absurd is
+run_fault {remaining = Some input} {fault = faults.Write} ran = (run_of ran.config ran.instructions, record { config = ran.config; instructions = ran.instructions; says = ran.says; course_is = refl })
+run_fault {remaining = Some input} {fault = _} ran = absurd ran.came
 
 -- a run whose end was not written: its replies, or its trace
 
-pub flush_fault : (remaining : Option (List ℕ)) (profile : List ℕ) (sample : Bool) (trace : Option ℕ) (config : Config) (instructions : List Instruction) (old new : Option (List ℕ)) (fault : Fault) → IfSome remaining (λ input. Says sample profile trace input config (Ok instructions))
+pub flush_fault : {remaining : Option (List ℕ)} {profile : List ℕ} {sample : Bool} {trace : Option ℕ} {sim : Simulated} {old mid : Option (List ℕ)} {v : Unit {0}} {fault : Fault} (new : Option (List ℕ)) → HasRun remaining profile sample trace sim old mid (Ok v)
     → fault ≡ faults.Write → IfSome remaining (λ input. HasSimFault sample profile trace input old new fault)
-flush_fault None profile sample trace config instructions old new fault says is = tt
-flush_fault (Some input) profile sample trace config instructions old new fault says is =
-    subst (λ (f : Fault). HasSimFault sample profile trace input old new f) (sym is) (run_of config instructions, record { config = config; instructions = instructions; says = says; course_is = refl })
+flush_fault {remaining = None} new ran is = tt
+flush_fault {remaining = Some input} {profile} {sample} {trace} {old} new ran is =
+    subst (λ (f : Fault). HasSimFault sample profile trace input old new f) (sym is) (run_of ran.config ran.instructions, record { config = ran.config; instructions = ran.instructions; says = ran.says; course_is = refl })
 
 -- a run whose trace is asked for printed nothing
 none_printed : (trace : Option ℕ) (channel : ℕ) (sim : Simulated) (old mid : Option (List ℕ)) (v : Unit {0}) (course : Course) → trace ≡ Some channel → sim.silent ≡ is_some trace → ComesTo old sim mid (Ok v) course → mid ≡ old
 none_printed trace channel sim old mid v course some silent is = subst (λ b. Prints b old mid is.0) (silent ∙ ap (λ (t : Option ℕ). is_some t) some) is.2
 
-pub end_fault : (remaining : Option (List ℕ)) (profile : List ℕ) (sample : Bool) (trace : Option ℕ) (channel : ℕ) (config : Config) (instructions : List Instruction) (sim : Simulated) (old mid new : Option (List ℕ)) (v : Unit {0}) (fault : Fault) → trace ≡ Some channel → IfSome remaining (λ input. Says sample profile trace input config (Ok instructions))
-    → sim.silent ≡ is_some trace → ComesTo old sim mid (Ok v) (run_of config instructions) → (fault ≡ faults.OutOfMemory → new ≡ mid) → (fault ≡ faults.Write) ⊎ (fault ≡ faults.OutOfMemory) → IfSome remaining (λ input. HasSimFault sample profile trace input old new fault)
-end_fault None profile sample trace channel config instructions sim old mid new v fault some says silent came spared is = tt
-end_fault (Some input) profile sample trace channel config instructions sim old mid new v faults.Write some says silent came spared is = (run_of config instructions, record { config = config; instructions = instructions; says = says; course_is = refl })
-end_fault (Some input) profile sample trace channel config instructions sim old mid new v faults.OutOfMemory some says silent came spared is =
-    inl (spared refl ∙ none_printed trace channel sim old mid v (run_of config instructions) some silent came)
-end_fault (Some input) profile sample trace channel config instructions sim old mid new v _ some says silent came spared is = absurd (elim is as (λ _. ⊥) [ inl e ↦ cc | inr e ↦ cc ])
+pub end_fault : {remaining : Option (List ℕ)} {profile : List ℕ} {sample : Bool} {trace : Option ℕ} {channel : ℕ} {sim : Simulated} {old mid : Option (List ℕ)} {v : Unit {0}} {fault : Fault} (new : Option (List ℕ)) → HasRun remaining profile sample trace sim old mid (Ok v) → trace ≡ Some channel
+    → (fault ≡ faults.OutOfMemory → new ≡ mid) → (fault ≡ faults.Write) ⊎ (fault ≡ faults.OutOfMemory) → IfSome remaining (λ input. HasSimFault sample profile trace input old new fault)
+end_fault {remaining = None} new ran some spared is = tt
+end_fault {remaining = Some input} {fault = faults.Write} new ran some spared is = (run_of ran.config ran.instructions, record { config = ran.config; instructions = ran.instructions; says = ran.says; course_is = refl })
+end_fault {remaining = Some input} {trace} {channel} {sim} {old} {mid} {v} {fault = faults.OutOfMemory} new ran some spared is =
+    inl (spared refl ∙ none_printed trace channel sim old mid v (run_of ran.config ran.instructions) some ran.silent ran.came)
+end_fault {remaining = Some input} {fault = _} new ran some spared is = absurd (elim is as (λ _. ⊥) [ inl e ↦ cc | inr e ↦ cc ])
 
 kept_as_appended : (b c : Option (List ℕ)) → Keeps b c → Appends b c []
 kept_as_appended None c q = tt
@@ -205,23 +235,22 @@ end_written (Some c) silent old mid new run e printed last =
     let same : mid ≡ old = subst (λ b. Prints b old mid run.text) e printed in
     subst (λ m. Appends m new (channel_text run.state c)) same last
 
-run_written : (remaining : Option (List ℕ)) (profile : List ℕ) (sample : Bool) (trace : Option ℕ) (config : Config) (instructions : List Instruction) (sim : Simulated) (old mid new : Option (List ℕ)) (v : Unit {0}) → IfSome remaining (λ input. Says sample profile trace input config (Ok instructions))
-    → sim.silent ≡ is_some trace → ComesTo old sim mid (Ok v) (run_of config instructions) → (elim trace as (λ _. Type 0) [ None ↦ Keeps mid new | Some c ↦ Appends mid new (channel_text (state_of sim.world) c) ])
-    → IfSome remaining (λ input. IsRun sample profile trace input old new)
-run_written None profile sample trace config instructions sim old mid new v says silent is last = tt
-run_written (Some input) profile sample trace config instructions sim old mid new v says silent is last = record {
-  run = run_at sim is.0;
-  asks = record { config = config; instructions = instructions; says = says; course_is = is.1 };
-  drained = run_drained config instructions (run_at sim is.0) is.1;
-  written = end_written trace sim.silent old mid new (run_at sim is.0) silent is.2 last;
+run_written : {remaining : Option (List ℕ)} {profile : List ℕ} {sample : Bool} {trace : Option ℕ} {sim : Simulated} {old mid : Option (List ℕ)} {v : Unit {0}} (new : Option (List ℕ)) → HasRun remaining profile sample trace sim old mid (Ok v)
+    → (elim trace as (λ _. Type 0) [ None ↦ Keeps mid new | Some c ↦ Appends mid new (channel_text (state_of sim.world) c) ]) → IfSome remaining (λ input. IsRun sample profile trace input old new)
+run_written {remaining = None} new ran last = tt
+run_written {remaining = Some input} {trace} {sim} {old} {mid} new ran last = record {
+  run = run_at sim ran.came.0;
+  asks = record { config = ran.config; instructions = ran.instructions; says = ran.says; course_is = ran.came.1 };
+  drained = run_drained ran.config ran.instructions (run_at sim ran.came.0) ran.came.1;
+  written = end_written trace sim.silent old mid new (run_at sim ran.came.0) ran.silent ran.came.2 last;
 }
 
-pub replies_written : (remaining : Option (List ℕ)) (profile : List ℕ) (sample : Bool) (trace : Option ℕ) (config : Config) (instructions : List Instruction) (sim : Simulated) (old mid new : Option (List ℕ)) (v : Unit {0}) → IfSome remaining (λ input. Says sample profile trace input config (Ok instructions))
-    → sim.silent ≡ is_some trace → trace ≡ None → ComesTo old sim mid (Ok v) (run_of config instructions) → Keeps mid new → IfSome remaining (λ input. IsRun sample profile trace input old new)
-replies_written remaining profile sample trace config instructions sim old mid new v says silent none is last =
-    run_written remaining profile sample trace config instructions sim old mid new v says silent is (subst (λ (t : Option ℕ). elim t as (λ _. Type 0) [ None ↦ Keeps mid new | Some c ↦ Appends mid new (channel_text (state_of sim.world) c) ]) (sym none) last)
+pub replies_written : {remaining : Option (List ℕ)} {profile : List ℕ} {sample : Bool} {trace : Option ℕ} {sim : Simulated} {old mid : Option (List ℕ)} {v : Unit {0}} (new : Option (List ℕ)) → HasRun remaining profile sample trace sim old mid (Ok v) → trace ≡ None → Keeps mid new
+    → IfSome remaining (λ input. IsRun sample profile trace input old new)
+replies_written {sim} {mid} new ran none last =
+    run_written new ran (subst (λ (t : Option ℕ). elim t as (λ _. Type 0) [ None ↦ Keeps mid new | Some c ↦ Appends mid new (channel_text (state_of sim.world) c) ]) (sym none) last)
 
-pub trace_written : (remaining : Option (List ℕ)) (profile : List ℕ) (sample : Bool) (trace : Option ℕ) (channel : ℕ) (config : Config) (instructions : List Instruction) (sim : Simulated) (old mid new : Option (List ℕ)) (v : Unit {0}) → IfSome remaining (λ input. Says sample profile trace input config (Ok instructions))
-    → sim.silent ≡ is_some trace → trace ≡ Some channel → ComesTo old sim mid (Ok v) (run_of config instructions) → Appends mid new (channel_text (state_of sim.world) channel) → IfSome remaining (λ input. IsRun sample profile trace input old new)
-trace_written remaining profile sample trace channel config instructions sim old mid new v says silent some is last =
-    run_written remaining profile sample trace config instructions sim old mid new v says silent is (subst (λ (t : Option ℕ). elim t as (λ _. Type 0) [ None ↦ Keeps mid new | Some c ↦ Appends mid new (channel_text (state_of sim.world) c) ]) (sym some) last)
+pub trace_written : {remaining : Option (List ℕ)} {profile : List ℕ} {sample : Bool} {trace : Option ℕ} {channel : ℕ} {sim : Simulated} {old mid : Option (List ℕ)} {v : Unit {0}} (new : Option (List ℕ)) → HasRun remaining profile sample trace sim old mid (Ok v) → trace ≡ Some channel
+    → Appends mid new (channel_text (state_of sim.world) channel) → IfSome remaining (λ input. IsRun sample profile trace input old new)
+trace_written {sim} {mid} new ran some last =
+    run_written new ran (subst (λ (t : Option ℕ). elim t as (λ _. Type 0) [ None ↦ Keeps mid new | Some c ↦ Appends mid new (channel_text (state_of sim.world) c) ]) (sym some) last)

@@ -5,7 +5,8 @@ use Rattle.ddr_world.specs.History.{front_of}
 use Rattle.ddr_world.specs.Kept.{state_of}
 use Rattle.ddr_world.specs.Quiet.{IsQuietFor, passed}
 use Rattle.ddr_world.specs.State.{State}
-use Rattle.ddr_sim.specs.Rounds.{Run, outstanding, rounds}
+use Rattle.ddr_rounds.specs.Rounds.{outstanding}
+use Rattle.ddr_sim.specs.Rounds.{Run, rounds}
 use Rattle.ddr_sim.specs.Simulated.{Leads, Simulated, run_at}
 
 -- so many rounds may be made, the core is quiet in each of them, and no reply is in front of a port

@@ -7,9 +7,10 @@ use Rattle.ddr_trace.specs.Text.{trace_text}
 use Rattle.ddr_world.specs.Events.{Submit, Take, End}
 use Rattle.ddr_world.specs.State.{State, opened}
 use Rattle.ddr_world.specs.Step.{Step, step}
+use Rattle.ddr_rounds.specs.Rounds.{after, outstanding}
 use Rattle.ddr_text.specs.declared.fault.Fault.TheVariants.{ScriptLimit}
 use Rattle.ddr_sim.specs.Refusals.{refused_text}
-use Rattle.ddr_sim.specs.Rounds.{Run, Course, stopped, ◌then◌, after, outstanding, round, rounds}
+use Rattle.ddr_sim.specs.Rounds.{Run, Course, stopped, ◌then◌, round, rounds}
 use Rattle.ddr_text.specs.Script.{Instruction, Ask, Rounds}
 
 -- the most rounds of a run

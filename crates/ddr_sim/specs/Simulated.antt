@@ -2,15 +2,15 @@
 use Rattle.std.specs.Prelude.{◌≡◌, ◌+◌, ◌≤◌, ℕ, Bool, true, false, List, ◌++◌, Option, Some, None, Result, Ok, Err}
 use Rattle.std.specs.Io.KnownBytes.{Appends}
 use Rattle.ddr_timing.specs.declared.config.Config.{Config}
-use Rattle.ddr_world.specs.Events.{Event, Submit, Take, Deliver, Collect}
 use Rattle.ddr_world.specs.Kept.{Kept, state_of}
 use Rattle.ddr_world.specs.State.{State}
+use Rattle.ddr_rounds.specs.Rounds.{outstanding}
 use Rattle.ddr_reorder.specs.Replies.{Answer}
 use Rattle.ddr_text.specs.Replies.{reply_text}
 use Rattle.ddr_text.specs.declared.fault.Fault.{Fault}
 use Rattle.ddr_text.specs.declared.fault.Fault.TheVariants as faults
 use Rattle.ddr_sim.specs.declared.simulation.Simulation.TheInside.{Inside}
-use Rattle.ddr_sim.specs.Rounds.{Run, Course, outstanding}
+use Rattle.ddr_sim.specs.Rounds.{Run, Course}
 
 pub record Simulated : Type 0 where
   pub config : Config
@@ -43,18 +43,6 @@ pub record IsSameRun (old new : Simulated) (more : ℕ) : Type 0 where
   pub config : new.config ≡ old.config
   pub silent : new.silent ≡ old.silent
   pub waiting : new.waiting ≤ old.waiting + more
-
--- how many numbers more an event may leave outstanding
-abbrev pub added : Event → ℕ
-added (Submit p asked) = 1
-added _ = 0
-
--- an event that pops an item each time that it is made
-abbrev pub is_popping : Event → Bool
-is_popping (Take c) = true
-is_popping (Deliver c) = true
-is_popping (Collect p) = true
-is_popping _ = false
 
 -- a cycle is refused where there is none to be made, or for want of memory
 abbrev pub IsCycleFault : Fault → Option State → Type 0

@@ -1,27 +1,31 @@
 //! A run of a script over the core: its instructions, its rounds and its Ends.
 //!
-//! `line`, `reply`, `ddr_text` and `ddr_world` stand below, and `sim` above.
-ghost use Rattle.std.specs.Prelude.{◌≡◌, ◌==◌, ℕ, ◌+◌, ◌-◌, ◌<◌, ◌≤◌, ◌^◌, ◌⊎◌, [], true, false, IfErr, IfOk, IsErrOf, IsTrue, OnOk, Ok, Err, Some, None, map};
+//! `line`, `refusal`, `trace`, `ddr_text`, `ddr_rounds` and `ddr_world` stand below, and `sim` above.
+ghost use Rattle.std.specs.Prelude.{◌≡◌, ◌==◌, ◌+◌, ◌-◌, ◌<◌, ◌≤◌, ◌^◌, ◌⊎◌, [], IfErr, IfOk, IsErrOf, IsTrue, OnOk, Ok, Err, Some, map};
 ghost use Rattle.std.specs.Io.KnownBytes.{Appends};
 ghost use Rattle.ddr_ports.specs.Asked.{asked_of};
 ghost use Rattle.ddr_reorder.specs.Replies.{said};
 ghost use Rattle.ddr_world.specs.Answer.{IsAnswered};
-ghost use Rattle.ddr_world.specs.Events.{event_of};
+ghost use Rattle.ddr_world.specs.Events.{Collect, event_of};
 ghost use Rattle.ddr_world.specs.History.{front_of};
 ghost use Rattle.ddr_world.specs.Kept.{state_of};
 ghost use Rattle.ddr_world.specs.Quiet.{passed};
+ghost use Rattle.ddr_rounds.specs.Rounds.{added, channels_served, outstanding, until_refused};
 ghost use Rattle.ddr_sim.specs.Quiet.{AreQuiet, HasMade};
 ghost use Rattle.ddr_text.specs.Replies.{reply_text};
-ghost use Rattle.ddr_sim.specs.Rounds.{channel_served, channels_served, outstanding, port_served, ports_served, round, rounds, until_refused};
+ghost use Rattle.ddr_sim.specs.Rounds.{port_served, ports_served, round, rounds};
 ghost use Rattle.ddr_sim.specs.Runs.{all_followed, begun, channel_text, channels_ended, served_out, followed, ports_ended, submitted, whole};
 ghost use Rattle.ddr_text.specs.Script.{view};
-ghost use Rattle.ddr_sim.specs.Simulated.{IsCycleFault, IsFrontPrinted, IsSameRun, Leads, added, is_popping, run_at};
+ghost use Rattle.ddr_sim.specs.Simulated.{IsCycleFault, IsFrontPrinted, IsSameRun, Leads, run_at};
 
 use crate::line::reply_line;
 use crate::refusal::refused_text;
 use crate::trace::text_of;
 use ddr_ports::request::Request;
 use ddr_reorder::reply::Reply;
+use ddr_rounds::channels::serve_channels;
+use ddr_rounds::ports::{collect, has_front};
+use ddr_rounds::rounds::pass;
 use ddr_text::fault::Fault;
 use ddr_text::reply::reply_text;
 use ddr_text::script::Instruction;
@@ -231,7 +235,7 @@ impl Simulation {
         ensures quiet { 0 < result → AreQuiet self.now.config result (state_of self.now.world) self.now.left }
     {
         let quiet = self.world.still();
-        if quiet == 0 || self.has_front() {
+        if quiet == 0 || has_front(&self.world, self.config.limits.ports) {
             return 0;
         }
         let most = most.min(self.left);
@@ -242,18 +246,6 @@ impl Simulation {
         }
     }
 
-    /// Whether a reply is in front of a port.
-    fn has_front(&self) -> bool
-        ensures { result ≡ false → (port : ℕ) → port < self.now.config.limits.ports → front_of (state_of self.now.world) port ≡ None }
-    {
-        for port in 0..self.config.limits.ports {
-            if self.world.front(port).is_some() {
-                return true;
-            }
-        }
-        false
-    }
-
     /// Makes so many quiet rounds at once.
     fn pass(&mut self, count: u32)
         requires { AreQuiet self.old.config count (state_of self.old.world) self.old.left }
@@ -261,7 +253,7 @@ impl Simulation {
         ensures left { self.new.left ≡ self.old.left - count }
         ensures same { IsSameRun self.old self.new 0 }
     {
-        self.world.pass(u64::from(count));
+        pass(&mut self.world, u64::from(count), &mut ());
         self.left -= count;
     }
 
@@ -295,27 +287,11 @@ impl Simulation {
         ensures left { self.new.left ≡ self.old.left }
         ensures same { IsSameRun self.old self.new 0 }
     {
-        for channel in 0..self.config.geometry.channels {
-            self.serve_channel(channel)?;
+        match serve_channels(&mut self.world, self.config.geometry.channels, &mut ()) {
+            Ok(()) => Ok(()),
+            Err(Refusal::OutOfMemory) => Err(Fault::OutOfMemory),
+            Err(_) => Err(Fault::ClockSpent),
         }
-        Ok(())
-    }
-
-    /// A channel's part of a round: it takes what there is room for, makes a cycle, and delivers what is done.
-    fn serve_channel(&mut self, channel: u32) -> Result<(), Fault>
-        ensures served { OnOk result (channel_served channel (state_of self.old.world) ≡ Some (state_of self.new.world)) }
-        ensures fault { IfErr result (λ fault. IsCycleFault fault (channel_served channel (state_of self.old.world))) }
-        ensures left { self.new.left ≡ self.old.left }
-        ensures same { IsSameRun self.old self.new 0 }
-    {
-        self.repeat(Event::Take(channel));
-        match self.make(Event::Cycle(channel)) {
-            Ok(_) => {}
-            Err(Refusal::OutOfMemory) => return Err(Fault::OutOfMemory),
-            Err(_) => return Err(Fault::ClockSpent),
-        }
-        self.repeat(Event::Deliver(channel));
-        Ok(())
     }
 
     /// The ports' part of a round.
@@ -338,11 +314,21 @@ impl Simulation {
         ensures same { IsSameRun self.old self.new 0 }
         ensures left { self.new.left ≡ self.old.left }
     {
-        self.repeat(Event::Collect(port));
+        self.collect(port);
         'replies: while self.print_front(alloc, port, writer)? {
             let _ = self.make(Event::Release(port));
         }
         Ok(())
+    }
+
+    /// Lets a port collect what was delivered.
+    #[inline(always)]
+    fn collect(&mut self, port: u32)
+        ensures state { state_of self.new.world ≡ until_refused (Collect port) (state_of self.old.world) }
+        ensures left { self.new.left ≡ self.old.left }
+        ensures same { IsSameRun self.old self.new 0 }
+    {
+        let _ = collect(&mut self.world, port);
     }
 
     /// Prints the reply in front of a port, if there is one, and tells whether there was.
@@ -382,17 +368,6 @@ impl Simulation {
             let _ = self.make(Event::End(port, channel));
             let _ = self.make(Event::Take(channel));
         }
-    }
-
-    /// Makes an event that pops something until it is refused.
-    #[inline(always)]
-    fn repeat(&mut self, event: Event<'_>)
-        requires { IsTrue (is_popping (event_of event)) }
-        ensures state { state_of self.new.world ≡ until_refused (event_of event.entry) (state_of self.old.world) }
-        ensures left { self.new.left ≡ self.old.left }
-        ensures same { IsSameRun self.old self.new 0 }
-    {
-        'items: while self.make(event).is_ok() {}
     }
 
     /// Makes an event, and counts what is outstanding.

@@ -1,6 +1,6 @@
 //! The trace of a channel as a text.
 //!
-//! `ddr_channel` and `ddr_trace` stand below, and `simulation` and `ddr_replay` above.
+//! `ddr_channel` and `ddr_trace` stand below, and `simulation` above.
 ghost use Rattle.std.specs.Prelude.{◌≡◌, IfErr, IfOk};
 ghost use Rattle.ddr_trace.specs.Text.{trace_text};
 

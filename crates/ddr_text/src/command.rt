@@ -30,6 +30,8 @@ pub enum Told {
     Statistics,
     /// Of each request, when it was accepted and served.
     Requests,
-    /// The commands of a channel.
+    /// The commands of a channel, in this project's own form.
     Trace { channel: u32 },
+    /// The commands of a channel, in the form that DRAMPower reads.
+    Drampower { channel: u32 },
 }

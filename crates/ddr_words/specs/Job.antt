@@ -15,7 +15,7 @@ use Rattle.clap.specs.declared.error.kind.ErrorKind.TheVariants.{OutOfMemory}
 use Rattle.ddr_words.specs.declared.job.JobError.{JobError}
 use Rattle.ddr_words.specs.declared.job.JobError.TheVariants as errors
 use Rattle.ddr_words.specs.declared.misuse.Misuse.{Misuse}
-use Rattle.ddr_words.specs.declared.misuse.Misuse.TheVariants.{TwoForms, SpreadOfOwnForm, FirstOfNoCycles, RequestsBesideTrace, NumbersBesideOthers, PartOfNumbers, ClockOfNoTime, FaultsOfCapture, ChannelOfOwnForm, PartOfWaves}
+use Rattle.ddr_words.specs.declared.misuse.Misuse.TheVariants.{TwoForms, SpreadOfOwnForm, FirstOfNoCycles, RequestsBesideTrace, DrampowerBesideOthers, NumbersBesideOthers, PartOfNumbers, ClockOfNoTime, FaultsOfCapture, ChannelOfOwnForm, PartOfWaves}
 use Rattle.ddr_words.specs.declared.command.Job.{Job}
 use Rattle.ddr_words.specs.declared.command.Job.TheVariants.{Sim, Run, Replay, Measure, Check, Explain, All, Stream, Draw, Map, Lint}
 use Rattle.ddr_text.specs.declared.command.Format.{Format}
@@ -24,7 +24,7 @@ use Rattle.ddr_words.specs.declared.command.Picture.{Picture}
 use Rattle.ddr_words.specs.declared.command.Picture.TheVariants.{Waves, Lanes}
 use Rattle.ddr_text.specs.declared.command.Reading.{Reading}
 use Rattle.ddr_text.specs.declared.command.Told.{Told}
-use Rattle.ddr_text.specs.declared.command.Told.TheVariants.{Statistics, Requests, Trace}
+use Rattle.ddr_text.specs.declared.command.Told.TheVariants.{Statistics, Requests, Trace, Drampower}
 
 -- a flag of this name
 abbrev pub flag_rule : Text → Rule
@@ -61,6 +61,10 @@ cycle_rule name = record (new_rule name) {
 -- the option `--trace`
 abbrev pub trace_rule : Rule
 trace_rule = number_rule (codes "trace")
+
+-- the option `--drampower`
+abbrev pub drampower_rule : Rule
+drampower_rule = number_rule (codes "drampower")
 
 -- the option `--most`
 abbrev pub most_rule : Rule
@@ -152,7 +156,7 @@ with_reading app = with_rule (with_rule (with_rule (with_rule (with_rule app dra
 
 -- a subcommand with the options that say what is told of a replay
 abbrev pub with_telling : App → App
-with_telling app = with_rule (with_rule (with_rule app requests_rule) trace_rule) progress_rule
+with_telling app = with_rule (with_rule (with_rule (with_rule app requests_rule) trace_rule) drampower_rule) progress_rule
 
 -- a subcommand with the options that say which numbers are told of a replay
 abbrev pub with_numbers : App → App
@@ -197,6 +201,10 @@ number_in name options = option_map (λ text. digits_value 10 (without_leading_p
 abbrev pub trace_of : List Row → Option ℕ
 trace_of = number_in (codes "trace")
 
+-- the channel of `--drampower`
+abbrev pub drampower_of : List Row → Option ℕ
+drampower_of = number_in (codes "drampower")
+
 -- how many faults `--most` asks for
 abbrev pub most_of : List Row → Option ℕ
 most_of = number_in (codes "most")
@@ -227,7 +235,9 @@ reading_of options = record { format = format_of options; spread = is_used (code
 
 -- what `replay` tells
 abbrev pub told_of : List Row → Told
-told_of options = option_map_or (λ channel. Trace channel) (trace_of options) (if is_used (codes "requests") options then Requests else Statistics)
+told_of options =
+    option_map_or (λ channel. Trace channel) (trace_of options)
+    (option_map_or (λ channel. Drampower channel) (drampower_of options) (if is_used (codes "requests") options then Requests else Statistics))
 
 -- whether `check` reads captured commands; `--start`, `--channel` and the name of a format ask for that by themselves
 abbrev pub is_streamed : List Row → Bool
@@ -255,6 +265,7 @@ pub record AreTaken (options : List Row) : Type 0 where
   pub wrap : IfSome (one_of (codes "wrap") options) (IsTaken (filled wrap_rule))
   pub from_first : IfSome (one_of (codes "from-first") options) (IsTaken (filled from_first_rule))
   pub requests : IfSome (one_of (codes "requests") options) (IsTaken (filled requests_rule))
+  pub drampower : IfSome (one_of (codes "drampower") options) (IsTaken (filled drampower_rule))
   pub progress : IfSome (one_of (codes "progress") options) (IsTaken (filled progress_rule))
   pub numbers : IfSome (one_of (codes "numbers") options) (IsTaken (filled numbers_rule))
   pub skip : IfSome (one_of (codes "skip") options) (IsTaken (filled skip_rule))
@@ -304,10 +315,14 @@ abbrev pub is_no_clock : Option ℕ → Bool
 is_no_clock (Some clock) = clock == 0
 is_no_clock None = false
 
+-- whether a replay is asked for its requests or for the commands of a channel
+abbrev pub tells_others : List Row → Bool
+tells_others options = is_used (codes "requests") options || is_some (trace_of options) || is_some (drampower_of options)
+
 -- of the numbers of a replay: something else to be told too; a part of them, where none are told; a clock of no time
 abbrev pub numbers_misuse : List Row → Option Misuse
 numbers_misuse options =
-    if is_used (codes "numbers") options && (is_used (codes "requests") options || is_some (trace_of options)) then Some NumbersBesideOthers
+    if is_used (codes "numbers") options && tells_others options then Some NumbersBesideOthers
     else if not (is_used (codes "numbers") options) && (is_some (number_in (codes "skip") options) || is_some (number_in (codes "tck") options)) then Some PartOfNumbers
     else if is_no_clock (number_in (codes "tck") options) then Some ClockOfNoTime
     else None
@@ -319,6 +334,7 @@ replay_misuse options =
     else if is_used (codes "spread") options && not (names_form options) then Some SpreadOfOwnForm
     else if is_used (codes "from-first") options && is_used (codes "ramulator2") options then Some FirstOfNoCycles
     else if is_used (codes "requests") options && is_some (trace_of options) then Some RequestsBesideTrace
+    else if is_some (drampower_of options) && (is_used (codes "requests") options || is_some (trace_of options)) then Some DrampowerBesideOthers
     else numbers_misuse options
 
 -- whether more is asked for than the first fault

@@ -58,7 +58,8 @@ Input: a configuration, a line `---` and a stream of requests; with --sample the
 Output: statistics as TOML, once all requests are served: tables of all channels and of
   each, of each port, and of how long requests took, from all ports and from each.
   With --requests a line of comma-separated values for each request in their place, in the
-  order in which replies are released; with --trace the commands of that channel.
+  order in which replies are released; with --trace the commands of that channel, and
+  with --drampower the same as DRAMPower reads them, `CYCLE,CMD,RANK,GROUP,BANK,ROW,COL`.
   With --numbers what an architect compares, as TOML: the part of the data bus that was
   used, and for reads, writes, row hits, misses and conflicts how long they took between
   any two steps, with a histogram of eight classes an octave and what 50, 90, 99 and 99.9

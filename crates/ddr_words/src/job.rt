@@ -10,9 +10,9 @@ use crate::command::{Job, Picture};
 use crate::help;
 use crate::misuse::{Misuse, misuse_of};
 use crate::options::{
-    channel_of, clock_of, from_of, is_all, is_explained, is_from_first, is_of_dramsim3,
-    is_of_numbers, is_of_ramulator2, is_of_requests, is_progress, is_sample, is_spread,
-    is_streamed, is_svg, is_wrapped, most_of, skip_of, start_of, to_of, trace_of,
+    channel_of, clock_of, drampower_of, from_of, is_all, is_explained, is_from_first,
+    is_of_dramsim3, is_of_numbers, is_of_ramulator2, is_of_requests, is_progress, is_sample,
+    is_spread, is_streamed, is_svg, is_wrapped, most_of, skip_of, start_of, to_of, trace_of,
 };
 use clap::{Arg, ArgAction, ArgMatches, Command, Error, value_parser};
 use ddr_text::command::{Format, Reading, Told};
@@ -32,7 +32,7 @@ pub enum JobError {
 /// The subcommands are `sim`, `run`, `replay`, `check`, `draw`, `map` and `lint`. Each has the flag `--sample`, `sim` the option `--trace C`
 /// with the number of a channel, a `u32`, and `check` the flags `--explain` and `--all` and the option `--most N` with a `u32`, which
 /// asks for all faults too. `replay` has the flags `--dramsim3`, `--ramulator2`, `--spread`, `--wrap`, `--from-first`, `--requests`, `--progress` and
-/// `--numbers`, and `--trace C`, `--skip N` and `--tck PICOSECONDS`, each with a `u32`. `check` has the flags `--stream`, `--dramsim3` and `--ramulator2` and the options `--start CYCLE` with a `u64` and
+/// `--numbers`, and `--trace C`, `--drampower C`, `--skip N` and `--tck PICOSECONDS`, each with a `u32`. `check` has the flags `--stream`, `--dramsim3` and `--ramulator2` and the options `--start CYCLE` with a `u64` and
 /// `--channel C` with a `u32` too: each of them asks for captured commands. `draw` has the flag `--svg` and the options `--from CYCLE` and
 /// `--to CYCLE`. No words, or the name alone, are read as `sim --sample`.
 ///
@@ -207,10 +207,14 @@ fn told_of(options: &ArgMatches<'_>) -> Told
     requires { AreTaken (rows_of (found_of options.now)) }
     ensures { result ≡ told_of (rows_of (found_of options.now)) }
 {
-    match trace_of(options) {
-        Some(channel) => Told::Trace { channel },
-        None if is_of_requests(options) => Told::Requests,
-        None => Told::Statistics,
+    if let Some(channel) = trace_of(options) {
+        Told::Trace { channel }
+    } else if let Some(channel) = drampower_of(options) {
+        Told::Drampower { channel }
+    } else if is_of_requests(options) {
+        Told::Requests
+    } else {
+        Told::Statistics
     }
 }
 
@@ -308,8 +312,10 @@ fn with_telling<'a>(alloc: Global, command: Command<'a>) -> Result<Command<'a>, 
     let listing = command.arg(flag(alloc, "requests", about))?;
     let about = "Writes the trace of this channel in place of the statistics";
     let tracing = listing.arg(number_option(alloc, "trace", "CHANNEL", about))?;
+    let about = "Writes the commands of this channel as DRAMPower reads them";
+    let exporting = tracing.arg(number_option(alloc, "drampower", "CHANNEL", about))?;
     let about = "Says on standard error how far it is, about each second";
-    tracing.arg(flag(alloc, "progress", about))
+    exporting.arg(flag(alloc, "progress", about))
 }
 
 /// The command with the options that say which numbers are told of a replay.

@@ -3,12 +3,12 @@
 //! `options` stands below, and `job` and `ending` above.
 ghost use Rattle.std.specs.Prelude.{◌≡◌};
 ghost use Rattle.clap.specs.Words.{found_of, rows_of};
-ghost use Rattle.ddr_words.specs.Job.{AreTaken, check_misuse, draw_misuse, misuse_of, numbers_misuse, replay_misuse, tells_faults};
+ghost use Rattle.ddr_words.specs.Job.{AreTaken, check_misuse, draw_misuse, misuse_of, numbers_misuse, replay_misuse, tells_faults, tells_others};
 
 use crate::options::{
-    channel_of, clock_of, from_of, is_all, is_explained, is_from_first, is_of_numbers,
-    is_of_ramulator2, is_of_requests, is_spread, is_streamed, is_svg, most_of, names_form,
-    names_two_forms, skip_of, to_of, trace_of,
+    channel_of, clock_of, drampower_of, from_of, is_all, is_explained, is_from_first,
+    is_of_numbers, is_of_ramulator2, is_of_requests, is_spread, is_streamed, is_svg, most_of,
+    names_form, names_two_forms, skip_of, to_of, trace_of,
 };
 use clap::ArgMatches;
 use thiserror::Error;
@@ -28,8 +28,11 @@ pub enum Misuse {
     /// A replay tells one of the two.
     #[error("--requests and --trace each say what is told, and one of them can be")]
     RequestsBesideTrace,
-    /// Numbers are told in the place of requests and of a trace.
-    #[error("--numbers says what is told, and so does --requests or --trace: one of them can be")]
+    /// The commands are told in the place of requests and of a trace.
+    #[error("--drampower says what is told, and so does --requests or --trace: one of them can be")]
+    DrampowerBesideOthers,
+    /// Numbers are told in the place of requests and of commands.
+    #[error("--numbers says what is told, and so does --requests, --trace or --drampower: one of them can be")]
     NumbersBesideOthers,
     /// Statistics, requests and traces are those of the whole run, in clocks.
     #[error("--skip and --tck need --numbers: all else is told of the whole run, in clocks")]
@@ -74,6 +77,10 @@ fn replay_misuse(options: &ArgMatches<'_>) -> Option<Misuse>
         Some(Misuse::FirstOfNoCycles)
     } else if is_of_requests(options) && trace_of(options).is_some() {
         Some(Misuse::RequestsBesideTrace)
+    } else if drampower_of(options).is_some()
+        && (is_of_requests(options) || trace_of(options).is_some())
+    {
+        Some(Misuse::DrampowerBesideOthers)
     } else {
         numbers_misuse(options)
     }
@@ -84,7 +91,7 @@ fn numbers_misuse(options: &ArgMatches<'_>) -> Option<Misuse>
     requires { AreTaken (rows_of (found_of options.now)) }
     ensures { result ≡ numbers_misuse (rows_of (found_of options.now)) }
 {
-    if is_of_numbers(options) && (is_of_requests(options) || trace_of(options).is_some()) {
+    if is_of_numbers(options) && tells_others(options) {
         Some(Misuse::NumbersBesideOthers)
     } else if !is_of_numbers(options)
         && (skip_of(options).is_some() || clock_of(options).is_some())
@@ -95,6 +102,14 @@ fn numbers_misuse(options: &ArgMatches<'_>) -> Option<Misuse>
     } else {
         None
     }
+}
+
+/// Whether the options ask a replay for its requests or for the commands of a channel.
+fn tells_others(options: &ArgMatches<'_>) -> bool
+    requires { AreTaken (rows_of (found_of options.now)) }
+    ensures { result ≡ tells_others (rows_of (found_of options.now)) }
+{
+    is_of_requests(options) || trace_of(options).is_some() || drampower_of(options).is_some()
 }
 
 /// The first misuse of the options of `check`.

@@ -3,7 +3,7 @@
 //! `clap` stands below; `misuse` and `job` stand above. A text that an option has is one that its parser takes.
 ghost use Rattle.std.specs.Prelude.{◌≡◌, codes};
 ghost use Rattle.clap.specs.Words.{found_of, rows_of};
-ghost use Rattle.ddr_words.specs.Job.{AreTaken, channel_of, is_streamed, is_used, most_of, names_form, names_two_forms, number_in, start_of, trace_of};
+ghost use Rattle.ddr_words.specs.Job.{AreTaken, channel_of, drampower_of, is_streamed, is_used, most_of, names_form, names_two_forms, number_in, start_of, trace_of};
 
 use clap::ArgMatches;
 
@@ -201,4 +201,12 @@ pub(crate) fn trace_of(options: &ArgMatches<'_>) -> Option<u32>
     ensures { result ≡ trace_of (rows_of (found_of options.now)) }
 {
     options.get_one::<u32>("trace")
+}
+
+/// The channel of the option `--drampower`, if that was used.
+pub(crate) fn drampower_of(options: &ArgMatches<'_>) -> Option<u32>
+    requires { AreTaken (rows_of (found_of options.now)) }
+    ensures { result ≡ drampower_of (rows_of (found_of options.now)) }
+{
+    options.get_one::<u32>("drampower")
 }

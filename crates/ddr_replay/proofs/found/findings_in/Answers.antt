@@ -2,7 +2,7 @@
 use Rattle.std.proofs.Common.{All, IsTrue, sym, subst}
 use Rattle.ddr_timing.specs.declared.config.Config.{Config}
 use Rattle.ddr_trace.specs.Rules.{is_in}
-use Rattle.ddr_replay.proofs.LegalLemmas.{all_placed}
+use Rattle.ddr_counting.proofs.LegalLemmas.{all_placed}
 use Rattle.ddr_replay.proofs.found.findings_in.Goals as goal
 
 pub findings_by-requires-clause-placed : goal.findings_by-requires-clause-placed

@@ -6,7 +6,7 @@ use Rattle.ddr_world.specs.Events.{Submit}
 use Rattle.ddr_world.specs.Kept.{state_of}
 use Rattle.ddr_world.specs.State.{State}
 use Rattle.ddr_world.specs.Step.{step}
-use Rattle.ddr_sim.specs.Rounds.{outstanding}
+use Rattle.ddr_rounds.specs.Rounds.{outstanding}
 use Rattle.ddr_stream.specs.declared.ask.Ask.{Ask}
 use Rattle.ddr_stream.specs.Asks.{asked_by}
 use Rattle.ddr_replay.specs.Ledgers.{Ledger, with_wait}

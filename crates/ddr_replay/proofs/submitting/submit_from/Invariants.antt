@@ -1,6 +1,6 @@
 use Rattle.std.proofs.Common.{◌≡◌, ◌+◌, length}
 use Rattle.ddr_world.specs.Kept.{state_of}
-use Rattle.ddr_sim.specs.Rounds.{outstanding}
+use Rattle.ddr_rounds.specs.Rounds.{outstanding}
 use Rattle.ddr_replay.specs.Runs.{submitted}
 use Rattle.ddr_replay.proofs.submitting.submit_from.Given as goal
 

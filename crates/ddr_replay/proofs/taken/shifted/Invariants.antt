@@ -1,4 +1,4 @@
-use Rattle.std.proofs.Common.{◌≡◌, ◌++◌, drop, map}
+use Rattle.std.proofs.Common.{◌≡◌, ◌++◌, drop}
 use Rattle.ddr_replay.specs.Taken.{shifted}
 use Rattle.ddr_replay.proofs.taken.shifted.Given as goal
 

@@ -1,7 +1,8 @@
 -- One channel more was counted, if it drains writes.
 use Rattle.std.proofs.Common.{◌≡◌, ◌+◌, suc, ap, arith, ◌∙◌}
 use Rattle.ddr_world.specs.Kept.{Kept, state_of}
-use Rattle.ddr_replay.specs.Drains.{all_drained, drained, is_draining}
+use Rattle.ddr_rounds.specs.Drains.{is_draining}
+use Rattle.ddr_replay.specs.Drains.{all_drained, drained}
 use Rattle.ddr_replay.proofs.replaying.Replaying.drain_all.Goals as goal
 
 pub loop-channel-preserved : goal.loop-channel-preserved

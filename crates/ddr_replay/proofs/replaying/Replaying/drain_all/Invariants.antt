@@ -1,6 +1,7 @@
 use Rattle.std.proofs.Common.{◌≡◌}
 use Rattle.ddr_world.specs.Kept.{state_of}
-use Rattle.ddr_replay.specs.Drains.{all_drained, is_draining}
+use Rattle.ddr_rounds.specs.Drains.{is_draining}
+use Rattle.ddr_replay.specs.Drains.{all_drained}
 use Rattle.ddr_replay.specs.View.{IsButLedger}
 use Rattle.ddr_replay.proofs.replaying.Replaying.drain_all.Given as goal
 

@@ -2,8 +2,8 @@
 use Rattle.std.proofs.Common.{length, ap, arith, ◌∙◌}
 use Rattle.std.specs.List.{sum_by}
 use Rattle.ddr_world.specs.State.{State}
-use Rattle.ddr_sim.specs.Rounds.{outstanding}
-use Rattle.ddr_sim.proofs.StepCounts.{none_opened}
+use Rattle.ddr_rounds.specs.Rounds.{outstanding}
+use Rattle.ddr_rounds.proofs.StepCounts.{none_opened}
 use Rattle.ddr_stream.specs.Stream.{Queues}
 use Rattle.ddr_replay.proofs.replaying.Replaying.open.Goals as goal
 

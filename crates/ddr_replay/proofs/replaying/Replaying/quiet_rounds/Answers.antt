@@ -10,6 +10,5 @@ pub returns-clause-quiet : goal.returns-clause-quiet
 returns-clause-quiet c = λ some.
     let a = c.self.inside in
     let n = c.min-2.result in
-    let fronts = rw (← c.self.view_is) at (c.has_front.ensures c.if-has_front.false) in
     subst (λ (s : Replay). AreQuiet s.config n (state_of s.world)) c.self.view_is
-    (are_quiet a.config n c.still.result a.world c.self.invariant.config c.still.ensures.channels c.still.ensures.quiet fronts some (omega (arith, c.min.ensures, c.min-2.ensures)))
+    (are_quiet a.config n c.still.result a.world c.self.invariant.config c.still.ensures.channels c.still.ensures.quiet (c.has_front.ensures.services c.if-has_front.false) some (omega (arith, c.min.ensures, c.min-2.ensures)))

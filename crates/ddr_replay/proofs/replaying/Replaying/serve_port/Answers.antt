@@ -26,13 +26,13 @@ returns-clause-run c =
     let start = run_of c.args.self.now in
     let now = run_of c.replies.self in
     let kept = c.replies.invariant in
-    let repeat = c.repeat.ensures in
+    let collect = c.collect.ensures in
     let none = subst (IsFrontReleased c.args.port now (run_of c.release_front.new.self)) c.if-branch.false c.in_ok-release_front.ensures.released in
-    let collected = same_run c.args.self.now c.repeat.new.self repeat.same ∙ ap (λ (s : State). record start { state = s }) repeat.state in
-    none.1 ∙ port_led c.args.port start (run_of c.repeat.new.self) now collected kept.run none.0
+    let collected = same_run c.args.self.now c.collect.new.self collect.same ∙ ap (λ (s : State). record start { state = s }) collect.state in
+    none.1 ∙ port_led c.args.port start (run_of c.collect.new.self) now collected kept.run none.0
 
 pub returns-clause-config : goal.returns-clause-config
-returns-clause-config c = c.release_front.ensures.config ∙ c.replies.invariant.config ∙ c.repeat.ensures.same.config
+returns-clause-config c = c.release_front.ensures.config ∙ c.replies.invariant.config ∙ c.collect.ensures.same.config
 
 pub returns-clause-round : goal.returns-clause-round
-returns-clause-round c = c.release_front.ensures.round ∙ c.replies.invariant.round ∙ c.repeat.ensures.same.round
+returns-clause-round c = c.release_front.ensures.round ∙ c.replies.invariant.round ∙ c.collect.ensures.same.round

@@ -1,7 +1,7 @@
 use Rattle.std.proofs.Common.{◌≡◌}
 use Rattle.ddr_world.specs.Events.{Release}
 use Rattle.ddr_world.specs.Kept.{state_of}
-use Rattle.ddr_sim.specs.Rounds.{items_of}
+use Rattle.ddr_rounds.specs.Rounds.{items_of}
 use Rattle.ddr_replay.specs.Runs.{released}
 use Rattle.ddr_replay.specs.View.{run_of}
 use Rattle.ddr_replay.proofs.replaying.Replaying.serve_port.Given as goal

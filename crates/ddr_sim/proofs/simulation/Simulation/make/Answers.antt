@@ -3,8 +3,8 @@ use Rattle.std.proofs.Common.{arith, subst, sym, ◌∙◌}
 use Rattle.ddr_world.specs.declared.event.Outcome.{Outcome}
 use Rattle.ddr_world.specs.Events.{event_of}
 use Rattle.ddr_world.specs.Kept.{state_of}
-use Rattle.ddr_sim.specs.Rounds.{outstanding}
-use Rattle.ddr_sim.proofs.StepCounts.{Counted, as_many, made_counts}
+use Rattle.ddr_rounds.specs.Rounds.{outstanding}
+use Rattle.ddr_rounds.proofs.StepCounts.{Counted, as_many, made_counts}
 use Rattle.ddr_sim.proofs.simulation.Simulation.make.Goals as goal
 
 pub invariant_of-self-in-Accepted : goal.invariant_of-self-in-Accepted

@@ -1,8 +1,8 @@
 -- Nothing is outstanding before the first event.
 use Rattle.std.proofs.Common.{ap, sym, ◌∙◌}
 use Rattle.ddr_world.specs.State.{State}
-use Rattle.ddr_sim.specs.Rounds.{outstanding}
-use Rattle.ddr_sim.proofs.StepCounts.{none_opened}
+use Rattle.ddr_rounds.specs.Rounds.{outstanding}
+use Rattle.ddr_rounds.proofs.StepCounts.{none_opened}
 use Rattle.ddr_sim.proofs.simulation.Simulation.open.Goals as goal
 
 pub invariant_of-result : goal.invariant_of-result

@@ -10,7 +10,6 @@ pub returns-else-quiet-from-clause-quiet : goal.returns-else-quiet-from-clause-q
 returns-else-quiet-from-clause-quiet c = λ some.
     let a = c.self.inside in
     let n = c.min-most.result in
-    let fronts = rw (← c.self.view_is) at (c.has_front.ensures c.if-has_front.false) in
     subst (λ (s : Simulated). AreQuiet s.config n (state_of s.world) s.left) c.self.view_is
-    (are_quiet a.config n c.still-quiet.result a.world a.left c.self.invariant.config c.still-quiet.ensures.channels c.still-quiet.ensures.quiet fronts some
+    (are_quiet a.config n c.still-quiet.result a.world a.left c.self.invariant.config c.still-quiet.ensures.channels c.still-quiet.ensures.quiet (c.has_front.ensures.replies c.if-has_front.false) some
     (omega (arith, c.if-quiet-from.false, c.from.ensures)) (omega (arith, c.min-most.ensures)))

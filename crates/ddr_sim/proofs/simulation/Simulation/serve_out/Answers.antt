@@ -3,7 +3,8 @@ use Rattle.std.proofs.Common.{◌≡◌, ◌<◌, ◌-◌, ℕ, List, Ok, Err, I
 use Rattle.std.proofs.lemmas.Result.{err_from_is_err_and}
 use Rattle.ddr_timing.specs.declared.config.Config.{Config}
 use Rattle.ddr_world.specs.Kept.{state_of}
-use Rattle.ddr_sim.specs.Rounds.{outstanding, round, rounds}
+use Rattle.ddr_rounds.specs.Rounds.{outstanding}
+use Rattle.ddr_sim.specs.Rounds.{round, rounds}
 use Rattle.ddr_sim.specs.Runs.{served_out}
 use Rattle.ddr_sim.specs.Simulated.{Leads, run_at}
 use Rattle.ddr_sim.proofs.Courses.{served_out_end, served_out_turn, onward_end, onward_stop, onward_turn, same_on}

@@ -1,7 +1,7 @@
 use Rattle.std.proofs.Common.{◌≡◌}
 use Rattle.ddr_world.specs.Events.{Release}
 use Rattle.ddr_world.specs.Kept.{state_of}
-use Rattle.ddr_sim.specs.Rounds.{items_of}
+use Rattle.ddr_rounds.specs.Rounds.{items_of}
 use Rattle.ddr_sim.specs.Simulated.{IsSameRun}
 use Rattle.ddr_sim.proofs.Courses.{Onward, replies_of}
 use Rattle.ddr_sim.proofs.simulation.Simulation.serve_port.Given as goal

@@ -1,7 +1,0 @@
-use Rattle.std.proofs.Common.{◌≡◌, ◌<◌, ℕ, None}
-use Rattle.ddr_world.specs.History.{front_of}
-use Rattle.ddr_world.specs.Kept.{state_of}
-use Rattle.ddr_sim.proofs.simulation.Simulation.has_front.Given as goal
-
-abbrev pub invariant-loop-port : goal.invariant-loop-port
-invariant-loop-port l = (p : ℕ) → p < l.port → front_of (state_of l.self-inside.world) p ≡ None
