@@ -124,6 +124,63 @@ typedef struct ddr_memory_shape {
     uint32_t window;
 } ddr_memory_shape;
 
+/* What a channel did so far: commands of each kind (those with auto-precharge apart), how its reads and writes found their banks, for how
+ * many clocks data were on its data bus, how often that turned round or went to another rank, the most REFs that a rank owed in
+ * a cycle, and in how many cycles writes were drained. docs/FORMATS.md says of each key of the same name, in the statistics of a replay, what it counts. */
+typedef struct ddr_channel_statistics {
+    uint64_t cycles;
+    uint64_t activates;
+    uint64_t precharges;
+    uint64_t precharges_all;
+    uint64_t refreshes;
+    uint64_t reads;
+    uint64_t writes;
+    uint64_t reads_auto;
+    uint64_t writes_auto;
+    uint64_t row_hits;
+    uint64_t row_misses;
+    uint64_t row_conflicts;
+    uint64_t busy_clocks;
+    uint64_t turn_rounds;
+    uint64_t rank_switches;
+    uint64_t refresh_debt_most;
+    uint64_t drain_cycles;
+} ddr_channel_statistics;
+
+/* How the clocks are spread that some requests took: how many requests, all their clocks together, the fewest and the most, 0 where there
+ * is none, and what 50, 90, 99 and 99.9 in a hundred don't pass, which is exact below 16 and else at most an eighth too much, as in the
+ * numbers of a replay. Each stops at 2^64 - 1. */
+typedef struct ddr_spread {
+    uint64_t count;
+    uint64_t clocks;
+    uint64_t least;
+    uint64_t most;
+    uint64_t p50_at_most;
+    uint64_t p90_at_most;
+    uint64_t p99_at_most;
+    uint64_t p999_at_most;
+} ddr_spread;
+
+/* How long those requests took whose replies were taken, from their acceptance on: to the cycle of the column command, to completion, and
+ * to the clock when the reply was taken. */
+typedef struct ddr_request_statistics {
+    ddr_spread accepted_to_issued;
+    ddr_spread accepted_to_done;
+    ddr_spread accepted_to_released;
+} ddr_request_statistics;
+
+/* What came of a port's requests so far: how many it accepted, how many replies were taken, and how often a request was refused since
+ * the port's window was full or, where that had room, the queue of the request's channel. Where a refused request is asked again in each round, these
+ * two are the clocks that the port waited. */
+typedef struct ddr_port_statistics {
+    uint64_t accepted;
+    uint64_t taken;
+    uint64_t refused_for_window;
+    uint64_t refused_for_queue;
+    ddr_request_statistics reads;
+    ddr_request_statistics writes;
+} ddr_port_statistics;
+
 /* The library, and the kit that it was proved with. */
 #define DDR_VERSION "1.0"
 #define DDR_KIT "rattle-kit-13f logic dac8208d650f15bf"
@@ -136,10 +193,13 @@ int32_t ddr_c_masked_write(ddr_core *core, uint32_t port, uint64_t addr, const u
 int32_t ddr_c_quiet(ddr_core *core, uint64_t *rounds);
 int32_t ddr_c_rounds(ddr_core *core, uint64_t count, uint64_t *made);
 int32_t ddr_c_next(ddr_core *core, uint32_t port, ddr_reply *reply, uint8_t *buffer, size_t room);
+int32_t ddr_c_served(ddr_core *core, uint32_t port, uint64_t number, ddr_reply *reply, uint8_t *buffer, size_t room);
 int32_t ddr_c_counts(ddr_core *core, uint32_t port, uint64_t *accepted, uint64_t *taken);
 int32_t ddr_c_cycle(ddr_core *core, uint32_t channel, uint64_t *cycle);
 int32_t ddr_c_trace(ddr_core *core, uint32_t channel, uint64_t first, ddr_command *commands, size_t room, uint64_t *count);
 int32_t ddr_c_shape(ddr_core *core, ddr_memory_shape *shape);
+int32_t ddr_c_channel_numbers(ddr_core *core, uint32_t channel, ddr_channel_statistics *statistics);
+int32_t ddr_c_port_numbers(ddr_core *core, uint32_t port, ddr_port_statistics *statistics);
 int32_t ddr_c_close(ddr_core *core);
 
 /* Opens a core from a configuration's text, of the `length` bytes at `text` (docs/FORMATS.md has its keys). Its clocks and
@@ -198,6 +258,16 @@ static inline int32_t ddr_next_reply(ddr_core *core, uint32_t port, ddr_reply *r
     return ddr_c_next(core, port, reply, buffer == NULL ? &none : (uint8_t *)buffer, room);
 }
 
+/* Shows the reply to a port's request of this number once its data are there, or it is written, whether or not the replies before it are
+ * ready: writes its head, and copies the bytes of a read to the `room` bytes at `buffer`, as ddr_next_reply does, but that the reply stays, and is taken
+ * in its turn. `released` is the clock of this call. DDR_NOTHING where the request is not outstanding, or not served yet; DDR_TOO_SHORT as in
+ * ddr_next_reply. */
+static inline int32_t ddr_served(ddr_core *core, uint32_t port, uint64_t number, ddr_reply *reply, void *buffer, size_t room) {
+    uint8_t none = 0;
+    if (core == NULL || reply == NULL || (buffer == NULL && room != 0)) return DDR_NULL;
+    return ddr_c_served(core, port, number, reply, buffer == NULL ? &none : (uint8_t *)buffer, room);
+}
+
 /* Writes how many requests a port accepted, and how many of its replies were taken. The others are outstanding. */
 static inline int32_t ddr_counts(ddr_core *core, uint32_t port, uint64_t *accepted, uint64_t *taken) {
     if (core == NULL || accepted == NULL || taken == NULL) return DDR_NULL;
@@ -222,6 +292,19 @@ static inline int32_t ddr_trace(ddr_core *core, uint32_t channel, uint64_t first
 static inline int32_t ddr_shape(ddr_core *core, ddr_memory_shape *shape) {
     if (core == NULL || shape == NULL) return DDR_NULL;
     return ddr_c_shape(core, shape);
+}
+
+/* Writes what a channel did so far. Each command is counted once, at the first such call behind it, so that the call may be made at any time and
+ * often. The cycles in which writes were drained are those of whole rounds. Also DDR_CLOCK_SPENT where the channel's clock has come to 2^62. */
+static inline int32_t ddr_statistics_of_channel(ddr_core *core, uint32_t channel, ddr_channel_statistics *statistics) {
+    if (core == NULL || statistics == NULL) return DDR_NULL;
+    return ddr_c_channel_numbers(core, channel, statistics);
+}
+
+/* Writes what came of a port's requests so far. */
+static inline int32_t ddr_statistics_of_port(ddr_core *core, uint32_t port, ddr_port_statistics *statistics) {
+    if (core == NULL || statistics == NULL) return DDR_NULL;
+    return ddr_c_port_numbers(core, port, statistics);
 }
 
 /* The name of a code, as enum ddr_code has it behind DDR_; "" where there is no such code. */

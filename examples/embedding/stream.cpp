@@ -74,7 +74,7 @@ struct Record {
     std::string held;
     bool wanted = false;
 
-    void request(std::uint64_t addr, bool is_write, const ddr::Memory::Line &line) {
+    void request(std::uint64_t addr, bool is_write, const ddr::OrderedMemory::Line &line) {
         if (!wanted) return;
         std::ostringstream text;
         if (is_write) text << "write 0 " << addr << ' ' << hex(line.data(), line.size()) << '\n';
@@ -109,13 +109,14 @@ void place(std::ostream &to, std::uint32_t value) {
 
 // The numbers of channels' commands that `./ddr replay` prints.
 struct Numbers {
-    std::uint64_t turn_rounds = 0, rank_switches = 0, refresh_debt_most = 0, row_hits = 0, row_misses = 0, row_conflicts = 0;
+    std::uint64_t turn_rounds = 0, rank_switches = 0, drain_cycles = 0, refresh_debt_most = 0, row_hits = 0, row_misses = 0, row_conflicts = 0;
     std::uint64_t commands[8] = {};
 
     std::uint64_t columns() const { return commands[DDR_RD] + commands[DDR_WR] + commands[DDR_RDA] + commands[DDR_WRA]; }
     void add(const Numbers &more) {
         turn_rounds += more.turn_rounds;
         rank_switches += more.rank_switches;
+        drain_cycles += more.drain_cycles;
         refresh_debt_most = std::max(refresh_debt_most, more.refresh_debt_most);
         row_hits += more.row_hits;
         row_misses += more.row_misses;
@@ -123,7 +124,7 @@ struct Numbers {
         for (int kind = 0; kind < 8; kind++) commands[kind] += more.commands[kind];
     }
     void print(std::ostream &to) const {
-        to << "turn_rounds = " << turn_rounds << "\nrank_switches = " << rank_switches << "\nrefresh_debt_most = " << refresh_debt_most
+        to << "turn_rounds = " << turn_rounds << "\nrank_switches = " << rank_switches << "\ndrain_cycles = " << drain_cycles << "\nrefresh_debt_most = " << refresh_debt_most
            << "\nactivates = " << commands[DDR_ACT] << "\nprecharges = " << commands[DDR_PRE] << "\nprecharges_all = " << commands[DDR_PREA]
            << "\nrefreshes = " << commands[DDR_REF] << "\nreads = " << commands[DDR_RD] << "\nwrites = " << commands[DDR_WR]
            << "\nreads_auto = " << commands[DDR_RDA] << "\nwrites_auto = " << commands[DDR_WRA] << "\nrow_hits = " << row_hits
@@ -198,6 +199,21 @@ std::uint64_t number_of(const std::string &config, const std::string &key, std::
     return otherwise;
 }
 
+// Whether what the library tells of a channel are these numbers.
+bool is_told(const ddr_channel_statistics &told, const Numbers &numbers) {
+    const std::uint64_t *const commands = numbers.commands;
+    return told.turn_rounds == numbers.turn_rounds && told.rank_switches == numbers.rank_switches && told.refresh_debt_most == numbers.refresh_debt_most
+        && told.activates == commands[DDR_ACT] && told.precharges == commands[DDR_PRE] && told.precharges_all == commands[DDR_PREA]
+        && told.refreshes == commands[DDR_REF] && told.reads == commands[DDR_RD] && told.writes == commands[DDR_WR]
+        && told.reads_auto == commands[DDR_RDA] && told.writes_auto == commands[DDR_WRA] && told.row_hits == numbers.row_hits
+        && told.row_misses == numbers.row_misses && told.row_conflicts == numbers.row_conflicts && told.busy_clocks == 4 * numbers.columns();
+}
+
+// Whether what the library tells of requests is what their replies told.
+bool is_told(const ddr_spread &told, const Latency &latency) {
+    return told.count == latency.count && told.clocks == latency.sum && told.most == latency.most;
+}
+
 // The numbers of a channel's commands, which are written as the program writes a trace where they are wanted.
 Numbers traced(ddr::Core &core, const std::string &config, std::uint32_t channel, std::ostream *text) {
     Counter counter(number_of(config, "refi", 1), number_of(config, "ranks", 1));
@@ -220,12 +236,14 @@ Numbers traced(ddr::Core &core, const std::string &config, std::uint32_t channel
     }
     counter.end(core.cycle(channel));
     if (text != nullptr) *text << core.cycle(channel) << ",END,,,,,\n";
+    const ddr_channel_statistics told = core.channel_statistics(channel);
+    if (!is_told(told, counter.numbers)) throw std::runtime_error("the library counts other commands");
+    counter.numbers.drain_cycles = told.drain_cycles; // of which the commands tell nothing
     return counter.numbers;
 }
 
-// All numbers, as `./ddr replay` prints them, but for the cycles in which writes were drained, of which a core does not tell: of all
-// together, of each channel, and of each port, of which the first alone has requests. It takes each in the cycle in which it is
-// taken, so that none waits.
+// All numbers, as `./ddr replay` prints them: of all together, of each channel, and of each port, of which the first alone has requests. It
+// takes each in the cycle in which it is taken, so that none waits.
 void print_statistics(std::ostream &to, ddr::Core &core, const std::vector<Numbers> &channels, const Numbers &total, const Latency &reads, const Latency &writes) {
     const std::uint32_t ports = core.ports();
     to << "channels = " << channels.size() << "\nports = " << ports << "\ncycles = " << core.cycle(0) << '\n';
@@ -245,7 +263,7 @@ void run(const std::string &config, std::uint64_t requests, const std::string &f
     if (!folder.empty()) record.requests.open(folder + "/requests");
     record.wanted = !folder.empty() && requests <= SCRIPT_REQUESTS;
     Latency reads, writes;
-    ddr::Memory memory(
+    ddr::OrderedMemory memory(
         config, [&](const ddr::Reply &reply) { reads.note(reply.head), record.reply(reply); },
         [&](const ddr::Reply &reply) { writes.note(reply.head), record.reply(reply); });
 
@@ -255,7 +273,7 @@ void run(const std::string &config, std::uint64_t requests, const std::string &f
         while (added < requests && memory.WillAccept(0, false)) {
             const std::uint64_t addr = draw.next() % LINES * 64;
             const bool is_write = draw.next() % 2 == 0;
-            ddr::Memory::Line line{};
+            ddr::OrderedMemory::Line line{};
             line[0] = static_cast<std::uint8_t>(added);
             memory.Add(addr, is_write, line);
             record.request(addr, is_write, line);
@@ -268,6 +286,9 @@ void run(const std::string &config, std::uint64_t requests, const std::string &f
         cycles++;
     }
 
+    const ddr_port_statistics port = memory.Under().port_statistics(0);
+    if (!is_told(port.reads.accepted_to_released, reads) || !is_told(port.writes.accepted_to_released, writes))
+        throw std::runtime_error("the library counts other requests");
     std::vector<Numbers> channels;
     Numbers total;
     for (std::uint32_t channel = 0; channel < memory.Under().channels(); channel++) {

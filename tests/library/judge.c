@@ -148,6 +148,26 @@ static void faults(ddr_judge *judge) {
     wants("ends late", ddr_judge_end(judge, 1891), DDR_ILLEGAL);
 }
 
+/* Behind so many reads that what came before them is let go: the lowest rule is told still, what it rests on where the newest commands tell it.
+ * Of the second bank, whose ACT isn't kept, nothing is told until another ACT of it counts, at fault itself. */
+static void long_run(ddr_judge *judge) {
+    legal(judge, of(100, DDR_ACT, 0, 0, 0, 0));
+    legal(judge, of(120, DDR_ACT, 1, 0, 0, 0));
+    for (uint64_t i = 0; i < 9000; i++) legal(judge, of(200 + 20 * i, DDR_RD, 0, 0, 0, 8));
+    faulty(judge, of(180200, DDR_RD, 1, 0, 1, 8), DDR_RULE_ROW, DDR_NOT_KEPT, UINT64_MAX, 0, 0,
+           "RD at cycle 180200 breaks ROW: what it rests on may be a command that is no longer kept");
+    faulty(judge, of(180220, DDR_ACT, 1, 0, 1, 0), DDR_RULE_STATE, DDR_NOT_KEPT, UINT64_MAX, 0, 0,
+           "ACT at cycle 180220 breaks STATE: what it rests on may be a command that is no longer kept");
+    faulty(judge, of(180240, DDR_RD, 1, 0, 0, 8), DDR_RULE_ROW, DDR_BANK_STATE, 180220, 0, 0,
+           "RD at cycle 180240 breaks ROW: ACT at cycle 180220 changed the bank last");
+    faulty(judge, of(180260, DDR_ACT, 1, 0, 0, 0), DDR_RULE_STATE, DDR_BANK_STATE, 180220, 0, 0,
+           "ACT at cycle 180260 breaks STATE: ACT at cycle 180220 changed the bank last");
+    faulty(judge, of(180260, DDR_RD, 0, 0, 0, 8), DDR_RULE_ORDER, DDR_NOT_ABOVE, 180260, 0, 0,
+           "RD at cycle 180260 breaks ORDER: it is not behind ACT at cycle 180260");
+    faulty(judge, of(180280, DDR_ACT, 4, 0, 1, 0), DDR_RULE_PLACE, DDR_OUTSIDE, UINT64_MAX, 4, 4,
+           "ACT at cycle 180280 breaks PLACE: there is 4 where less than 4 is wanted");
+}
+
 static int wrong(void) {
     ddr_judge judge = DDR_JUDGE_INIT;
     uint64_t n = 0;
@@ -162,6 +182,7 @@ static int wrong(void) {
     wants("close", ddr_judge_close(&judge), DDR_OK);
     closed(&judge);
     wants("open anew", ddr_judge_open(&judge, text, length, 0, NULL, 0, &n), DDR_OK);
+    long_run(&judge);
     wants("and close", ddr_judge_close(&judge), DDR_OK);
     wants("the name", strcmp(ddr_rule_name(DDR_RULE_RTRS), "RTRS") | strcmp(ddr_rule_name(24), ""), 0);
     return failed != 0;

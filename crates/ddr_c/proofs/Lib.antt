@@ -1,3 +1,4 @@
+pub mod FollowLemmas
 pub mod OpenLemmas
+pub mod ReplyLemmas
 pub mod TraceLemmas
-pub mod Values

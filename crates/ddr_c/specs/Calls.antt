@@ -1,5 +1,5 @@
 -- What a call finds in its slot, and what it leaves there.
-use Rattle.std.specs.Prelude.{◌≡◌, ◌+◌, ◌<◌, ◌-◌, ℕ, ℤ, List, drop, length, min, slice_get, IfSome, Option, Some, None, Result}
+use Rattle.std.specs.Prelude.{◌≡◌, ◌+◌, ◌<◌, ◌-◌, ℕ, ℤ, Bool, List, if◌then◌else◌, is_some, drop, length, min, slice_get, IfSome, Option, Some, None, Result, Ok, Err}
 use Rattle.std.specs.Option.{option_map}
 use Rattle.ddr_ports.specs.Asked.{Asked}
 use Rattle.ddr_trace.specs.declared.command.Entry.{Entry}
@@ -7,12 +7,15 @@ use Rattle.ddr_world.specs.declared.event.Outcome.{Outcome}
 use Rattle.ddr_world.specs.declared.event.Refusal.{Refusal}
 use Rattle.ddr_world.specs.Answer.{IsAnswered}
 use Rattle.ddr_world.specs.Events.{Submit}
-use Rattle.ddr_world.specs.History.{front_of}
+use Rattle.ddr_world.specs.History.{front_of, served_of}
 use Rattle.ddr_world.specs.Kept.{state_of}
-use Rattle.ddr_world.specs.Record.{IsNext}
+use Rattle.ddr_world.specs.Record.{IsNext, IsRightAt}
+use Rattle.ddr_world.specs.Served.{served_service_of}
 use Rattle.ddr_world.specs.State.{PortSide}
 use Rattle.ddr_c.specs.declared.head.Head.{Head}
 use Rattle.ddr_c.specs.declared.host.Core.{Core}
+use Rattle.ddr_c.specs.declared.numbers.ChannelNumbers.{ChannelNumbers}
+use Rattle.ddr_c.specs.declared.numbers.PortNumbers.{PortNumbers}
 use Rattle.ddr_c.specs.declared.host.Next.{Next}
 use Rattle.ddr_c.specs.declared.host.Next.TheVariants as next
 use Rattle.ddr_c.specs.declared.slot.Slot.{Slot}
@@ -20,10 +23,14 @@ use Rattle.ddr_bus.specs.declared.bus.BusCommand.{BusCommand}
 use Rattle.ddr_c.specs.declared.codes.TheConstants as code
 use Rattle.ddr_c.specs.Codes.{answer_code, code_of, number_told}
 use Rattle.ddr_rounds.specs.Continues.{Continues}
-use Rattle.ddr_c.specs.Front.{IsNextOf}
+use Rattle.ddr_c.specs.Front.{IsNextOf, IsSeen}
 use Rattle.ddr_c.specs.Heads.{head_of}
+use Rattle.ddr_rounds.specs.Drains.{AreRaised, drained}
 use Rattle.ddr_rounds.specs.Rounds.{IsRefusedBehind, IsStopped, rounds}
+use Rattle.ddr_c.specs.Numbers.{drains_at, numbers_told}
+use Rattle.ddr_c.specs.Stamps.{clock_of, stamped}
 use Rattle.ddr_c.specs.Trace.{traced}
+use Rattle.ddr_c.specs.Traffic.{port_numbers_of, traffic_at, with_answer, with_next}
 
 -- the core that a slot holds, if it is open
 abbrev pub held_in : Slot → Option Core
@@ -41,6 +48,9 @@ pub record IsSubmitted (port : ℕ) (asked : Asked) (old new : ℕ) (told : ℤ)
   pub answered : IsAnswered before.world after.world (Submit port asked) answer
   pub code : told ≡ answer_code answer
   pub number : new ≡ number_told answer old
+  pub stamps : after.stamps.accepted.items ≡ stamped port answer (clock_of (state_of before.world)) before.stamps.accepted.items
+  pub drains : after.drains ≡ before.drains
+  pub traffic : after.traffic.items ≡ with_answer port answer before.traffic.items
   pub continues : Continues before.world after.world
 
 -- all of so many rounds were made, or fewer and the next one was refused: for want of memory only where a channel's cycle issues a
@@ -50,31 +60,46 @@ pub record IsAdvanced (count made : ℕ) (told : ℤ) (before after : Core) : Ty
   pub whole : stopped ≡ None → (told ≡ code.OK) × (made ≡ count) × (rounds before.world.config count (state_of before.world) ≡ Some (state_of after.world))
   pub partly : IfSome stopped (λ cause. (told ≡ code_of cause) × (made < count) × IsStopped cause (rounds before.world.config (made + 1) (state_of before.world)))
   pub refused : IfSome stopped (λ cause. IsRefusedBehind cause before.world.config made (state_of before.world) (state_of after.world))
+  -- of each channel the cycles of those rounds in which writes were drained
+  pub drains : AreRaised before.world.config.geometry.channels (drained before.world.config made (state_of before.world)) before.drains.items after.drains.items
+  pub stamps : after.stamps ≡ before.stamps
+  pub traffic : after.traffic ≡ before.traffic
   pub config : after.world.config ≡ before.world.config
   pub continues : Continues before.world after.world
 
--- the code of what became of the reply in front of a port, if there is such a port
-abbrev pub next_code : Option PortSide → Next → ℤ
-next_code None _ = code.NO_SUCH
-next_code (Some side) next.Nothing = code.NOTHING
-next_code (Some side) (next.TooShort front) = code.TOO_SHORT
-next_code (Some side) (next.Given front) = code.OK
+-- the code of what became of a reply of a port, if there is such a port
+abbrev pub reply_code : Bool → Next → ℤ
+reply_code known next.Nothing = if known then code.NOTHING else code.NO_SUCH
+reply_code known (next.TooShort front) = code.TOO_SHORT
+reply_code known (next.Given front) = code.OK
 
--- its head, or what was there
-abbrev pub IsHead : Next → Head → Head → Type 0
-IsHead next.Nothing old new = new ≡ old
-IsHead (next.TooShort front) old new = (clock : ℕ) × (new ≡ head_of front clock)
-IsHead (next.Given front) old new = (clock : ℕ) × (new ≡ head_of front clock)
+-- its head at this clock, or what was there
+abbrev pub head_after : Next → ℕ → Head → Head
+head_after next.Nothing clock old = old
+head_after (next.TooShort front) clock old = head_of front clock
+head_after (next.Given front) clock old = head_of front clock
 
 -- the reply in front of a port was given up, with its head and its bytes, or it was not
 pub record IsTaken (port : ℕ) (head_old head_new : Head) (old new : List ℕ) (told : ℤ) (before after : Core) : Type 0 where
   pub next : Next
-  pub done : IsNextOf (front_of (state_of before.world) port) port before.world after.world old new next
-  pub code : told ≡ next_code (slice_get before.world.ports port) next
-  pub head : IsHead next head_old head_new
+  pub done : IsNextOf (front_of (state_of before.world) port) port before.stamps.accepted.items before.world after.world old new next
+  pub code : told ≡ reply_code (is_some (slice_get before.world.ports port)) next
+  pub head : head_new ≡ head_after next (clock_of (state_of before.world)) head_old
+  pub drains : after.drains ≡ before.drains
+  pub stamps : after.stamps ≡ before.stamps
+  pub traffic : after.traffic.items ≡ with_next port next (clock_of (state_of before.world)) before.traffic.items
   -- the bytes are those of the next right reply, whatever was done before
   pub right : IfSome (front_of (state_of before.world) port) (IsNext before.world port)
   pub continues : Continues before.world after.world
+
+-- the reply to a port's request was shown, with its head and its bytes, or it was not there
+pub record IsServed (port number : ℕ) (head_old head_new : Head) (old new : List ℕ) (told : ℤ) (core : Core) : Type 0 where
+  pub next : Next
+  pub done : IsSeen (served_of (state_of core.world) port number) (served_service_of (state_of core.world) port number) port core.stamps.accepted.items core.world old new next
+  pub code : told ≡ reply_code (is_some (slice_get core.world.ports port)) next
+  pub head : head_new ≡ head_after next (clock_of (state_of core.world)) head_old
+  -- the bytes are those of the right reply to the request, whatever was done before
+  pub right : IfSome (served_of (state_of core.world) port number) (IsRightAt core.world port number)
 
 -- a port's counts are told where there is one
 abbrev pub IsCountedOf : Option PortSide → ℕ → ℕ → ℕ → ℕ → ℤ → Type 0
@@ -103,3 +128,24 @@ IsCopied (Some entries) first old new count = (count ≡ Some (min (length entri
 abbrev pub IsListed : Option (List Entry) → ℕ → List BusCommand → List BusCommand → ℕ → ℕ → ℤ → Type 0
 IsListed None first old new count count_new told = (told ≡ code.NO_SUCH) × (new ≡ old) × (count_new ≡ count)
 IsListed (Some entries) first old new count count_new told = (told ≡ code.OK) × (new ≡ traced (drop first entries) old) × (count_new ≡ min (length entries - first) (length old))
+
+-- a channel's numbers are told, or why not
+abbrev pub IsChannelTold : Result ChannelNumbers Refusal → ChannelNumbers → ChannelNumbers → ℤ → Type 0
+IsChannelTold (Ok numbers) old new told = (told ≡ code.OK) × (new ≡ numbers)
+IsChannelTold (Err cause) old new told = (told ≡ code_of cause) × (new ≡ old)
+
+-- those of the channel of this number; what was counted is noted, and all else is as it was
+pub record IsNumbered (channel : ℕ) (old new : ChannelNumbers) (told : ℤ) (before after : Core) : Type 0 where
+  pub numbers : IsChannelTold (numbers_told (option_map (λ side. side.channel) (slice_get before.world.channels channel)) (drains_at before.drains.items channel)) old new told
+  pub world : after.world ≡ before.world
+  pub drains : after.drains ≡ before.drains
+  pub stamps : after.stamps ≡ before.stamps
+  pub traffic : after.traffic ≡ before.traffic
+
+-- a port's numbers are told where there is one
+abbrev pub IsPortTold : Option PortNumbers → PortNumbers → PortNumbers → ℤ → Type 0
+IsPortTold None old new told = (told ≡ code.NO_SUCH) × (new ≡ old)
+IsPortTold (Some numbers) old new told = (told ≡ code.OK) × (new ≡ numbers)
+
+abbrev pub port_numbers_in : Core → ℕ → Option PortNumbers
+port_numbers_in core port = port_numbers_of (slice_get core.world.ports port) (traffic_at core.traffic.items port)

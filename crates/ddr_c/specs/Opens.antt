@@ -1,5 +1,5 @@
 -- What comes of opening a core.
-use Rattle.std.specs.Prelude.{◌≡◌, ◌≢◌, ◌⊎◌, ℕ, ℤ, List, [], ◌++◌, drop, length, take, Option, Some, None}
+use Rattle.std.specs.Prelude.{◌≡◌, ◌≢◌, ◌⊎◌, ℕ, ℤ, List, [], ◌++◌, drop, length, replicate, take, Option, Some, None}
 use Rattle.std.specs.Str.{IsUtf8}
 use Rattle.toml.specs.Parse.{parse_document}
 use Rattle.ddr_timing.specs.declared.config.Config.{Config}
@@ -9,6 +9,7 @@ use Rattle.ddr_timing.specs.Values.{IsReadAs}
 use Rattle.ddr_world.specs.Kept.{state_of}
 use Rattle.ddr_world.specs.Record.{StandsFor}
 use Rattle.ddr_world.specs.State.{opened}
+use Rattle.ddr_c.specs.Traffic.{no_traffic}
 use Rattle.ddr_c.specs.declared.host.Core.{Core}
 use Rattle.ddr_c.specs.declared.codes.TheConstants as code
 
@@ -16,6 +17,8 @@ use Rattle.ddr_c.specs.declared.codes.TheConstants as code
 pub record IsFresh (config : Config) (core : Core) : Type 0 where
   pub state : state_of core.world ≡ opened config 0 0
   pub stands : StandsFor core.world (record { config = config; cycle = 0; number = 0 }) []
+  pub drains : core.drains.items ≡ replicate config.geometry.channels 0
+  pub traffic : core.traffic.items ≡ replicate config.limits.ports no_traffic
 
 -- opened, or memory was refused
 abbrev pub IsOpened : Config → ℤ → Option Core → Type 0

@@ -1,12 +1,12 @@
 //! A box that C can hold as a pointer, or nothing. Contracts see the core that it holds.
 //!
-//! `loose` stands below, and `slot` above. The pointer that C sees has no type, since no pointer to a vector may cross.
+//! `ddr_loose` stands below, and `slot` above. The pointer that C sees has no type, since no pointer to a vector may cross.
 ghost use Rattle.std.specs.Prelude.{◌≡◌, true, IsSome, None, Option, Some};
 ghost use Rattle.ddr_c.specs.Held.{held, held_coded};
 ghost use Rattle.ddr_c.specs.declared.host.Core.{Core};
 
 use crate::host::Core;
-use crate::loose::Loose;
+use ddr_loose::loose::Loose;
 use std::alloc::Global;
 use std::marker::Model;
 

@@ -10,7 +10,7 @@ ghost use Rattle.std.specs.Prelude.{◌≡◌, ◌≢◌, ◌-◌, IfNone, IfSom
 ghost use Rattle.ddr_ports.specs.Asked.{Asked, Masked, Read, Write, asked_of};
 ghost use Rattle.ddr_world.specs.Kept.{state_of};
 ghost use Rattle.ddr_world.specs.Quiet.{IsQuiet};
-ghost use Rattle.ddr_c.specs.Calls.{Calls, IsAdvanced, IsCopied, IsCountedOf, IsListed, IsSubmitted, IsTaken, Tells, cycle_in, held_in, trace_in};
+ghost use Rattle.ddr_c.specs.Calls.{Calls, IsAdvanced, IsCopied, IsCountedOf, IsListed, IsNumbered, IsPortTold, IsServed, IsSubmitted, IsTaken, Tells, cycle_in, held_in, head_after, port_numbers_in, reply_code, trace_in};
 ghost use Rattle.ddr_c.specs.Codes.{answer_code, number_told};
 ghost use Rattle.ddr_c.specs.Opens.{IsOpening, IsShown};
 ghost use Rattle.ddr_c.specs.Shapes.{shape_of};
@@ -20,12 +20,13 @@ mod codes;
 mod handle;
 pub mod head;
 mod host;
-mod loose;
+pub mod numbers;
 mod open;
 pub mod shape;
 pub mod slot;
 mod stamps;
 mod trace;
+mod traffic;
 
 use codes::{ALREADY_OPEN, CLOSED, NO_SUCH, NOTHING, OK, TOO_SHORT, code_of};
 use ddr_address_map::request::Line;
@@ -36,6 +37,7 @@ use ddr_world::event::{Outcome, Refusal};
 use ddr_world::world::Counts;
 use head::{Head, head_of};
 use host::{Core, Next};
+use numbers::{ChannelNumbers, PortNumbers};
 use open::open;
 use shape::{Shape, shape_of};
 use slot::Slot;
@@ -200,18 +202,66 @@ pub extern "C" fn ddr_c_next(
     let Some(mut core) = slot.take(alloc) else {
         return CLOSED;
     };
+    let code = take_next(&mut core, port, head, buffer);
+    slot.put(core);
+    code
+}
+
+/// Copies the oldest reply of a port, and gives it up. Its head is told, and the code of what became of it.
+fn take_next(core: &mut Core, port: u32, head: &mut Head, buffer: &mut [u8]) -> i32
+    ensures { IsTaken port head.old head.new buffer.old buffer.new result core.old core.new }
+{
     let known = core.counts(port).is_some();
     let clock = core.clock();
     let next = core.next(port, buffer);
+    hand_over(&next, known, clock, head)
+}
+
+/// Copies the bytes of the reply to a port's request of this number, once its line has come back, whether or not the replies before it are
+/// ready. The reply stays.
+#[unsafe(no_mangle)]
+pub extern "C" fn ddr_c_served(
+    alloc: Global,
+    slot: &mut Slot,
+    port: u32,
+    number: u64,
+    head: &mut Head,
+    buffer: &mut [u8],
+) -> i32
+    ensures same { held_in slot.new ≡ held_in slot.old }
+    ensures told { Calls (held_in slot.old) (held_in slot.new) ((result ≡ CLOSED) × (head.new ≡ head.old) × (buffer.new ≡ buffer.old)) (λ core after. IsServed port number head.old head.new buffer.old buffer.new result core) }
+{
+    let Some(core) = slot.take(alloc) else {
+        return CLOSED;
+    };
+    let code = show(&core, port, number, head, buffer);
     slot.put(core);
+    code
+}
+
+/// Copies the bytes of the reply to a port's request of this number. Its head is told, and the code of what became of it.
+fn show(core: &Core, port: u32, number: u64, head: &mut Head, buffer: &mut [u8]) -> i32
+    ensures { IsServed port number head.old head.new buffer.old buffer.new result core.now }
+{
+    let known = core.counts(port).is_some();
+    let clock = core.clock();
+    let next = core.served(port, number, buffer);
+    hand_over(&next, known, clock, head)
+}
+
+/// The code of what became of a reply, whose head is told. `known` is whether there is such a port.
+fn hand_over(next: &Next, known: bool, clock: u64, head: &mut Head) -> i32
+    ensures code { result ≡ reply_code known next.now }
+    ensures head { head.new ≡ head_after next.now clock head.old }
+{
     match next {
         Next::Nothing => { if known { NOTHING } else { NO_SUCH } }
         Next::TooShort(front) => {
-            *head = head_of(&front, clock);
+            *head = head_of(front, clock);
             TOO_SHORT
         }
         Next::Given(front) => {
-            *head = head_of(&front, clock);
+            *head = head_of(front, clock);
             OK
         }
     }
@@ -302,6 +352,55 @@ fn list(core: &Core, channel: u32, first: u64, commands: &mut [BusCommand]) -> O
 {
     let entries = core.commands(channel)?;
     Some(copy_from(entries, first, commands))
+}
+
+/// Tells the numbers of a channel's commands so far.
+#[unsafe(no_mangle)]
+pub extern "C" fn ddr_c_channel_numbers(
+    alloc: Global,
+    slot: &mut Slot,
+    channel: u32,
+    numbers: &mut ChannelNumbers,
+) -> i32
+    ensures { Calls (held_in slot.old) (held_in slot.new) ((result ≡ CLOSED) × (numbers.new ≡ numbers.old)) (IsNumbered channel numbers.old numbers.new result) }
+{
+    let Some(mut core) = slot.take(alloc) else {
+        return CLOSED;
+    };
+    let answer = core.channel_numbers(channel);
+    slot.put(core);
+    match answer {
+        Ok(told) => {
+            *numbers = told;
+            OK
+        }
+        Err(cause) => code_of(cause),
+    }
+}
+
+/// Tells the numbers of a port's requests so far.
+#[unsafe(no_mangle)]
+pub extern "C" fn ddr_c_port_numbers(
+    alloc: Global,
+    slot: &mut Slot,
+    port: u32,
+    numbers: &mut PortNumbers,
+) -> i32
+    ensures same { held_in slot.new ≡ held_in slot.old }
+    ensures told { Calls (held_in slot.old) (held_in slot.new) ((result ≡ CLOSED) × (numbers.new ≡ numbers.old)) (λ core after. IsPortTold (port_numbers_in core port) numbers.old numbers.new result) }
+{
+    let Some(core) = slot.take(alloc) else {
+        return CLOSED;
+    };
+    let answer = core.port_numbers(port);
+    slot.put(core);
+    match answer {
+        Some(told) => {
+            *numbers = told;
+            OK
+        }
+        None => NO_SUCH,
+    }
 }
 
 /// Tells the shape of the memory and of its ports.

@@ -1,12 +1,12 @@
 //! What C holds of a core: a struct of two words, zeroed at first, with whether it is open. Contracts see the core.
 //!
-//! `handle` and `loose` stand below, and `lib` above. An export takes the box out, calls, and puts it back.
+//! `handle` and `ddr_loose` stand below, and `lib` above. An export takes the box out, calls, and puts it back.
 ghost use Rattle.std.specs.Prelude.{◌≡◌, None, Some, is_some};
 ghost use Rattle.std.specs.Option.{option_map};
 
 use crate::handle::Handle;
 use crate::host::Core;
-use crate::loose::Loose;
+use ddr_loose::loose::Loose;
 use std::alloc::Global;
 
 /// A core that C holds, or none. C zeroes it before the first call, never copies it and changes nothing in it.

@@ -10,6 +10,9 @@ returns-in-Some c = record {
   whole = λ is. absurd (let impossible = is in cc);
   partly = (to_z-of_z w32 c.code_of.result (search rules) ∙ c.code_of.ensures, search rules, search rules);
   refused = search rules;
+  drains = c.rounds-rounds.ensures.drains;
+  stamps = c.rounds-rounds.ensures.stamps;
+  traffic = c.rounds-rounds.ensures.traffic;
   config = c.rounds-rounds.ensures.config;
   continues = c.rounds-rounds.ensures.continues;
 }

@@ -22,7 +22,7 @@ use Rattle.std.proofs.raw_atomic.Walks.{proved_at, leaves}
 use Rattle.ddr_c.specs.contracts.host.Core as kept
 use Rattle.std.specs.contracts.impls.GlobalAllocator.TheImpl.{ghosts}
 use Rattle.ddr_c.specs.contracts.handle.Handle as handle
-use Rattle.ddr_c.proofs.Values.{both, Z, LZ, heap_al, handle_good, fields_in}
+use Rattle.ddr_loose.proofs.Values.{both, Z, LZ, heap_al, handle_good, fields_in}
 use Rattle.ddr_c.specs.contracts.handle.Handle.empty.{ended, clauses}
 use Rattle.ddr_c.specs.contracts.handle.Handle.empty.Key.{name as #self}
 use Rattle.ddr_c.proofs.handle.Handle.empty.Statement.{statement}

@@ -28,7 +28,7 @@ use Rattle.ddr_c.specs.contracts.host.Core as kept
 use Rattle.std.specs.contracts.impls.GlobalAllocator.TheImpl.{ghosts}
 use Rattle.ddr_c.specs.Held.{held}
 use Rattle.ddr_c.specs.contracts.handle.Handle as handle
-use Rattle.ddr_c.proofs.Values.{both, loose_good, loose_in, Z, LZ, heap_al, held_some}
+use Rattle.ddr_loose.proofs.Values.{both, loose_good, loose_in, Z, LZ, heap_al, held_some}
 use Rattle.ddr_c.specs.contracts.handle.Handle.into_loose.{ended, clauses}
 use Rattle.ddr_c.specs.contracts.handle.Handle.into_loose.Key.{name as #self}
 use Rattle.ddr_c.proofs.handle.Handle.into_loose.Statement.{statement}

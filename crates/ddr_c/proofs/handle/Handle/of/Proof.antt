@@ -21,7 +21,7 @@ use Rattle.std.proofs.raw_atomic.Walks.{proved_at, leaves}
 use Rattle.ddr_c.specs.contracts.host.Core as kept
 use Rattle.std.specs.contracts.impls.GlobalAllocator.TheImpl.{ghosts}
 use Rattle.ddr_c.specs.contracts.handle.Handle as handle
-use Rattle.ddr_c.proofs.Values.{both, Loose, loose_good, loose_out, loose_in, Z, LZ}
+use Rattle.ddr_loose.proofs.Values.{both, Loose, loose_good, loose_out, loose_in, Z, LZ}
 use Rattle.ddr_c.specs.contracts.handle.Handle.of.{ended, clauses}
 use Rattle.ddr_c.specs.contracts.handle.Handle.of.Key.{name as #self}
 use Rattle.ddr_c.proofs.handle.Handle.of.Statement.{statement}
