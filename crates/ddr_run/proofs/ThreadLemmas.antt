@@ -1,5 +1,5 @@
 -- The seats of a run's threads, before and afterwards.
-use Rattle.std.proofs.Common.{◌≡◌, ℕ, zero, suc, ◌+◌, ◌<◌, List, [], ◌∷◌, ◌++◌, length, take, get_or, Option, None, Some, Result, Ok, Err, IfErr, IfOk, true, slice_get, refl, sym, ap, subst, ◌∙◌, slice_index_or, string_bytes, arith}
+use Rattle.std.proofs.Common.{◌≡◌, ℕ, zero, suc, ◌+◌, ◌<◌, List, [], ◌∷◌, ◌++◌, length, take, drop, get_or, Option, None, Some, Result, Ok, Err, IfErr, IfOk, true, slice_get, refl, sym, ap, subst, ◌∙◌, slice_index_or, string_bytes, arith}
 use Rattle.std.specs.List.{cons_option, filter_map, fold}
 use Rattle.std.specs.Option.{option_to_list}
 use Rattle.std.proofs.Math.Seq.{take-append_seam}
@@ -98,10 +98,12 @@ from_places R [] (y ∷ ys) same each = absurd (omega (arith, same))
 from_places R (x ∷ xs) [] same each = absurd (omega (arith, same))
 
 -- the same, as a vector has the seats back
-pub served_back : (instructions : List Instruction) (old new rest : List Seat) (n : ℕ) → n ≡ length new → length new ≡ length old → ((i : ℕ) (d : Seat) → i < length old → Serves instructions (slice_index_or old i d) (slice_index_or new i d))
-    → AreMatched (Serves instructions) old (take n (new ++ rest))
-served_back instructions old new rest n whole same serves =
-    subst (AreMatched (Serves instructions) old) (sym (ap (λ m. take m (new ++ rest)) whole ∙ take-append_seam new rest)) (from_places (Serves instructions) old new same serves)
+pub served_back : (instructions : List Instruction) (first new items : List Seat) {old : List Seat} (n : ℕ) → old ≡ first → n ≡ length new → length new ≡ length old → ((i : ℕ) (d : Seat) → i < length old → Serves instructions (slice_index_or old i d) (slice_index_or new i d))
+    → AreMatched (Serves instructions) first (take n (new ++ drop (length new) items))
+served_back instructions first new items {old} n were whole same serves =
+    let rest = drop (length new) items in
+    subst (AreMatched (Serves instructions) first) (sym (ap (λ m. take m (new ++ rest)) whole ∙ take-append_seam new rest))
+    (subst (λ (xs : List Seat). AreMatched (Serves instructions) xs new) were (from_places (Serves instructions) old new same serves))
 
 some_stays : (cause : Stop) (more : List Stop) → fold cause_after (Some cause) more ≡ None → ⊥
 some_stays cause [] none = cc

@@ -148,6 +148,16 @@ module _ {X Y : Type 0} (P : List X → Y → Type 0) (rows : List (List X)) (ys
   pub all_joined : (n : ℕ) → length ys ≤ n → BelowEach P n rows ys → OfEach P rows ys
   all_joined n all before q row y at at' = before q row y (omega (arith, slice_get_within ys q y at', all)) at at'
 
+-- the next of those that are left comes: it and the rest stand behind those that came before, and the rest behind all of them
+pub record ComesNext {X : Type 0} (came : List X) (x : X) (rest whole : List X) : Type 0 where
+  pub before : came ++ x ∷ rest ≡ whole
+  pub behind : (came ++ x ∷ []) ++ rest ≡ whole
+
+pub comes_next : {X : Type 0} (came : List X) {left rest whole : List X} {x : X} → left ≡ x ∷ rest → came ++ left ≡ whole → ComesNext came x rest whole
+comes_next came {left} {rest} {whole} {x} first is =
+    let before : came ++ x ∷ rest ≡ whole = ap (λ xs. came ++ xs) (sym first) ∙ is in
+    record { before = before; behind = append_assoc came (x ∷ []) rest ∙ before }
+
 -- what several holders have, gathered
 
 module _ {P T E : Type 0} (puts : E → List P) (take : E → T) where
@@ -168,19 +178,19 @@ module _ {P T E : Type 0} (puts : E → List P) (take : E → T) where
   gathered_takes g (e ∷ es) = gathered_takes (with_one g (puts e) (take e)) es ∙ append_assoc g.takes (take e ∷ []) (map take es)
 
   -- a holder that comes next, while others have come
-  module _ (g now : Gathering P T) (es came rest : List E) (e : E) (is : now ≡ with_all puts take g came) (whole : came ++ e ∷ rest ≡ es) where
+  module _ (g now : Gathering P T) {es came rest : List E} {e : E} (next : ComesNext came e rest es) (is : now ≡ with_all puts take g came) where
     pub room_for_next : g.spare ≡ length es → 0 < now.spare
     room_for_next room =
-        let l = ap length whole in
+        let l = ap length next.before in
         let s = ap (λ (h : Gathering P T). h.spare) is in
         omega (arith, l, s, room, gathered_spare g came, length-append came (e ∷ rest))
 
     pub side_for_each : (row : List P) → row ≡ puts e → ((k : ℕ) (d : E) → slice_get es k ≡ Some d → length (puts d) ≡ length g.puts) → length row ≡ length now.puts
     side_for_each row row_is each =
-        ap length row_is ∙ each (length came) e (slice_get-here came e rest es whole) ∙ sym (ap (λ (h : Gathering P T). length h.puts) is ∙ gathered_queues g came)
+        ap length row_is ∙ each (length came) e (slice_get-here came e rest es next.before) ∙ sym (ap (λ (h : Gathering P T). length h.puts) is ∙ gathered_queues g came)
 
-    pub next_added : (next : Gathering P T) (row : List P) (t : T) → row ≡ puts e → t ≡ take e → next ≡ with_one now row t → next ≡ with_all puts take g (came ++ e ∷ [])
-    next_added next row t row_is t_is added = added ∙ (λ i. with_one (is i) (row_is i) (t_is i)) ∙ sym (gathered_last g came e)
+    pub next_added : (after : Gathering P T) (row : List P) (t : T) → row ≡ puts e → t ≡ take e → after ≡ with_one now row t → after ≡ with_all puts take g (came ++ e ∷ [])
+    next_added after row t row_is t_is added = added ∙ (λ i. with_one (is i) (row_is i) (t_is i)) ∙ sym (gathered_last g came e)
 
 -- each of them has come
 pub all_came : {X : Type 0} (came rest whole : List X) (n : ℕ) → came ++ rest ≡ whole → n ≡ length rest → n ≡ 0 → whole ≡ came

@@ -1,39 +1,32 @@
-use Rattle.std.proofs.Common.{rules, ◌≡◌, ◌++◌, ◌∷◌, [], Some, slice_get, append_assoc, sym, ap, ◌∙◌, subst}
-use Rattle.std.specs.Vec.Iter.{into_iter_items}
+use Rattle.std.proofs.Common.{rules, ◌≡◌, ◌++◌, ◌∷◌, [], Some, slice_get, sym, ◌∙◌, subst}
 use Rattle.std.proofs.lemmas.List.{map-append}
 use Rattle.ddr_workers.specs.Ended.{IsWorkerEnded}
 use Rattle.ddr_workers.specs.Worker.{WorkerEnded}
-use Rattle.ddr_workers.proofs.GatherLemmas.{all_came, next_added, room_for_next, side_for_each}
+use Rattle.ddr_workers.proofs.GatherLemmas.{all_came, comes_next, next_added, room_for_next, side_for_each}
 use Rattle.ddr_workers.proofs.SideLemmas.{each_pushed}
 use Rattle.ddr_workers.proofs.closing.gather_workers.Goals as goal
 
 pub add-requires-clause-room : goal.add-requires-clause-room
 add-requires-clause-room c =
-    let l = c.loop-end in
-    room_for_next (λ (w : WorkerEnded). w.completions) (λ (w : WorkerEnded). w.requests) c.args.sides l.sides c.args.ends.items l.yielded _ c.in-Some.end l.invariant.sides
-    (ap (λ xs. l.yielded ++ xs) (sym c.in-Some.ensures.steps.0) ∙ l.invariant.items) c.requires.sides
+    room_for_next (λ (w : WorkerEnded). w.completions) (λ (w : WorkerEnded). w.requests) c.args.sides c.loop-end.sides (comes_next c.loop-end.yielded c.in-Some.ensures.steps.0 c.loop-end.invariant.items) c.loop-end.invariant.sides c.requires.sides
 
 pub add-requires-clause-each : goal.add-requires-clause-each
 add-requires-clause-each c =
-    let l = c.loop-end in
-    side_for_each (λ (w : WorkerEnded). w.completions) (λ (w : WorkerEnded). w.requests) c.args.sides l.sides c.args.ends.items l.yielded _ c.in-Some.end l.invariant.sides
-    (ap (λ xs. l.yielded ++ xs) (sym c.in-Some.ensures.steps.0) ∙ l.invariant.items) c.into_parts-completions.result.0.items c.into_parts-completions.ensures.completions c.requires.each
+    side_for_each (λ (w : WorkerEnded). w.completions) (λ (w : WorkerEnded). w.requests) c.args.sides c.loop-end.sides (comes_next c.loop-end.yielded c.in-Some.ensures.steps.0 c.loop-end.invariant.items) c.loop-end.invariant.sides
+    c.into_parts-completions.result.0.items c.into_parts-completions.ensures.completions c.requires.each
 
 pub loop-end-preserved : goal.loop-end-preserved
-loop-end-preserved c =
-    let l = c.loop-end in
-    record {
-      can_next = search rules;
-      is_finite = search rules;
-      items = append_assoc l.yielded (c.in-Some.end ∷ []) (into_iter_items c.next.new.self) ∙ ap (λ xs. l.yielded ++ xs) (sym c.in-Some.ensures.steps.0) ∙ l.invariant.items;
-      len = search rules;
-      sides = next_added (λ (w : WorkerEnded). w.completions) (λ (w : WorkerEnded). w.requests) c.args.sides l.sides c.args.ends.items l.yielded _ c.in-Some.end l.invariant.sides
-          (ap (λ xs. l.yielded ++ xs) (sym c.in-Some.ensures.steps.0) ∙ l.invariant.items) c.add.new.self c.into_parts-completions.result.0.items c.into_parts-completions.result.1
-          c.into_parts-completions.ensures.completions c.into_parts-completions.ensures.requests c.add.ensures;
-      traces = c.push_reserved.ensures.items ∙ (λ i. l.invariant.traces i ++ c.into_parts-completions.ensures.trace i ∷ []) ∙ sym (map-append (λ (w : WorkerEnded). w.trace) l.yielded (c.in-Some.end ∷ []));
-      room = search rules;
-      ended = each_pushed (λ k w. IsWorkerEnded w) l.yielded c.in-Some.end l.invariant.ended c.into_parts-completions.ensures.ended;
-    }
+loop-end-preserved c = record {
+  can_next = search rules;
+  is_finite = search rules;
+  items = (comes_next c.loop-end.yielded c.in-Some.ensures.steps.0 c.loop-end.invariant.items).behind;
+  len = search rules;
+  sides = next_added (λ (w : WorkerEnded). w.completions) (λ (w : WorkerEnded). w.requests) c.args.sides c.loop-end.sides (comes_next c.loop-end.yielded c.in-Some.ensures.steps.0 c.loop-end.invariant.items) c.loop-end.invariant.sides
+      c.add.new.self c.into_parts-completions.result.0.items c.into_parts-completions.result.1 c.into_parts-completions.ensures.completions c.into_parts-completions.ensures.requests c.add.ensures;
+  traces = c.push_reserved.ensures.items ∙ (λ i. c.loop-end.invariant.traces i ++ c.into_parts-completions.ensures.trace i ∷ []) ∙ sym (map-append (λ (w : WorkerEnded). w.trace) c.loop-end.yielded (c.in-Some.end ∷ []));
+  room = search rules;
+  ended = each_pushed (λ k w. IsWorkerEnded w) c.loop-end.yielded c.in-Some.end c.loop-end.invariant.ended c.into_parts-completions.ensures.ended;
+}
 
 pub returns-clause-ended : goal.returns-clause-ended
 returns-clause-ended c = λ k w there. let all = all_came c.loop-end.yielded _ c.args.ends.items _ c.loop-end.invariant.items c.loop-end.invariant.len c.in-None.ensures.steps.0 in c.loop-end.invariant.ended k w (subst (λ xs. slice_get xs k ≡ Some w) all there)
