@@ -1,6 +1,6 @@
 //! All that speaks against a table.
 //!
-//! `table`, `relations`, `nearest` and `shown` stand below; `lint` asks for the faults of a text's table.
+//! `table`, `relations`, `nearest` and `shown` stand below, and `ddr_timing`'s look into a table; `lint` asks for the faults of a text's table.
 ghost use Rattle.std.specs.Prelude.{◌≡◌, ◌++◌, IfOk, None, OnOk, Some, map, option_map, option_to_list, false, if◌then◌else◌};
 ghost use Rattle.std.specs.List.{filter_map};
 ghost use Rattle.toml.specs.View.{table_view, view};
@@ -14,9 +14,10 @@ use crate::nearest::nearest;
 use crate::relation::Relation;
 use crate::relations::relations;
 use crate::shown::shown;
-use crate::table::{is_key, is_out_of_range, keys, number, value_at, version};
+use crate::table::{is_key, is_out_of_range, number};
 use crate::takes::Takes;
 use ddr_timing::key::Key;
+use ddr_timing::table::{keys, value_at, version};
 use std::alloc::{AllocError, Global};
 use toml::{Table, Value};
 

@@ -1,54 +1,20 @@
-//! What the table of a configuration's text holds at a key.
+//! What speaks against the value at a key of a configuration's table.
 //!
-//! Below stand `takes`, with the values that a key takes, and `order`, which reads the text of `map`. A number that `number`
+//! `ddr_timing` finds the value and reads the text of `map`; `takes` has the values that a key takes. A number that `number`
 //! gives is in its range, whatever else of the table is at fault.
-ghost use Rattle.std.specs.Prelude.{◌≡◌, IfSome, IsTrue, option_and_then, option_map};
-ghost use Rattle.ddr_timing.specs.declared.key.Key.TheVariants.{Version};
-ghost use Rattle.toml.specs.Data.{as_integer};
+ghost use Rattle.std.specs.Prelude.{◌≡◌, IfSome, IsTrue};
 ghost use Rattle.toml.specs.View.{table_view, view};
 ghost use Rattle.ddr_timing.specs.Keys.{domain_of, has_key};
 ghost use Rattle.ddr_timing.specs.Refusals.{is_key, is_out_of_range};
-ghost use Rattle.ddr_timing.specs.Tables.{FitsIn, is_within, keys_of, number_of, takes_number, value_of, version_of};
+ghost use Rattle.ddr_timing.specs.Tables.{FitsIn, takes_number};
 ghost use Rattle.ddr_findings.specs.Takes.{takes_in};
 ghost use Rattle.ddr_findings.specs.Sound.{are_sound, is_sound, sound_number};
 
-use crate::order::order;
 use crate::takes::Takes;
 use ddr_timing::key::Key;
+use ddr_timing::order::order;
+use ddr_timing::table::{integer_at, is_within, value_at, version};
 use toml::{Table, Value};
-
-/// The value at the key.
-pub(crate) fn value_at(table: &Table, key: Key) -> Option<&Value>
-    ensures { option_map (λ value. view value.now) result ≡ value_of (table_view table.now) key }
-{
-    table.get(key.name())
-}
-
-fn integer_at(table: &Table, key: Key) -> Option<i64>
-    ensures { result ≡ option_and_then as_integer (value_of (table_view table.now) key) }
-{
-    match value_at(table, key) {
-        Some(value) => value.as_integer(),
-        None => None,
-    }
-}
-
-/// The version by which the table is checked: 2 where the table holds that number, else 1.
-pub(crate) fn version(table: &Table) -> u32
-    ensures { result ≡ version_of (table_view table.now) }
-{
-    match integer_at(table, Key::Version) {
-        Some(2) => 2,
-        _ => 1,
-    }
-}
-
-/// The keys that the table is to have, in their order.
-pub(crate) fn keys(table: &Table) -> &'static [Key]
-    ensures { result.now ≡ keys_of (table_view table.now) }
-{
-    Key::all(version(table))
-}
 
 /// Whether one of the keys is spelled so.
 pub(crate) fn is_key(keys: &[Key], name: &str) -> bool
@@ -84,16 +50,6 @@ fn takes_in(version: u32, takes: Takes, value: &Value) -> bool
             _ => false,
         },
         Takes::Flag => matches!(value, Value::Boolean(_)),
-    }
-}
-
-/// Whether the value is an integer from `low` to `high`.
-fn is_within(low: u32, high: u32, value: &Value) -> bool
-    ensures { result ≡ is_within low high (view value.now) }
-{
-    match value {
-        Value::Integer(n) => i64::from(low) <= *n && *n <= i64::from(high),
-        _ => false,
     }
 }
 

@@ -7,8 +7,9 @@
 //! channel over its ranks. A text is read in three steps:
 //! `toml` makes a table of it; `check` looks for the first fault of the table, by the keys of `key`;
 //! `values` takes the values of a table without a fault. Both look into the table by `table`, and
-//! `order` reads the text of the one value that lists words. `error` has the refusals, `profile` a sample
-//! text, and `units` the numbers that every crate shares, such as the bytes of a line.
+//! `order` reads the text of the one value that lists words; `ddr_findings`, which tells every fault of a text,
+//! looks by the same. `error` has the refusals, `profile` a sample text, and `units` the numbers that every crate
+//! shares, such as the bytes of a line.
 #![tactic(auto)]
 
 pub mod bank;
@@ -18,9 +19,9 @@ pub mod error;
 pub mod geometry;
 pub mod key;
 pub mod limits;
-mod order;
+pub mod order;
 pub mod profile;
-mod table;
+pub mod table;
 pub mod timing;
 pub mod units;
 mod values;

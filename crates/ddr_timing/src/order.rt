@@ -9,7 +9,7 @@ use crate::geometry::Digit;
 
 /// The order that a text of a version lists, if it has the word of each of the version's digits once, with
 /// one space between two. Version 1 has no word for the rank, which is its last digit.
-pub(crate) fn order(text: &str, version: u32) -> Option<[Digit; 6]>
+pub fn order(text: &str, version: u32) -> Option<[Digit; 6]>
     ensures value { result ≡ order_of (whole_text version text.now) }
 
     // What is listed are those orders, and no others.

@@ -16,14 +16,14 @@ use crate::order::order;
 use toml::{Table, Value};
 
 /// The value at the key.
-pub(crate) fn value_at(table: &Table, key: Key) -> Option<&Value>
+pub fn value_at(table: &Table, key: Key) -> Option<&Value>
     ensures { option_map (λ value. view value.now) result ≡ value_of (table_view table.now) key }
 {
     table.get(key.name())
 }
 
 /// The version by which the table is checked: 2 where the table holds that number, else 1.
-pub(crate) fn version(table: &Table) -> u32
+pub fn version(table: &Table) -> u32
     ensures { result ≡ version_of (table_view table.now) }
 {
     match integer_at(table, Key::Version) {
@@ -33,7 +33,7 @@ pub(crate) fn version(table: &Table) -> u32
 }
 
 /// The keys that the table is to have, in their order.
-pub(crate) fn keys(table: &Table) -> &'static [Key]
+pub fn keys(table: &Table) -> &'static [Key]
     ensures { result.now ≡ keys_of (table_view table.now) }
 {
     Key::all(version(table))
@@ -51,7 +51,8 @@ pub(crate) fn number(table: &Table, key: Key) -> u32
     n as u32
 }
 
-fn integer_at(table: &Table, key: Key) -> Option<i64>
+/// The integer at the key, where its value is one.
+pub fn integer_at(table: &Table, key: Key) -> Option<i64>
     ensures { result ≡ option_and_then as_integer (value_of (table_view table.now) key) }
 {
     match value_at(table, key) {
@@ -98,7 +99,7 @@ pub(crate) fn is_in(version: u32, domain: Domain, value: &Value) -> bool
 }
 
 /// Whether the value is an integer from `low` to `high`.
-fn is_within(low: u32, high: u32, value: &Value) -> bool
+pub fn is_within(low: u32, high: u32, value: &Value) -> bool
     ensures { result ≡ is_within low high (view value.now) }
 {
     match value {
