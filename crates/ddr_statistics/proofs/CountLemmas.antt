@@ -7,6 +7,7 @@ use Rattle.ddr_trace.specs.declared.command.Command.{Command}
 use Rattle.ddr_trace.specs.declared.command.Entry.{Entry}
 use Rattle.ddr_trace.specs.Commands.{is_activate, is_column, is_of_all_banks, is_refresh}
 use Rattle.ddr_statistics.specs.declared.bank.Visit.{Visit}
+use Rattle.ddr_statistics.specs.declared.counts.Counts.{Counts}
 use Rattle.ddr_statistics.specs.declared.counts.Finding.{Finding}
 use Rattle.ddr_statistics.specs.Counts.{count_behind, count_from, counts_of, found_count, is_pre, is_rd, is_rda, is_wr, is_wra, kind_count}
 use Rattle.ddr_statistics.specs.Noted.{counts_noted, raised, raised_if, turns_noted}
@@ -92,23 +93,22 @@ found_step so place history e here short =
     behind_step (λ before a. place a.command && so (finding before a.command)) (so (finding history e.command)) history e
     (ap (λ v. v && so (finding history e.command)) here) short
 
--- a command of the place
-pub counts_step : (place : Command → Bool) (history : List Entry) (e : Entry) → place e.command ≡ true → length history + 1 < CLOCK_STOP
-    → counts_noted e.command (finding history e.command) (counts_of place history) ≡ counts_of place (history ++ e ∷ [])
-unfolding counts_of counts_noted
-counts_step place history e here short =
-    let activates = kind_step is_activate place history e here short in
-    let precharges = kind_step is_pre place history e here short in
-    let precharges_all = kind_step is_of_all_banks place history e here short in
-    let reads = kind_step is_rd place history e here short in
-    let writes = kind_step is_wr place history e here short in
-    let reads_auto = kind_step is_rda place history e here short in
-    let writes_auto = kind_step is_wra place history e here short in
-    let refreshes = kind_step is_refresh place history e here short in
-    let row_hits = found_step is_hit place history e here short in
-    let row_misses = found_step is_miss place history e here short in
-    let row_conflicts = found_step is_conflict place history e here short in
-    let busy_clocks = burst_step place history e here short in
+-- counts are the same where their numbers are
+pub alike : (a b : Counts)
+    → a.activates ≡ b.activates
+    → a.precharges ≡ b.precharges
+    → a.precharges_all ≡ b.precharges_all
+    → a.reads ≡ b.reads
+    → a.writes ≡ b.writes
+    → a.reads_auto ≡ b.reads_auto
+    → a.writes_auto ≡ b.writes_auto
+    → a.refreshes ≡ b.refreshes
+    → a.row_hits ≡ b.row_hits
+    → a.row_misses ≡ b.row_misses
+    → a.row_conflicts ≡ b.row_conflicts
+    → a.busy_clocks ≡ b.busy_clocks
+    → a ≡ b
+alike a b activates precharges precharges_all reads writes reads_auto writes_auto refreshes row_hits row_misses row_conflicts busy_clocks =
     λ i. record {
       activates = activates i;
       precharges = precharges i;
@@ -123,6 +123,25 @@ counts_step place history e here short =
       row_conflicts = row_conflicts i;
       busy_clocks = busy_clocks i;
     }
+
+-- a command of the place
+pub counts_step : (place : Command → Bool) (history : List Entry) (e : Entry) → place e.command ≡ true → length history + 1 < CLOCK_STOP
+    → counts_noted e.command (finding history e.command) (counts_of place history) ≡ counts_of place (history ++ e ∷ [])
+unfolding counts_of counts_noted
+counts_step place history e here short =
+    alike _ _
+    (kind_step is_activate place history e here short)
+    (kind_step is_pre place history e here short)
+    (kind_step is_of_all_banks place history e here short)
+    (kind_step is_rd place history e here short)
+    (kind_step is_wr place history e here short)
+    (kind_step is_rda place history e here short)
+    (kind_step is_wra place history e here short)
+    (kind_step is_refresh place history e here short)
+    (found_step is_hit place history e here short)
+    (found_step is_miss place history e here short)
+    (found_step is_conflict place history e here short)
+    (burst_step place history e here short)
 
 -- a command of another place
 kind_skip : (kind place : Command → Bool) (history : List Entry) (e : Entry) → place e.command ≡ false
@@ -141,32 +160,19 @@ pub counts_skip : (place : Command → Bool) (history : List Entry) (e : Entry) 
     → counts_of place history ≡ counts_of place (history ++ e ∷ [])
 unfolding counts_of
 counts_skip place history e away =
-    let activates = kind_skip is_activate place history e away in
-    let precharges = kind_skip is_pre place history e away in
-    let precharges_all = kind_skip is_of_all_banks place history e away in
-    let reads = kind_skip is_rd place history e away in
-    let writes = kind_skip is_wr place history e away in
-    let reads_auto = kind_skip is_rda place history e away in
-    let writes_auto = kind_skip is_wra place history e away in
-    let refreshes = kind_skip is_refresh place history e away in
-    let row_hits = found_skip is_hit place history e away in
-    let row_misses = found_skip is_miss place history e away in
-    let row_conflicts = found_skip is_conflict place history e away in
-    let columns = kind_skip is_column place history e away in
-    λ i. record {
-      activates = activates i;
-      precharges = precharges i;
-      precharges_all = precharges_all i;
-      reads = reads i;
-      writes = writes i;
-      reads_auto = reads_auto i;
-      writes_auto = writes_auto i;
-      refreshes = refreshes i;
-      row_hits = row_hits i;
-      row_misses = row_misses i;
-      row_conflicts = row_conflicts i;
-      busy_clocks = BURST_CLOCKS * columns i;
-    }
+    alike _ _
+    (kind_skip is_activate place history e away)
+    (kind_skip is_pre place history e away)
+    (kind_skip is_of_all_banks place history e away)
+    (kind_skip is_rd place history e away)
+    (kind_skip is_wr place history e away)
+    (kind_skip is_rda place history e away)
+    (kind_skip is_wra place history e away)
+    (kind_skip is_refresh place history e away)
+    (found_skip is_hit place history e away)
+    (found_skip is_miss place history e away)
+    (found_skip is_conflict place history e away)
+    (ap (λ n. BURST_CLOCKS * n) (kind_skip is_column place history e away))
 
 -- a bank
 pub visit_behind-push : (rank group bank : ℕ) (history : List Entry) (e : Entry)

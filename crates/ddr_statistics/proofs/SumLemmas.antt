@@ -16,6 +16,7 @@ use Rattle.ddr_statistics.specs.Counts.{count_behind, count_from, counts_of, fou
 use Rattle.ddr_statistics.specs.Noted.{no_counts}
 use Rattle.ddr_statistics.specs.Sums.{ArePlaced, BanksAddUp, RanksAddUp, is_of_banks, plus, sum_below}
 use Rattle.ddr_statistics.specs.Visits.{finding, is_conflict, is_hit, is_miss}
+use Rattle.ddr_statistics.proofs.CountLemmas.{alike}
 use Rattle.ddr_statistics.proofs.PlaceLemmas.{and_false, bank_in}
 
 abbrev one : Bool → ℕ
@@ -62,32 +63,19 @@ four_times a b c h = omega arith
 counts_split : (p q r : Command → Bool) (history : List Entry) → Splits p q r history → counts_of p history ≡ plus (counts_of q history) (counts_of r history)
 unfolding counts_of
 counts_split p q r history split =
-    let activates = kind_split is_activate p q r history split in
-    let precharges = kind_split is_pre p q r history split in
-    let precharges_all = kind_split is_of_all_banks p q r history split in
-    let reads = kind_split is_rd p q r history split in
-    let writes = kind_split is_wr p q r history split in
-    let reads_auto = kind_split is_rda p q r history split in
-    let writes_auto = kind_split is_wra p q r history split in
-    let refreshes = kind_split is_refresh p q r history split in
-    let row_hits = found_split is_hit p q r history split in
-    let row_misses = found_split is_miss p q r history split in
-    let row_conflicts = found_split is_conflict p q r history split in
-    let busy_clocks = four_times _ _ _ (kind_split is_column p q r history split) in
-    λ i. record {
-      activates = activates i;
-      precharges = precharges i;
-      precharges_all = precharges_all i;
-      reads = reads i;
-      writes = writes i;
-      reads_auto = reads_auto i;
-      writes_auto = writes_auto i;
-      refreshes = refreshes i;
-      row_hits = row_hits i;
-      row_misses = row_misses i;
-      row_conflicts = row_conflicts i;
-      busy_clocks = busy_clocks i;
-    }
+    alike _ _
+    (kind_split is_activate p q r history split)
+    (kind_split is_pre p q r history split)
+    (kind_split is_of_all_banks p q r history split)
+    (kind_split is_rd p q r history split)
+    (kind_split is_wr p q r history split)
+    (kind_split is_rda p q r history split)
+    (kind_split is_wra p q r history split)
+    (kind_split is_refresh p q r history split)
+    (found_split is_hit p q r history split)
+    (found_split is_miss p q r history split)
+    (found_split is_conflict p q r history split)
+    (four_times _ _ _ (kind_split is_column p q r history split))
 
 nothing : (n : ℕ) → n ≡ n + n → n ≡ 0
 nothing n h = omega arith
@@ -96,32 +84,19 @@ nothing n h = omega arith
 counts_nowhere : (p : Command → Bool) (history : List Entry) → Splits p p p history → counts_of p history ≡ no_counts
 counts_nowhere p history none =
     let twice = counts_split p p p history none in
-    let activates = nothing _ (ap (λ (n : Counts). n.activates) twice) in
-    let precharges = nothing _ (ap (λ (n : Counts). n.precharges) twice) in
-    let precharges_all = nothing _ (ap (λ (n : Counts). n.precharges_all) twice) in
-    let reads = nothing _ (ap (λ (n : Counts). n.reads) twice) in
-    let writes = nothing _ (ap (λ (n : Counts). n.writes) twice) in
-    let reads_auto = nothing _ (ap (λ (n : Counts). n.reads_auto) twice) in
-    let writes_auto = nothing _ (ap (λ (n : Counts). n.writes_auto) twice) in
-    let refreshes = nothing _ (ap (λ (n : Counts). n.refreshes) twice) in
-    let row_hits = nothing _ (ap (λ (n : Counts). n.row_hits) twice) in
-    let row_misses = nothing _ (ap (λ (n : Counts). n.row_misses) twice) in
-    let row_conflicts = nothing _ (ap (λ (n : Counts). n.row_conflicts) twice) in
-    let busy_clocks = nothing _ (ap (λ (n : Counts). n.busy_clocks) twice) in
-    λ i. record {
-      activates = activates i;
-      precharges = precharges i;
-      precharges_all = precharges_all i;
-      reads = reads i;
-      writes = writes i;
-      reads_auto = reads_auto i;
-      writes_auto = writes_auto i;
-      refreshes = refreshes i;
-      row_hits = row_hits i;
-      row_misses = row_misses i;
-      row_conflicts = row_conflicts i;
-      busy_clocks = busy_clocks i;
-    }
+    alike _ _
+    (nothing _ (ap (λ (n : Counts). n.activates) twice))
+    (nothing _ (ap (λ (n : Counts). n.precharges) twice))
+    (nothing _ (ap (λ (n : Counts). n.precharges_all) twice))
+    (nothing _ (ap (λ (n : Counts). n.reads) twice))
+    (nothing _ (ap (λ (n : Counts). n.writes) twice))
+    (nothing _ (ap (λ (n : Counts). n.reads_auto) twice))
+    (nothing _ (ap (λ (n : Counts). n.writes_auto) twice))
+    (nothing _ (ap (λ (n : Counts). n.refreshes) twice))
+    (nothing _ (ap (λ (n : Counts). n.row_hits) twice))
+    (nothing _ (ap (λ (n : Counts). n.row_misses) twice))
+    (nothing _ (ap (λ (n : Counts). n.row_conflicts) twice))
+    (nothing _ (ap (λ (n : Counts). n.busy_clocks) twice))
 
 -- how many of the first n places have the command
 abbrev places_with : (ℕ → Command → Bool) → ℕ → Command → ℕ
