@@ -2,8 +2,8 @@
 //! event by event and by runs. The answers and the traces are written out by hand.
 use super::Met;
 use crate::entries::{act, is_trace, pre, pre_all, rd, refresh};
-use crate::sample::sample;
 use ddr_ports::request::Request;
+use ddr_samples::sample::sample;
 use ddr_trace::command::Entry;
 use ddr_trace::trace::Trace;
 use ddr_world::event::{Event, Outcome, Refusal};

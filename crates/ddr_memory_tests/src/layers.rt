@@ -5,13 +5,13 @@ ghost use Rattle.ddr_row_array.specs.Rows.{bank_count, is_stored, open_row, row_
 
 use super::Met;
 use crate::entries::refresh;
-use crate::sample::{sample, two_ranks};
 use ddr_channel::channel::{Channel, CycleError};
 use ddr_legality::legality::Legality;
 use ddr_ports::port::PortCore;
 use ddr_rank::rank::Rank;
 use ddr_reorder::reorder::Reorder;
 use ddr_row_array::row_array::RowArray;
+use ddr_samples::sample::{sample, two_ranks};
 use ddr_timing::config::Config;
 use ddr_timing::error::ConfigError;
 use ddr_timing::profile::PROFILE_S;

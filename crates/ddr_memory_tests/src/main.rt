@@ -6,13 +6,13 @@
 //! a thread isn't started.
 //!
 //! `layers` has the calls below the core and what is opened, `texts` a trace's text, `events` the core, and `system` ports and
-//! workers in threads. `sample` has their configurations, as values, and `entries` commands of traces. No crate stands above.
+//! workers in threads; `entries` has commands of traces. Their configurations are values of `ddr_samples`, which take no memory.
+//! No crate stands above.
 #![tactic(auto)]
 
 mod entries;
 mod events;
 mod layers;
-mod sample;
 mod system;
 mod texts;
 

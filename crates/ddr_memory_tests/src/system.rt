@@ -9,9 +9,9 @@ ghost use Rattle.ddr_workers.specs.Worker.{IsEndOf};
 
 use super::{Met, NO_THREAD};
 use crate::entries::{act, is_trace, rd, wr};
-use crate::sample::sample;
 use ddr_address_map::request::{Echo, Kind};
 use ddr_ports::request::Request;
+use ddr_samples::sample::sample;
 use ddr_timing::config::Config;
 use ddr_trace::command::Entry;
 use ddr_trace::trace::Trace;

@@ -1,8 +1,7 @@
 //! What the tests of several crates share: configurations, commands as tests write them, and numbers that look like
 //! chance.
 //!
-//! It stands on `ddr_timing` and `ddr_trace`. Above it are test crates alone: `ddr_command_tests`,
-//! `ddr_controller_tests` and `ddr_channel_tests`.
+//! It stands on `ddr_timing` and `ddr_trace`. Above it are crates of tests and for timing alone.
 #![tactic(auto)]
 
 pub mod chance;

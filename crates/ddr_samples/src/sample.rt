@@ -1,4 +1,4 @@
-//! The sample configuration: as a value whose numbers a proof knows, and as a text with other lines.
+//! The sample configuration: as a value that takes no memory and whose numbers a proof knows, and as a text with other lines.
 ghost use Rattle.std.specs.Prelude.{◌≡◌, false};
 
 use ddr_timing::config::Config;
@@ -37,6 +37,7 @@ fn timing() -> Timing
 
 fn geometry() -> Geometry
     ensures version { result.version ≡ 1 }
+    ensures channels { result.channels ≡ 2 }
     ensures ranks { result.ranks ≡ 1 }
     ensures groups { result.groups ≡ 4 }
     ensures rows { result.rows ≡ 16 }
@@ -60,8 +61,10 @@ fn geometry() -> Geometry
     }
 }
 
-fn limits() -> Limits
-    ensures { result.closed ≡ false }
+/// The limits of profile S.
+pub fn limits() -> Limits
+    ensures closed { result.closed ≡ false }
+    ensures ports { result.ports ≡ 2 }
 {
     Limits {
         ports: 2,
@@ -79,9 +82,11 @@ fn limits() -> Limits
 
 /// Profile S. Its rank has 16 banks of 16 rows, each of 8 lines.
 pub fn sample() -> Config
+    ensures channels { result.geometry.channels ≡ 2 }
     ensures ranks { result.geometry.ranks ≡ 1 }
     ensures groups { result.geometry.groups ≡ 4 }
     ensures rows { result.geometry.rows ≡ 16 }
+    ensures ports { result.limits.ports ≡ 2 }
 {
     Config {
         timing: timing(),
