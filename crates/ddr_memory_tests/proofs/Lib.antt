@@ -1,1 +1,1 @@
-pub mod OneOpen
+pub mod StoppedLemmas

@@ -12,12 +12,14 @@ use crate::entries::{act, is_trace, rd, wr};
 use ddr_address_map::request::{Echo, Kind};
 use ddr_ports::request::Request;
 use ddr_samples::sample::sample;
+use ddr_system_samples::hosts::{TRIES, finish_in_time, is_reply, poll_in_time};
+use ddr_system_samples::parts::{AllEnds, Parts, parts_of};
 use ddr_timing::config::Config;
 use ddr_trace::command::Entry;
 use ddr_trace::trace::Trace;
 use ddr_workers::closing::{CloseError, Ends, SystemClosed, ends_of_one_open};
 use ddr_workers::gate::{Gate, Turn};
-use ddr_workers::port::{PollAnswer, Port, PortEnd};
+use ddr_workers::port::{Port, PortEnd};
 use ddr_workers::worker::{Cause, Stopped, Worker, WorkerEnd};
 use ddr_workers::{OpenError, close, open};
 use std::alloc::Global;
@@ -32,8 +34,8 @@ const SYSTEM: u64 = 7;
 /// The first address of channel 1.
 const HALF: u64 = 131_072;
 
-/// How often a port polls, and how many turns the workers make together.
-const TRIES: u64 = 10_000_000;
+/// How many turns the workers make together.
+const TURNS: u64 = 10_000_000;
 
 /// How many threads there are: one for both ports, and one for each worker.
 const THREADS: u64 = 3;
@@ -86,7 +88,7 @@ impl Turns {
 
     /// Stops each worker at its next turn.
     fn stop(&self) {
-        self.made.store(TRIES, Ordering::SeqCst);
+        self.made.store(TURNS, Ordering::SeqCst);
     }
 }
 
@@ -97,27 +99,11 @@ impl Gate for Turns {
 
     fn turn<R: Wait>(&self, _rt: &R, _channel: u32) -> Turn {
         thread::yield_now();
-        if self.made.fetch_add(1, Ordering::SeqCst) < TRIES {
+        if self.made.fetch_add(1, Ordering::SeqCst) < TURNS {
             Turn::Go
         } else {
             Turn::Stop
         }
-    }
-}
-
-/// Two ports and two workers.
-type Parts = (Port, Port, Worker, Worker);
-
-/// The two items of a list that has two.
-fn two_of<T: Drop>(mut items: Vec<T>) -> Option<(T, T)>
-    ensures { IfSome result (λ both. items.items ≡ both.0 ∷ both.1 ∷ []) }
-{
-    let second = items.pop()?;
-    let first = items.pop()?;
-    if items.is_empty() {
-        Some((first, second))
-    } else {
-        None
     }
 }
 
@@ -138,13 +124,10 @@ fn open_two(alloc: Global, config: &Config) -> Result<Parts, &'static str>
     let Ok((ports, workers)) = open_again(alloc, config) else {
         return Err("a system opened again");
     };
-    let Some((first_port, second_port)) = two_of(ports) else {
-        return Err("two ports");
-    };
-    let Some((first_worker, second_worker)) = two_of(workers) else {
-        return Err("two channels");
-    };
-    Ok((first_port, second_port, first_worker, second_worker))
+    match parts_of(ports, workers) {
+        Ok(parts) => Ok(parts),
+        Err(what) => Err(what),
+    }
 }
 
 /// What a port asks for: it writes a byte and reads it back.
@@ -154,31 +137,14 @@ struct Asks {
     byte: u8,
 }
 
-/// Polls until this number is filled.
-fn fill<R: Wait>(rt: &R, port: &mut Port, number: u64) -> bool
-    ensures { IsSamePort port.old port.new }
-{
-    for _ in 0..TRIES {
-        match port.poll(rt) {
-            Ok(PollAnswer::Filled { number: filled }) => return filled == number,
-            Ok(PollAnswer::Empty) => thread::yield_now(),
-            Err(_) => return false,
-        }
-    }
-    false
-}
-
 /// Takes the reply of this number, which has these bytes.
 fn take<R: Wait>(rt: &R, port: &mut Port, number: u64, echo: Echo, bytes: &[u8]) -> bool
     ensures { IsSamePort port.old port.new }
 {
-    if !fill(rt, port, number) {
+    if poll_in_time(rt, port, TRIES) != Some(number) {
         return false;
     }
-    let is_there = match port.front() {
-        Some(reply) => reply.number == number && reply.echo == echo && reply.bytes == bytes,
-        None => false,
-    };
+    let is_there = is_reply(port.front(), number, echo, bytes);
     is_there && port.release() == Some(number)
 }
 
@@ -195,28 +161,12 @@ fn exchange<R: Wait>(rt: &R, port: &mut Port, asks: Asks) -> bool
         && take(rt, port, 1, echo(Kind::Read), &bytes)
 }
 
-/// Finishes a port.
-fn finish<R: Wait>(rt: &R, mut port: Port) -> Option<PortEnd>
-    ensures { IfSome result (IsEndOfPort port) }
-{
-    for _ in 0..TRIES {
-        match port.finish(rt) {
-            Ok(end) => return Some(end),
-            Err((back, _)) => {
-                port = back;
-                thread::yield_now();
-            }
-        }
-    }
-    None
-}
-
 /// Runs a port to its end.
 fn host<R: Wait>(rt: &R, mut port: Port, asks: Asks) -> Option<PortEnd>
     ensures { IfSome result (IsEndOfPort port) }
 {
     if exchange(rt, &mut port, asks) {
-        finish(rt, port)
+        finish_in_time(rt, port)
     } else {
         None
     }
@@ -321,9 +271,6 @@ fn run_threads<R: Threads + Wait + Sync>(
         { run_both(rt, gate, first_worker, second_worker) },
     )
 }
-
-/// The ends of two ports and of two workers.
-type AllEnds = (PortEnd, PortEnd, WorkerEnd, WorkerEnd);
 
 /// The four ends, where all of them are there, and whether memory was refused to a worker.
 fn all_ends(hosted: Hosted, worked: Worked) -> Option<(AllEnds, bool)>

@@ -1,2 +1,2 @@
-pub mod OneOpen
+pub mod RunLemmas
 pub mod TwoSideLemmas

@@ -4,9 +4,10 @@ ghost use Rattle.std.specs.Thread.{IsSync};
 ghost use Rattle.ddr_workers.specs.Completions.{IsFrom};
 ghost use Rattle.ddr_workers.specs.Sides.{AreSides};
 
-use crate::testing::{TRIES, both, config_with};
+use crate::testing::{both, config_with};
 use ddr_address_map::map::Map;
 use ddr_address_map::request::{Done, Echo, Kind};
+use ddr_system_samples::hosts::TRIES;
 use ddr_timing::config::Config;
 use ddr_timing::units::LINE_BYTES;
 use ddr_workers::completions::{DonePut, DoneTake, join, open};

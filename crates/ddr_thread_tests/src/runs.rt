@@ -4,16 +4,18 @@
 //! `closing` has what `close` gives of such a system, `refusals` which ends it gives back, `finishing` how ports finish
 //! and workers stop, `gates` that workers run at the same time and that a turn that is held does nothing, and `waiting` that a
 //! port that doesn't poll holds no other up.
-ghost use Rattle.std.specs.Prelude.{◌≡◌, ◌∷◌, [], IfOk, IfSome, Ok};
+ghost use Rattle.std.specs.Prelude.{◌≡◌, ◌∷◌, [], IfOk, Ok};
 ghost use Rattle.std.specs.Thread.{IsSync};
 ghost use Rattle.ddr_workers.specs.Closing.{AreOfOneOpen};
 ghost use Rattle.ddr_workers.specs.Open.{IsOpened};
 ghost use Rattle.ddr_workers.specs.Port.{IsEndOfPort, IsSamePort};
 ghost use Rattle.ddr_workers.specs.Worker.{IsEndOf};
 
-use crate::testing::{TRIES, both, config_with, is_reply, is_served, read_echo, write_echo};
+use crate::testing::{both, config_with, is_served, read_echo, write_echo};
 use ddr_address_map::request::Echo;
 use ddr_ports::request::Request;
+use ddr_system_samples::hosts::{TRIES, finish_in_time, is_reply, poll_in_time};
+use ddr_system_samples::parts::{AllEnds, Parts, parts_of};
 use ddr_timing::config::Config;
 use ddr_workers::closing::{CloseError, SystemClosed, ends_of_one_open};
 use ddr_workers::gate::{Gate, Turn};
@@ -145,64 +147,15 @@ impl Gate for Barred {
     }
 }
 
-/// Two ports and two workers.
-type Parts = (Port, Port, Worker, Worker);
-
-/// The two items of a list that has two.
-fn two_of<T: Drop>(mut items: Vec<T>) -> Option<(T, T)>
-    ensures { IfSome result (λ both. items.items ≡ both.0 ∷ both.1 ∷ []) }
-{
-    let second = items.pop()?;
-    let first = items.pop()?;
-    if items.is_empty() {
-        Some((first, second))
-    } else {
-        None
-    }
-}
-
 /// Opens the ports and the workers of a configuration with two ports and two channels.
 fn open_two(alloc: Global, config: &Config, id: u64) -> Result<Parts, Fail>
     ensures { IfOk result (λ parts. IsOpened config.now id (parts.0 ∷ parts.1 ∷ []) (parts.2 ∷ parts.3 ∷ [])) }
 {
     let (ports, workers) = open(alloc, config, id)?;
-    let Some((first_port, second_port)) = two_of(ports) else {
-        return Err("two ports".into());
-    };
-    let Some((first_worker, second_worker)) = two_of(workers) else {
-        return Err("two channels".into());
-    };
-    Ok((first_port, second_port, first_worker, second_worker))
-}
-
-/// Polls until a number is filled, in so many tries.
-fn poll_in_time<R: Wait>(rt: &R, port: &mut Port, tries: u32) -> Option<u64>
-    ensures { IsSamePort port.old port.new }
-{
-    for _ in 0..tries {
-        match port.poll(rt) {
-            Ok(PollAnswer::Filled { number }) => return Some(number),
-            Ok(PollAnswer::Empty) => thread::yield_now(),
-            Err(_) => return None,
-        }
+    match parts_of(ports, workers) {
+        Ok(parts) => Ok(parts),
+        Err(what) => Err(what.into()),
     }
-    None
-}
-
-/// Finishes a port, in as many tries as there may be.
-fn finish_in_time<R: Wait>(rt: &R, mut port: Port) -> Option<PortEnd>
-    ensures { IfSome result (IsEndOfPort port) }
-{
-    for _ in 0..TRIES {
-        match port.finish(rt) {
-            Ok(end) => return Some(end),
-            Err((back, _)) => {
-                port = back;
-                thread::yield_now();
-            }
-        }
-    }
-    None
 }
 
 /// What two workers give back.
@@ -328,9 +281,6 @@ fn host_both<A: Host + Sync, B: Host + Sync, R: Threads + Wait + Sync>(
         move || other_host.go_on(rt, second),
     )
 }
-
-/// The ends of two ports and of two workers.
-type AllEnds = (PortEnd, PortEnd, WorkerEnd, WorkerEnd);
 
 /// Runs two ports and two workers, each in a thread.
 fn run_threads<A: Host + Sync, B: Host + Sync, R: Threads + Wait + Sync>(

@@ -1,4 +1,4 @@
-//! What the tests of queues, ports and workers share.
+//! What the tests of queues, ports and workers share, but for what `ddr_system_samples` has.
 ghost use Rattle.std.specs.Prelude.{◌≡◌, IfOk, Ok};
 
 use ddr_address_map::request::{Echo, Kind};
@@ -7,9 +7,6 @@ use ddr_timing::config::Config;
 use ddr_timing::profile::PROFILE_S;
 use std::alloc::Global;
 use std::test::Fail;
-
-/// How often a push or a pop is tried.
-pub const TRIES: u32 = 10_000_000;
 
 /// Profile S, which has two ports and two channels, with another line for one of its keys.
 pub fn config_with(alloc: Global, key: &str, other: &str) -> Result<Config, Fail> {
@@ -40,14 +37,6 @@ pub fn write_echo(addr: u64, len: u32) -> Echo {
         kind: Kind::Write,
         addr,
         len,
-    }
-}
-
-/// Whether a reply is there, with this number, for this request and with these bytes.
-pub fn is_reply(reply: Option<Reply<'_>>, number: u64, echo: Echo, bytes: &[u8]) -> bool {
-    match reply {
-        Some(reply) => reply.number == number && reply.echo == echo && reply.bytes == bytes,
-        None => false,
     }
 }
 

@@ -3,6 +3,7 @@ ghost use Rattle.std.specs.Prelude.{◌≡◌, ◌∷◌, ◌++◌, [], IfOk, If
 ghost use Rattle.ddr_workers.specs.Closing.{AreOfOneOpen};
 
 use super::*;
+use ddr_system_samples::parts::two_of;
 use ddr_timing::profile::PROFILE_S;
 use ddr_workers::closing::Ends;
 

@@ -1,5 +1,5 @@
 use Rattle.std.proofs.Common.{inl, inr, refl}
-use Rattle.ddr_memory_tests.proofs.OneOpen.{among}
+use Rattle.ddr_system_samples.proofs.OneOpen.{among}
 use Rattle.ddr_memory_tests.proofs.system.close_ends.Goals as goal
 
 pub close_again-requires : goal.close_again-requires

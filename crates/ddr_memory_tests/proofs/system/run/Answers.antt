@@ -1,4 +1,4 @@
-use Rattle.ddr_memory_tests.proofs.OneOpen.{end_of_stopped}
+use Rattle.ddr_memory_tests.proofs.StoppedLemmas.{end_of_stopped}
 use Rattle.ddr_memory_tests.proofs.system.run.Goals as goal
 
 pub returns-in-Err : goal.returns-in-Err

@@ -1,5 +1,5 @@
 use Rattle.std.proofs.Common.{◌∷◌, []}
-use Rattle.ddr_memory_tests.proofs.OneOpen.{ends_of_two}
+use Rattle.ddr_system_samples.proofs.OneOpen.{ends_of_two}
 use Rattle.ddr_memory_tests.proofs.system.run_system.Goals as goal
 
 pub returns-in-Ok : goal.returns-in-Ok

@@ -1,5 +1,5 @@
 use Rattle.std.proofs.Common.{◌≡◌, rules, ◌∷◌, [], inl, inr, refl}
-use Rattle.ddr_thread_tests.proofs.OneOpen.{among}
+use Rattle.ddr_system_samples.proofs.OneOpen.{among}
 use Rattle.ddr_thread_tests.proofs.runs.close_in_order.Goals as goal
 
 pub close-requires : goal.close-requires

@@ -1,6 +1,6 @@
 use Rattle.ddr_workers.specs.Port.{IsEndOfPort}
 use Rattle.ddr_workers.specs.Worker.{IsEndOf}
-use Rattle.ddr_thread_tests.proofs.OneOpen.{held_of_part}
+use Rattle.ddr_thread_tests.proofs.RunLemmas.{held_of_part}
 use Rattle.ddr_thread_tests.proofs.runs.run_parts.Goals as goal
 
 pub returns-clause-first : goal.returns-clause-first

@@ -2,7 +2,8 @@ use Rattle.std.proofs.Common.{◌≡◌, ◌∷◌, [], IfOk, subst}
 use Rattle.ddr_workers.specs.Closing.{AreOfOneOpen}
 use Rattle.ddr_workers.specs.Port.{PortEnded, IsEndOfPort, IsSamePort}
 use Rattle.ddr_workers.specs.Worker.{WorkerEnded, IsEndOf}
-use Rattle.ddr_thread_tests.proofs.OneOpen.{end_of_same, ends_of_two, first_id, second_id, first_work_id, second_work_id, of_four}
+use Rattle.ddr_system_samples.proofs.OneOpen.{ends_of_two, first_id, second_id, first_work_id, second_work_id}
+use Rattle.ddr_thread_tests.proofs.RunLemmas.{end_of_same, of_four}
 use Rattle.ddr_thread_tests.proofs.runs.run_system.Goals as goal
 
 pub returns-in-Ok : goal.returns-in-Ok

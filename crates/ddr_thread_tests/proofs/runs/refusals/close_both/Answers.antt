@@ -1,5 +1,6 @@
 use Rattle.std.proofs.Common.{◌≡◌, rules, ◌∷◌, [], inl, inr, refl}
-use Rattle.ddr_thread_tests.proofs.OneOpen.{among, of_another}
+use Rattle.ddr_system_samples.proofs.OneOpen.{among}
+use Rattle.ddr_thread_tests.proofs.RunLemmas.{of_another}
 use Rattle.ddr_thread_tests.proofs.runs.refusals.close_both.Goals as goal
 
 pub close-requires : goal.close-requires

@@ -1,5 +1,5 @@
 use Rattle.std.proofs.Common.{◌≡◌, rules, ◌∷◌, [], inl, inr, refl}
-use Rattle.ddr_thread_tests.proofs.OneOpen.{among}
+use Rattle.ddr_system_samples.proofs.OneOpen.{among}
 use Rattle.ddr_thread_tests.proofs.runs.refusals.the_end_of_a_port_is_missing.Goals as goal
 
 pub cause_of-requires : goal.cause_of-requires

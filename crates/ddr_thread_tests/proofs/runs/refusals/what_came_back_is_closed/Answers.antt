@@ -1,5 +1,5 @@
 use Rattle.std.proofs.Common.{◌++◌, ◌∷◌, [], inl, inr, refl, ap}
-use Rattle.ddr_thread_tests.proofs.OneOpen.{among}
+use Rattle.ddr_system_samples.proofs.OneOpen.{among}
 use Rattle.ddr_thread_tests.proofs.runs.refusals.what_came_back_is_closed.Goals as goal
 
 pub close_without_first-requires : goal.close_without_first-requires

@@ -1,32 +1,13 @@
 -- The ends of two ports and two workers that one call of `open` made.
-use Rattle.std.proofs.Common.{arith, true, false, ◌≡◌, ◌⊎◌, inl, inr, ℕ, zero, suc, List, [], ◌∷◌, slice_get, Some, Result, Ok, Err, IfOk, sym, refl, ap, ◌∙◌, subst}
+use Rattle.std.proofs.Common.{true, false, ◌≡◌, ◌⊎◌, inl, inr, ℕ, zero, suc, List, [], ◌∷◌, slice_get, Some, sym, refl, ap, ◌∙◌, subst}
 use Rattle.std.proofs.lemmas.Bool.{false≢true}
 use Rattle.std.proofs.lemmas.Option.{cond_some}
 use Rattle.std.specs.List.{AllByRecursion}
 use Rattle.ddr_timing.specs.declared.config.Config.{Config}
 use Rattle.ddr_workers.specs.Closing.{AreEndsOf, AreOfOneOpen, AreOpposite}
 use Rattle.ddr_workers.specs.Open.{IsOpened}
-use Rattle.ddr_workers.specs.Port.{PortState, PortEnded, IsEndOfPort, IsSamePort}
+use Rattle.ddr_workers.specs.Port.{PortState, PortEnded, IsEndOfPort}
 use Rattle.ddr_workers.specs.Worker.{WorkerState, WorkerEnded, IsEndOf}
-
--- what holds of a result's value holds of the part of another's that it is
-pub held_of_part : {A B E F : Type 0} (r : Result B F) (s : Result A E) (part : B → A) (P : A → Type 0) → IfOk r (λ b. s ≡ Ok (part b)) → IfOk s P → IfOk r (λ b. P (part b))
-held_of_part (Ok b) s part P same held = subst (λ x. IfOk x P) same held
-held_of_part (Err e) s part P same held = tt
-
--- what follows from four facts of a result's value
-pub of_four : {X E : Type 0} (r : Result X E) (A B C D P : X → Type 0) → IfOk r A → IfOk r B → IfOk r C → IfOk r D → ((x : X) → A x → B x → C x → D x → P x) → IfOk r P
-of_four (Ok x) A B C D P a b c d follows = follows x a b c d
-of_four (Err e) A B C D P a b c d follows = tt
-
--- the end of a port that stayed the one that it was
-pub end_of_same : (s t : PortState) (e : PortEnded) → IsSamePort s t → IsEndOfPort t e → IsEndOfPort s e
-end_of_same s t e same ended = record {
-  id = ended.id ∙ same.id;
-  port = ended.port ∙ same.port;
-  requests = ended.requests ∙ same.requests;
-  completions = ended.completions ∙ same.completions;
-}
 
 module _ (config : Config) (id : ℕ) (first second : PortState) (one two : WorkerState) (opened : IsOpened config id (first ∷ second ∷ []) (one ∷ two ∷ []))
     (a b : PortEnded) (c d : WorkerEnded) (of_first : IsEndOfPort first a) (of_second : IsEndOfPort second b) (of_one : IsEndOf one c) (of_two : IsEndOf two d) where
@@ -109,11 +90,3 @@ module _ (id : ℕ) (a b : PortEnded) (c d : WorkerEnded) (one : AreOfOneOpen id
   among ports workers es ws ports_are workers_are own_ports own_workers = λ k m e w is_port is_worker own other.
       both e w (at IsOwnPort es k e own_ports (subst (λ l. slice_get l k ≡ Some e) ports_are is_port) own)
       (at IsOwnWorker ws m w own_workers (subst (λ l. slice_get l m ≡ Some w) workers_are is_worker) other) own other
-
--- the end of another system is not to be one of this
-pub of_another : (id : ℕ) → id ≡ 8 → id ≡ 7 → ⊥
-of_another id other own = omega arith
-
-pub no_workers : (id : ℕ) (ports : List PortEnded) (workers : List WorkerEnded) → workers ≡ [] → AreOfOneOpen id ports workers
-no_workers id ports workers none = λ k m e w is_port is_worker own other.
-    let nowhere : slice_get {X = WorkerEnded} [] m ≡ Some w = subst (λ l. slice_get l m ≡ Some w) none is_worker in absurd (false≢true (cond_some false w w nowhere).0)
