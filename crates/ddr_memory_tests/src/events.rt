@@ -123,8 +123,8 @@ fn release(world: &mut World, (first, end): (u64, u64)) -> Result<(), &'static s
 }
 
 /// RCD, CCD_L, RTP, RP and RCD lie between the commands of the three reads. A refresh falls due at each multiple of REFI,
-/// which is 200; where a row is open, PREA comes first, and REF behind it by RP. The fourth read's row is a third one.
-fn entries() -> [Entry; 13] {
+/// which is 200; where a row is open, PREA comes first, and REF behind it by RP.
+fn of_three_reads() -> [Entry; 9] {
     [
         act(0, 0),
         rd(4, 0, 0),
@@ -135,6 +135,12 @@ fn entries() -> [Entry; 13] {
         pre_all(200),
         refresh(204, 0),
         refresh(400, 0),
+    ]
+}
+
+/// What comes of the fourth read, whose row is a third one.
+fn of_the_fourth() -> [Entry; 4] {
+    [
         act(u64::from(LATER), 2),
         rd(428, 2, 0),
         pre_all(600),
@@ -142,37 +148,33 @@ fn entries() -> [Entry; 13] {
     ]
 }
 
-/// Without the fourth read no row is open from the first refresh on.
-fn run_entries() -> [Entry; 10] {
-    [
-        act(0, 0),
-        rd(4, 0, 0),
-        rd(9, 0, 1),
-        pre(12),
-        act(16, 1),
-        rd(20, 1, 0),
-        pre_all(200),
-        refresh(204, 0),
-        refresh(400, 0),
-        refresh(600, 0),
-    ]
-}
-
-/// Whether channel 0 has this trace, and the other none.
-fn has_traces(traces: &[Option<Trace>], entries: &[Entry], end: u64) -> bool {
-    match traces {
-        [Some(first), Some(second)] => is_trace(first, entries, end) && is_trace(second, &[], 0),
+/// Whether a trace has the commands of the three reads, then these, and this end.
+fn goes_on_with(trace: &Trace, more: &[Entry], end: u64) -> bool {
+    let reads = of_three_reads();
+    let entries = trace.entries.as_slice();
+    match (entries.get(..reads.len()), entries.get(reads.len()..)) {
+        (Some(first), Some(rest)) => {
+            first == reads.as_slice() && rest == more && trace.end == end
+        }
         _ => false,
     }
 }
 
-/// Closes a core that is drained, whose port 0 took so many replies and whose channel 0 has this trace.
-fn is_closed(world: World, count: u64, entries: &[Entry], end: u64) -> bool {
+/// Whether channel 0 has the trace of the three reads with these commands behind it, and the other none.
+fn has_traces(traces: &[Option<Trace>], more: &[Entry], end: u64) -> bool {
+    match traces {
+        [Some(first), Some(second)] => goes_on_with(first, more, end) && is_trace(second, &[], 0),
+        _ => false,
+    }
+}
+
+/// Closes a core that is drained, whose port 0 took so many replies and whose channel 0 has these commands behind the three reads.
+fn is_closed(world: World, count: u64, more: &[Entry], end: u64) -> bool {
     match world.close() {
         Ok(closed) => {
             closed.accepted.as_slice() == [count, 0].as_slice()
                 && closed.taken.as_slice() == [count, 0].as_slice()
-                && has_traces(closed.traces.as_slice(), entries, end)
+                && has_traces(closed.traces.as_slice(), more, end)
         }
         Err(_) => false,
     }
@@ -250,7 +252,8 @@ pub fn run(alloc: Global) -> Met {
     make_all(&mut world, &COMPLETIONS)?;
     release(&mut world, (0, 3))?;
     answers(&mut world, &ENDS)?;
-    if is_closed(world, 3, &run_entries(), 606) {
+    // Without the fourth read no row is open from the first refresh on.
+    if is_closed(world, 3, &[refresh(600, 0)], 606) {
         Ok(refused)
     } else {
         Err("what is left of a run")
@@ -271,7 +274,7 @@ pub fn row_hit(alloc: Global) -> Met {
     let third = make_rounds(&mut world, (LATER, 605))?;
     release(&mut world, (3, 4))?;
     answers(&mut world, &ENDS)?;
-    if is_closed(world, 4, &entries(), 605) {
+    if is_closed(world, 4, &of_the_fourth(), 605) {
         Ok(first || second || third)
     } else {
         Err("what is left")
