@@ -1,10 +1,10 @@
 //! A queue in one thread and in three: what each channel pushed comes out whole and in order.
-ghost use Rattle.std.specs.Prelude.{◌≡◌, ◌<◌, ◌^◌, [], ◌∷◌, ◌++◌, IfOk, IfSome, vec_capacity};
+ghost use Rattle.std.specs.Prelude.{◌≡◌, ◌<◌, ◌^◌, [], ◌∷◌, ◌++◌, IfOk, IfSome};
 ghost use Rattle.std.specs.Thread.{IsSync};
 ghost use Rattle.ddr_workers.specs.Completions.{IsFrom};
 ghost use Rattle.ddr_workers.specs.Sides.{AreSides};
 
-use crate::testing::{both, config_with};
+use crate::testing::{Exchange, are_in_order, both, config_with};
 use ddr_address_map::map::Map;
 use ddr_address_map::request::{Done, Echo, Kind};
 use ddr_system_samples::hosts::TRIES;
@@ -141,18 +141,7 @@ fn push_both<R: Threads + Wait + Sync>(
     )
 }
 
-/// What the three threads did, and what was left once the queue was joined.
-#[derive(Drop)]
-struct Exchange {
-    all_pushed: bool,
-    taken: Vec<Done>,
-    left: Vec<Done>,
-}
-
-/// Room for what is taken, and for the sides that are joined.
-type Room = (Vec<Done>, Vec<DonePut>);
-
-/// Pushes in two threads, takes in a third, and joins. The room is that for what is taken, and for two sides.
+/// Pushes in two threads, takes in a third, and joins. There is room for what is taken.
 fn exchanged<R: Threads + Wait + Sync>(
     rt: &R,
     alloc: Global,
@@ -160,16 +149,14 @@ fn exchanged<R: Threads + Wait + Sync>(
     first: DonePut,
     second: DonePut,
     take: DoneTake,
-    room: Room,
-) -> Exchange
+    room: Vec<Done>,
+) -> Result<Exchange<Done>, AllocError>
     requires channels { (first.who.source ≡ 0) × (second.who.source ≡ 1) }
     requires first { first.who.queue.purpose ≡ record { geometry = config.now.geometry; port = 1 } }
     requires second { second.who.queue.purpose ≡ record { geometry = config.now.geometry; port = 1 } }
     requires sides { AreSides (first ∷ second ∷ []) take }
-    requires empty { (room.0.items ≡ []) × (room.1.items ≡ []) }
-    requires room { vec_capacity room.1 ≡ 2 }
+    requires empty { room.items ≡ [] }
 {
-    let (taken, mut puts) = room;
     let (pushed, (take, taken)) = thread::join(
         rt,
         move || -> Pushed
@@ -180,18 +167,14 @@ fn exchanged<R: Threads + Wait + Sync>(
             ensures { (result.0.0.who ≡ first.who) × (result.1.0.who ≡ second.who) }
         { push_both(rt, alloc, config, first, second) },
         move || -> (DoneTake, Vec<Done>)
-            requires { taken.items ≡ [] }
+            requires { room.items ≡ [] }
             ensures { result.0.who ≡ take.who }
-        { take_all(rt, take, taken) },
+        { take_all(rt, take, room) },
     );
     let ((first, first_pushed), (second, second_pushed)) = pushed;
-    puts.push_reserved(first);
-    puts.push_reserved(second);
-    Exchange {
-        all_pushed: first_pushed && second_pushed,
-        taken,
-        left: join(rt, puts, take),
-    }
+    let puts = vec![in alloc; first, second]?;
+    let left = join(rt, puts, take);
+    Ok(Exchange::new((first_pushed, second_pushed), taken, left))
 }
 
 /// The sides of a queue of two channels.
@@ -217,10 +200,10 @@ fn two_channels(alloc: Global, config: &Config) -> Result<Sides, Fail>
 }
 
 /// The numbers of a channel's completions, in order.
-fn numbers_of(alloc: Global, dones: &[Done], channel: u64) -> Result<Vec<u64>, AllocError> {
+fn numbers_of(alloc: Global, dones: &[Done], channel: u32) -> Result<Vec<u64>, AllocError> {
     let mut numbers = Vec::new(alloc);
     for done in dones {
-        if done.echo.addr / HALF == channel {
+        if done.echo.addr / HALF == u64::from(channel) {
             numbers.push(done.number)?;
         }
     }
@@ -285,7 +268,7 @@ fn join_both<R: Wait>(
 
 #[test]
 fn one_place_is_full_and_empty_again(rt: HostRuntime) -> Result<(), Fail> {
-    let config = config_with(rt.alloc(), "window ", "window = 1")?;
+    let config = config_with(rt.alloc(), "window", "window = 1")?;
     let (mut first, second, mut take) = two_channels(rt.alloc(), &config)?;
     let handed = hand_over(&rt, rt.alloc(), &config, &mut first, &mut take)?;
     assert_eq!(rt; handed, (false, Some(7), [None, Some(8), None]));
@@ -294,62 +277,37 @@ fn one_place_is_full_and_empty_again(rt: HostRuntime) -> Result<(), Fail> {
     Ok(())
 }
 
-/// Whether these are the numbers of all completions of a channel, in order.
-fn are_in_order(numbers: &[u64]) -> bool {
-    for (place, number) in numbers.iter().enumerate() {
-        if *number != place as u64 {
-            return false;
-        }
-    }
-    numbers.len() == 100
-}
-
 /// Whether all of a channel's completions are there in order.
-fn came_in_order(alloc: Global, dones: &[Done], channel: u64) -> Result<bool, AllocError> {
+fn came_in_order(alloc: Global, dones: &[Done], channel: u32) -> Result<bool, AllocError> {
     let numbers = numbers_of(alloc, dones, channel)?;
     Ok(are_in_order(numbers.as_slice()))
 }
 
-/// Makes room for all completions of two channels.
-fn open_room(alloc: Global) -> Result<Room, AllocError>
-    ensures empty { IfOk result (λ room. (room.0.items ≡ []) × (room.1.items ≡ [])) }
-    ensures room { IfOk result (λ room. vec_capacity room.1 ≡ 2) }
-{
-    both(
-        Vec::with_capacity(alloc, 2 * COMPLETIONS as usize),
-        Vec::with_capacity(alloc, 2),
-    )
-}
-
 /// Exchanges the completions of two channels over one place.
-fn exchange_all<R: Threads + Wait + Sync>(rt: &R, alloc: Global) -> Result<Exchange, Fail> {
-    let config = config_with(alloc, "window ", "window = 1")?;
-    let room = open_room(alloc)?;
+fn exchange_all<R: Threads + Wait + Sync>(rt: &R, alloc: Global) -> Result<Exchange<Done>, Fail> {
+    let config = config_with(alloc, "window", "window = 1")?;
+    let room = Vec::with_capacity(alloc, 2 * COMPLETIONS as usize)?;
     match two_channels(alloc, &config) {
-        Ok((first, second, take)) => Ok(exchanged(rt, alloc, &config, first, second, take, room)),
+        Ok((first, second, take)) => {
+            let exchange = exchanged(rt, alloc, &config, first, second, take, room)?;
+            Ok(exchange)
+        }
         Err(what) => Err(what),
     }
 }
 
-/// Whether all were pushed, how many were taken and left, and whether those of each came in order.
-type Outcome = (bool, (usize, usize), (bool, bool));
-
-/// What came out: whether all were pushed, how many were taken and how many were left, and whether those of both channels
-/// came in order.
-fn outcome_of(alloc: Global, exchange: &Exchange) -> Result<Outcome, AllocError> {
-    let taken = exchange.taken.as_slice();
-    let are_in_order = both(
+/// Whether the completions of both channels came in order.
+fn both_came_in_order(alloc: Global, taken: &[Done]) -> Result<(bool, bool), AllocError> {
+    both(
         came_in_order(alloc, taken, 0),
         came_in_order(alloc, taken, 1),
-    )?;
-    let counts = (taken.len(), exchange.left.len());
-    Ok((exchange.all_pushed, counts, are_in_order))
+    )
 }
 
 #[test]
 fn three_threads_hand_over_in_order(rt: HostRuntime) -> Result<(), Fail> {
     let exchange = exchange_all(&rt, rt.alloc())?;
-    let outcome = outcome_of(rt.alloc(), &exchange)?;
-    assert_eq!(rt; outcome, (true, (200, 0), (true, true)));
+    let in_order = both_came_in_order(rt.alloc(), exchange.taken.as_slice())?;
+    assert_eq!(rt; exchange.outcome(in_order), (true, (200, 0), (true, true)));
     Ok(())
 }

@@ -1,10 +1,10 @@
 //! A queue in one thread and in three: what each port pushed comes out whole and in order.
-ghost use Rattle.std.specs.Prelude.{◌≡◌, ◌<◌, ◌^◌, false, [], ◌∷◌, ◌++◌, IfErr, IfOk, IfSome, vec_capacity};
+ghost use Rattle.std.specs.Prelude.{◌≡◌, ◌<◌, ◌^◌, false, [], ◌∷◌, ◌++◌, IfErr, IfOk, IfSome};
 ghost use Rattle.std.specs.Thread.{IsSync};
 ghost use Rattle.ddr_workers.specs.Requests.{has_end, IsPlaced};
 ghost use Rattle.ddr_workers.specs.Sides.{AreSides};
 
-use crate::testing::{both, config_with};
+use crate::testing::{Exchange, are_in_order, both, config_with};
 use ddr_address_map::map::Map;
 use ddr_address_map::request::{Echo, Kind, Req};
 use ddr_system_samples::hosts::TRIES;
@@ -172,18 +172,7 @@ fn push_both<R: Threads + Wait + Sync>(
     )
 }
 
-/// What the three threads did, and what was left once the queue was joined.
-#[derive(Drop)]
-struct Exchange {
-    all_pushed: bool,
-    taken: Vec<Item>,
-    left: Vec<Item>,
-}
-
-/// Room for what is taken, and for the sides that are joined.
-type Room = (Vec<Item>, Vec<RequestPut>);
-
-/// Pushes in two threads, takes in a third, and joins. The room is that for what is taken, and for two sides.
+/// Pushes in two threads, takes in a third, and joins. There is room for what is taken.
 fn exchanged<R: Threads + Wait + Sync>(
     rt: &R,
     alloc: Global,
@@ -191,17 +180,15 @@ fn exchanged<R: Threads + Wait + Sync>(
     first: RequestPut,
     second: RequestPut,
     take: RequestTake,
-    room: Room,
-) -> Exchange
+    room: Vec<Item>,
+) -> Result<Exchange<Item>, AllocError>
     requires ports { (first.who.source ≡ 0) × (second.who.source ≡ 1) }
     requires first { first.who.queue.purpose ≡ record { geometry = config.now.geometry; channel = 0 } }
     requires second { second.who.queue.purpose ≡ record { geometry = config.now.geometry; channel = 0 } }
     requires before_end { (has_end first.put ≡ false) × (has_end second.put ≡ false) }
     requires sides { AreSides (first ∷ second ∷ []) take }
-    requires empty { (room.0.items ≡ []) × (room.1.items ≡ []) }
-    requires room { vec_capacity room.1 ≡ 2 }
+    requires empty { room.items ≡ [] }
 {
-    let (taken, mut puts) = room;
     let (pushed, (take, taken)) = thread::join(
         rt,
         move || -> Pushed
@@ -213,18 +200,14 @@ fn exchanged<R: Threads + Wait + Sync>(
             ensures { (result.0.0.who ≡ first.who) × (result.1.0.who ≡ second.who) }
         { push_both(rt, alloc, config, first, second) },
         move || -> (RequestTake, Vec<Item>)
-            requires { taken.items ≡ [] }
+            requires { room.items ≡ [] }
             ensures { result.0.who ≡ take.who }
-        { take_all(rt, take, taken) },
+        { take_all(rt, take, room) },
     );
     let ((first, first_pushed), (second, second_pushed)) = pushed;
-    puts.push_reserved(first);
-    puts.push_reserved(second);
-    Exchange {
-        all_pushed: first_pushed && second_pushed,
-        taken,
-        left: join(rt, puts, take),
-    }
+    let puts = vec![in alloc; first, second]?;
+    let left = join(rt, puts, take);
+    Ok(Exchange::new((first_pushed, second_pushed), taken, left))
 }
 
 /// The sides of a queue of two ports.
@@ -334,7 +317,7 @@ fn end_both<R: Wait>(
 
 #[test]
 fn one_place_is_full_and_empty_again(rt: HostRuntime) -> Result<(), Fail> {
-    let config = config_with(rt.alloc(), "intake ", "intake = 1")?;
+    let config = config_with(rt.alloc(), "intake", "intake = 1")?;
     let (mut first, second, mut take) = two_ports(rt.alloc(), &config)?;
     let handed = hand_over(&rt, rt.alloc(), &config, &mut first, &mut take)?;
     assert_eq!(rt; handed, (false, None, Some(8), Some(7)));
@@ -344,62 +327,37 @@ fn one_place_is_full_and_empty_again(rt: HostRuntime) -> Result<(), Fail> {
     Ok(())
 }
 
-/// Whether these are the numbers of all requests, in order.
-fn are_in_order(numbers: &[u64]) -> bool {
-    for (place, number) in numbers.iter().enumerate() {
-        if *number != place as u64 {
-            return false;
-        }
-    }
-    numbers.len() == 100
-}
-
 /// Whether all of a port's requests are there in order, and one End behind them.
 fn came_in_order(alloc: Global, items: &[Item], port: u32) -> Result<bool, AllocError> {
     let (numbers, ends) = numbers_of(alloc, items, port)?;
     Ok(are_in_order(numbers.as_slice()) && ends.as_slice() == [100].as_slice())
 }
 
-/// Makes room for all items of two ports.
-fn open_room(alloc: Global) -> Result<Room, AllocError>
-    ensures empty { IfOk result (λ room. (room.0.items ≡ []) × (room.1.items ≡ [])) }
-    ensures room { IfOk result (λ room. vec_capacity room.1 ≡ 2) }
-{
-    both(
-        Vec::with_capacity(alloc, 2 * (REQUESTS as usize + 1)),
-        Vec::with_capacity(alloc, 2),
-    )
-}
-
 /// Exchanges the requests of two ports over one place.
-fn exchange_all<R: Threads + Wait + Sync>(rt: &R, alloc: Global) -> Result<Exchange, Fail> {
-    let config = config_with(alloc, "intake ", "intake = 1")?;
-    let room = open_room(alloc)?;
+fn exchange_all<R: Threads + Wait + Sync>(rt: &R, alloc: Global) -> Result<Exchange<Item>, Fail> {
+    let config = config_with(alloc, "intake", "intake = 1")?;
+    let room = Vec::with_capacity(alloc, 2 * (REQUESTS as usize + 1))?;
     match two_ports(alloc, &config) {
-        Ok((first, second, take)) => Ok(exchanged(rt, alloc, &config, first, second, take, room)),
+        Ok((first, second, take)) => {
+            let exchange = exchanged(rt, alloc, &config, first, second, take, room)?;
+            Ok(exchange)
+        }
         Err(what) => Err(what),
     }
 }
 
-/// Whether all were pushed, how many were taken and left, and whether those of each came in order.
-type Outcome = (bool, (usize, usize), (bool, bool));
-
-/// What came out: whether all were pushed, how many were taken and how many were left, and whether those of both ports
-/// came in order.
-fn outcome_of(alloc: Global, exchange: &Exchange) -> Result<Outcome, AllocError> {
-    let taken = exchange.taken.as_slice();
-    let are_in_order = both(
+/// Whether the requests of both ports came in order.
+fn both_came_in_order(alloc: Global, taken: &[Item]) -> Result<(bool, bool), AllocError> {
+    both(
         came_in_order(alloc, taken, 0),
         came_in_order(alloc, taken, 1),
-    )?;
-    let counts = (taken.len(), exchange.left.len());
-    Ok((exchange.all_pushed, counts, are_in_order))
+    )
 }
 
 #[test]
 fn three_threads_hand_over_in_order(rt: HostRuntime) -> Result<(), Fail> {
     let exchange = exchange_all(&rt, rt.alloc())?;
-    let outcome = outcome_of(rt.alloc(), &exchange)?;
-    assert_eq!(rt; outcome, (true, (202, 0), (true, true)));
+    let in_order = both_came_in_order(rt.alloc(), exchange.taken.as_slice())?;
+    assert_eq!(rt; exchange.outcome(in_order), (true, (202, 0), (true, true)));
     Ok(())
 }

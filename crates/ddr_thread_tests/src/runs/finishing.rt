@@ -124,7 +124,7 @@ impl Host for FindsItFull {
 /// In one run: what port 1 may not do while the queue is full, and that it finishes once workers run.
 #[test]
 fn ports_finish_once_workers_run(rt: HostRuntime) -> Result<(), Fail> {
-    let config = config_with(rt.alloc(), "intake ", "intake = 1")?;
+    let config = config_with(rt.alloc(), "intake", "intake = 1")?;
     let closed = run_and_close(&rt, rt.alloc(), &config, &FillsUp, &FindsItFull)?;
     assert!(rt; has_counts(&closed, &[1, 0]));
     Ok(())
@@ -208,7 +208,7 @@ fn all_go_on<R: Wait>(rt: &R, parts: Parts) -> Result<(bool, (bool, bool)), Fail
 /// What a stopped worker holds isn't lost: the reply comes.
 #[test]
 fn a_stopped_worker_goes_on(rt: HostRuntime) -> Result<(), Fail> {
-    let config = config_with(rt.alloc(), "intake ", "intake = 64")?;
+    let config = config_with(rt.alloc(), "intake", "intake = 64")?;
     let parts = open_two(rt.alloc(), &config, 7)?;
     assert_eq!(rt; all_go_on(&rt, parts)?, (true, (true, true)));
     Ok(())
