@@ -1,6 +1,8 @@
 //! Numbers that look like chance, the same ones in every run.
 ghost use Rattle.std.specs.Prelude.{◌<◌};
 
+use ddr_timing::units::LINE_BYTES;
+
 /// A linear congruential generator of 64 bits, with the constants of Knuth's MMIX.
 #[derive(Drop)]
 pub struct Chance(u64);
@@ -37,5 +39,14 @@ impl Chance {
     /// One of two truths.
     pub fn coin(&mut self) -> bool {
         self.below(2) == 0
+    }
+
+    /// The bytes of a line.
+    pub fn line(&mut self) -> [u8; LINE_BYTES] {
+        let mut line = [0; LINE_BYTES];
+        for byte in line.iter_mut() {
+            *byte = self.below(256) as u8;
+        }
+        line
     }
 }

@@ -1,6 +1,7 @@
 //! Worked lists of events. Outcomes and refusals are written out by hand, for profile S with the changes named.
 
 use ddr_ports::request::Request;
+use ddr_samples::sample::limits;
 use ddr_timing::config::Config;
 use ddr_timing::limits::Limits;
 use ddr_timing::profile::PROFILE_S;
@@ -18,20 +19,6 @@ mod told;
 
 /// A read of a byte at address 0, from port 0.
 const READ: Event<'static> = Event::Submit(0, Request::Read { addr: 0, len: 1 });
-
-/// The limits of profile S.
-const LIMITS: Limits = Limits {
-    ports: 2,
-    window: 4,
-    intake: 8,
-    reads: 8,
-    writes: 8,
-    done: 8,
-    low: 2,
-    high: 6,
-    cap: 1000,
-    closed: false,
-};
 
 /// Profile S, but for its limits, and with open rows.
 fn config_with(alloc: Global, mut limits: Limits) -> Result<Config, Fail> {
@@ -126,7 +113,7 @@ fn one_of_two_taken() -> [Row; 9] {
 
 #[test]
 fn one_read_taken_where_the_read_queue_has_one_place(rt: HostRuntime) -> Result<(), Fail> {
-    let mut limits = LIMITS;
+    let mut limits = limits();
     limits.reads = 1;
     let mut world = open_with(rt.alloc(), limits)?;
     makes(&rt, &mut world, &one_of_two_taken());
@@ -151,7 +138,7 @@ fn all_but_the_last_end() -> [Row; 9] {
 
 #[test]
 fn nothing_submitted_and_closed(rt: HostRuntime) -> Result<(), Fail> {
-    let mut world = open_with(rt.alloc(), LIMITS)?;
+    let mut world = open_with(rt.alloc(), limits())?;
     makes(&rt, &mut world, &all_but_the_last_end());
     let mut world = not_closed(world)?;
     makes(&rt, &mut world, &[(Event::Take(1), Ok(Outcome::Taken))]);
@@ -163,7 +150,7 @@ fn nothing_submitted_and_closed(rt: HostRuntime) -> Result<(), Fail> {
 
 #[test]
 fn a_window_of_one(rt: HostRuntime) -> Result<(), Fail> {
-    let mut limits = LIMITS;
+    let mut limits = limits();
     limits.window = 1;
     let mut world = open_with(rt.alloc(), limits)?;
     makes(&rt, &mut world, &[FIRST, (READ, Err(Refusal::WindowFull))]);
@@ -182,7 +169,7 @@ fn read(addr: u64, len: u32) -> Event<'static> {
 
 #[test]
 fn what_is_no_part_of_one_line(rt: HostRuntime) -> Result<(), Fail> {
-    let mut world = open_with(rt.alloc(), LIMITS)?;
+    let mut world = open_with(rt.alloc(), limits())?;
     let answers = [
         (262_143, 1, Ok(Outcome::Accepted { number: 0 })),
         (262_144, 0, Err(Refusal::OutOfRange)),
@@ -208,7 +195,7 @@ fn has_numbers_below(rt: &impl Abort, world: &mut World, bound: u64) -> Result<(
 
 #[test]
 fn the_widest_window_and_intake(rt: HostRuntime) -> Result<(), Fail> {
-    let mut limits = LIMITS;
+    let mut limits = limits();
     limits.window = 64;
     limits.intake = 64;
     let mut world = open_with(rt.alloc(), limits)?;
@@ -236,7 +223,7 @@ fn takes_one_at_a_time(rt: &impl Abort, world: &mut World) -> Result<(), Fail> {
 
 #[test]
 fn an_intake_of_one(rt: HostRuntime) -> Result<(), Fail> {
-    let mut limits = LIMITS;
+    let mut limits = limits();
     limits.intake = 1;
     let mut world = open_with(rt.alloc(), limits)?;
     takes_one_at_a_time(&rt, &mut world)
@@ -269,7 +256,7 @@ fn is_lent(rt: &impl Abort, world: &World, port: u32, bytes: &[u8]) -> Result<()
 /// A read of what another port wrote before it: the write's byte at its place, and zeros about it.
 #[test]
 fn two_ports_share_a_line(rt: HostRuntime) -> Result<(), Fail> {
-    let mut world = open_with(rt.alloc(), LIMITS)?;
+    let mut world = open_with(rt.alloc(), limits())?;
     let write = Event::Submit(1, Request::write(1, &[255]));
     let report = world.run(&[write, read(0, 3)]);
     assert_eq!(rt; report.refused, 0);

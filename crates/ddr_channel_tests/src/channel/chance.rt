@@ -43,14 +43,6 @@ fn access(chance: &mut Chance) -> Access {
     }
 }
 
-fn line(chance: &mut Chance) -> Line {
-    let mut line = ZEROS;
-    for byte in line.iter_mut() {
-        *byte = chance.below(256) as u8;
-    }
-    line
-}
-
 /// Puts a byte over another where it is enabled.
 fn put(old: &mut u8, new: u8, enabled: bool) {
     if enabled {
@@ -109,7 +101,7 @@ impl Run {
     fn admit(&mut self, rt: &impl Abort) -> Result<(), Fail> {
         let number = self.admitted.len() as u64;
         let access = access(&mut self.chance);
-        let line = line(&mut self.chance);
+        let line = self.chance.line();
         let mut offered = request(self.alloc, self.channel.config(), number, access)?;
         *offered.line = line;
         match self.channel.admit(offered) {

@@ -7,9 +7,9 @@
 ghost use Rattle.std.specs.Prelude.{◌+◌, ◌<◌, ◌≤◌};
 
 use super::with_lines;
-use crate::chance::Chance;
 use ddr_address_map::request::Line;
 use ddr_run::run::run;
+use ddr_samples::chance::Chance;
 use ddr_timing::profile::PROFILE_S;
 use std::alloc::{AllocError, Global};
 use std::sync::Wait;
@@ -35,24 +35,22 @@ const MOST: usize = 31;
 
 const ZEROS: Line = [0; 64];
 
-impl Chance {
-    /// Where some bytes of a line begin, and where they end.
-    fn span(&mut self) -> (usize, usize)
-        ensures { (result.0 < result.1) × (result.1 ≤ 64) }
-    {
-        let first = self.below(64) as usize;
-        let count = self.below(64 - first as u64) as usize;
-        (first, first + count + 1)
-    }
+/// Where some bytes of a line begin, and where they end.
+fn span(chance: &mut Chance) -> (usize, usize)
+    ensures { (result.0 < result.1) × (result.1 ≤ 64) }
+{
+    let first = chance.below(64) as usize;
+    let count = chance.below(64 - first as u64) as usize;
+    (first, first + count + 1)
+}
 
-    /// The bytes that a write changes.
-    fn extent(&mut self) -> Extent {
-        if self.below(2) == 0 {
-            let (first, end) = self.span();
-            Extent::Span { first, end }
-        } else {
-            Extent::Mask(self.next())
-        }
+/// The bytes that a write changes.
+fn extent_of(chance: &mut Chance) -> Extent {
+    if chance.below(2) == 0 {
+        let (first, end) = span(chance);
+        Extent::Span { first, end }
+    } else {
+        Extent::Mask(chance.next())
     }
 }
 
@@ -260,7 +258,7 @@ impl Script {
         if self.chance.below(2) == 0 {
             return self.read();
         }
-        let extent = self.chance.extent();
+        let extent = extent_of(&mut self.chance);
         match place.checked_sub(OWN) {
             None => What::Write {
                 extent,
@@ -277,7 +275,7 @@ impl Script {
     }
 
     fn read(&mut self) -> What {
-        let (first, end) = self.chance.span();
+        let (first, end) = span(&mut self.chance);
         What::Read { first, end }
     }
 

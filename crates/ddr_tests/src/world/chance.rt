@@ -3,8 +3,8 @@
 ghost use Rattle.std.specs.Prelude.{◌<◌, ◌≤◌};
 
 use super::*;
-use crate::chance::Chance;
 use ddr_reorder::reply::Reply;
+use ddr_samples::chance::Chance;
 use ddr_trace::checker;
 
 /// The events of a run. In the first half many are requests.
@@ -18,15 +18,13 @@ const NUMBER: u64 = 5;
 /// The lines among which the requests fall: 16 of each channel.
 const LINES: usize = 64;
 
-impl Chance {
-    /// A part of a line: where it begins and where it ends.
-    fn part(&mut self) -> (usize, usize)
-        ensures order { result.0 ≤ result.1 }
-        ensures bound { result.1 ≤ 64 }
-    {
-        let start = self.below(64) as usize;
-        (start, start + self.below(65 - start as u64) as usize)
-    }
+/// A part of a line: where it begins and where it ends.
+fn part(chance: &mut Chance) -> (usize, usize)
+    ensures order { result.0 ≤ result.1 }
+    ensures bound { result.1 ≤ 64 }
+{
+    let start = chance.below(64) as usize;
+    (start, start + chance.below(65 - start as u64) as usize)
 }
 
 /// A line that is asked for: its number among the test's lines, and its first address.
@@ -398,7 +396,7 @@ impl Run {
     /// A read of some bytes of a line, all, or none.
     fn read(&mut self, rt: &impl Abort) -> Option<()> {
         let (port, spot) = (self.port(), self.spot());
-        let (start, end) = self.chance.part();
+        let (start, end) = part(&mut self.chance);
         let addr = spot.addr.wrapping_add(start as u64);
         let expected = Expected {
             addr,
@@ -416,7 +414,7 @@ impl Run {
     fn write(&mut self, rt: &impl Abort) -> Option<()> {
         let (port, spot) = (self.port(), self.spot());
         let line = self.chance.line();
-        let (start, end) = self.chance.part();
+        let (start, end) = part(&mut self.chance);
         let addr = spot.addr.wrapping_add(start as u64);
         let len = end - start;
         let request = Request::write(addr, &line[start..end]);
@@ -694,12 +692,12 @@ fn runs_well(rt: &impl Abort, alloc: Global, channels: u32, limits: Limits) -> R
 
 #[test]
 fn events_by_chance_in_profile_s(rt: HostRuntime) -> Result<(), Fail> {
-    runs_well(&rt, rt.alloc(), 2, LIMITS)
+    runs_well(&rt, rt.alloc(), 2, limits())
 }
 
 #[test]
 fn events_by_chance_with_one_of_all(rt: HostRuntime) -> Result<(), Fail> {
-    let mut limits = LIMITS;
+    let mut limits = limits();
     limits.ports = 1;
     limits.window = 1;
     limits.intake = 1;
@@ -710,7 +708,7 @@ fn events_by_chance_with_one_of_all(rt: HostRuntime) -> Result<(), Fail> {
 
 #[test]
 fn events_by_chance_with_the_most_ports_and_channels(rt: HostRuntime) -> Result<(), Fail> {
-    let mut limits = LIMITS;
+    let mut limits = limits();
     limits.ports = 8;
     limits.window = 64;
     limits.intake = 64;
@@ -720,7 +718,7 @@ fn events_by_chance_with_the_most_ports_and_channels(rt: HostRuntime) -> Result<
 
 #[test]
 fn events_by_chance_with_narrow_queues(rt: HostRuntime) -> Result<(), Fail> {
-    let mut limits = LIMITS;
+    let mut limits = limits();
     limits.ports = 3;
     limits.intake = 1;
     limits.reads = 1;

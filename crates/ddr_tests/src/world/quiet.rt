@@ -1,11 +1,11 @@
 //! For how long the core is quiet and still, after each of many events by chance: the least of what its channels tell, each of
 //! which sleeps as the first one did; 0 where something waits in a queue, is done, or is to be collected.
 use super::*;
-use crate::chance::Chance;
 use ddr_address_map::map::Map;
 use ddr_address_map::place::Place;
 use ddr_address_map::request::Kind;
 use ddr_old_sleep::channel::OldChannel;
+use ddr_samples::chance::Chance;
 use ddr_timing::profile::PROFILE_S2;
 
 /// The runs of a configuration, and the events of each.
@@ -273,20 +273,20 @@ fn sleeps_well(rt: &impl Abort, alloc: Global, config: &Config) -> Result<(), Fa
 
 #[test]
 fn sleep_of_one_channel(rt: HostRuntime) -> Result<(), Fail> {
-    let mut config = config_with(rt.alloc(), LIMITS)?;
+    let mut config = config_with(rt.alloc(), limits())?;
     config.geometry.channels = 1;
     sleeps_well(&rt, rt.alloc(), &config)
 }
 
 #[test]
 fn sleep_of_two_channels(rt: HostRuntime) -> Result<(), Fail> {
-    let config = config_with(rt.alloc(), LIMITS)?;
+    let config = config_with(rt.alloc(), limits())?;
     sleeps_well(&rt, rt.alloc(), &config)
 }
 
 #[test]
 fn sleep_of_four_channels_with_narrow_queues(rt: HostRuntime) -> Result<(), Fail> {
-    let mut limits = LIMITS;
+    let mut limits = limits();
     limits.intake = 2;
     limits.reads = 2;
     limits.done = 1;

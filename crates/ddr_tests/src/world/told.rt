@@ -73,7 +73,7 @@ fn front(world: &World) -> Option<(u64, u64, u64)> {
 
 #[test]
 fn a_reply_tells_the_cycles_that_its_channel_told(rt: HostRuntime) -> Result<(), Fail> {
-    let mut world = open_with(rt.alloc(), LIMITS)?;
+    let mut world = open_with(rt.alloc(), limits())?;
     makes(&rt, &mut world, &ASKED);
     watch_all(&rt, &mut world);
     assert_eq!(rt; front(&world), Some((0, 4, 11)));
@@ -85,7 +85,7 @@ fn a_reply_tells_the_cycles_that_its_channel_told(rt: HostRuntime) -> Result<(),
 
 #[test]
 fn a_channel_that_is_not_there_makes_no_cycle(rt: HostRuntime) -> Result<(), Fail> {
-    let mut world = open_with(rt.alloc(), LIMITS)?;
+    let mut world = open_with(rt.alloc(), limits())?;
     assert_eq!(rt; world.cycle(2).err(), Some(Refusal::NoSuch));
     Ok(())
 }
