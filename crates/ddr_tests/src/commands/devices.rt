@@ -36,13 +36,18 @@ impl Read for Failing<'_> {
     }
 }
 
-/// How a command ends whose reader fails where no call is left, and what it writes.
+/// How a command ends whose reader fails so where no call is left, and what it writes.
 fn read_in(
     alloc: Global,
-    command: Command,
-    sample: bool,
-    reader: Failing<'_>,
+    (command, sample): (Command, bool),
+    input: &str,
+    (calls, kind): (u32, ErrorKind),
 ) -> (Vec<u8>, Result<bool, Fault>) {
+    let reader = Failing {
+        text: input.as_bytes(),
+        calls,
+        kind,
+    };
     let mut bytes = Vec::new(alloc);
     let end = end_of(alloc, command, sample, &mut Device(reader), &mut bytes);
     (bytes, end)
@@ -128,12 +133,7 @@ fn fails_unless_all_is_read(
     needed: u32,
 ) -> Result<(), AllocError> {
     for calls in 0..needed.saturating_add(3) {
-        let reader = Failing {
-            text: input.as_bytes(),
-            calls,
-            kind: ErrorKind::Other,
-        };
-        let ran = read_in(alloc, command, true, reader);
+        let ran = read_in(alloc, (command, true), input, (calls, ErrorKind::Other));
         is_so_in(rt, alloc, ran, end_in(calls, needed, text), (calls, text))?;
     }
     Ok(())
@@ -154,12 +154,12 @@ fn each_read_of_a_configuration_and_a_capture_fails(rt: HostRuntime) -> Result<(
     let input = input_of(alloc, &[], rest.as_str())?;
     // 376 bytes of the sample configuration, 4 of the mark and 92 are read in 59 calls, and their end by one more.
     for calls in 0..63 {
-        let reader = Failing {
-            text: input.as_bytes(),
-            calls,
-            kind: ErrorKind::Other,
-        };
-        let ran = read_in(alloc, OWN, false, reader);
+        let ran = read_in(
+            alloc,
+            (OWN, false),
+            input.as_str(),
+            (calls, ErrorKind::Other),
+        );
         let wanted = end_in(calls, 60, "legal\n");
         is_so_in(&rt, alloc, ran, wanted, (calls, "configuration"))?;
     }
@@ -174,12 +174,12 @@ fn reads_on(
     needed: u32,
 ) -> Result<(), AllocError> {
     for calls in 0..needed.saturating_add(3) {
-        let reader = Failing {
-            text: input.as_bytes(),
-            calls,
-            kind: ErrorKind::Interrupted,
-        };
-        let ran = read_in(alloc, command, true, reader);
+        let ran = read_in(
+            alloc,
+            (command, true),
+            input,
+            (calls, ErrorKind::Interrupted),
+        );
         is_so_in(rt, alloc, ran, (Ok(true), text), (calls, text))?;
     }
     Ok(())
