@@ -1,7 +1,7 @@
 //! Scripts for `sim`.
 //!
 //! `draw`, `text` and `configs` stand below.
-use crate::configs::{ONE_RANK, TWO_RANKS};
+use crate::configs::{of_one_rank, of_two_ranks};
 use crate::draw::Draw;
 use crate::text::{bytes, number, word};
 use ddr_text::fault::Fault;
@@ -42,7 +42,7 @@ fn wait(text: &mut Vec<u8>, cycles: u64) -> Result<(), AllocError> {
 
 /// Reads and writes at lines by chance of 64 MiB, half of them each, from four ports.
 pub(crate) fn random(alloc: Global, size: u64, draw: &mut Draw) -> Result<Vec<u8>, Fault> {
-    let mut text = Vec::from_slice(alloc, ONE_RANK.as_bytes())?;
+    let mut text = of_one_rank(alloc)?;
     for index in 0..size {
         let write = draw.below(2) == 0;
         let port = draw.below(4);
@@ -57,7 +57,7 @@ pub(crate) fn random(alloc: Global, size: u64, draw: &mut Draw) -> Result<Vec<u8
 
 /// Four ports in turn, each of which goes through memory line by line from where it began; one of them writes.
 pub(crate) fn stream(alloc: Global, size: u64, draw: &mut Draw) -> Result<Vec<u8>, Fault> {
-    let mut text = Vec::from_slice(alloc, ONE_RANK.as_bytes())?;
+    let mut text = of_one_rank(alloc)?;
     let begun = draw.below(1_048_576);
     for index in 0..size {
         let port = index % 4;
@@ -72,7 +72,7 @@ pub(crate) fn stream(alloc: Global, size: u64, draw: &mut Draw) -> Result<Vec<u8
 
 /// Reads and writes one at a time, at lines by chance of 64 MiB, with up to 900 cycles between two.
 pub(crate) fn sparse(alloc: Global, size: u64, draw: &mut Draw) -> Result<Vec<u8>, Fault> {
-    let mut text = Vec::from_slice(alloc, ONE_RANK.as_bytes())?;
+    let mut text = of_one_rank(alloc)?;
     for _index in 0..size {
         let write = draw.below(4) == 0;
         let port = draw.below(4);
@@ -109,7 +109,7 @@ pub(crate) fn both_ranks(alloc: Global, size: u64, draw: &mut Draw) -> Result<Ve
 
 /// More requests than can be served, to banks of rank 0 or of both ranks. The lowest digit of a bank's number is its rank.
 fn crowded(alloc: Global, size: u64, draw: &mut Draw, both: bool) -> Result<Vec<u8>, Fault> {
-    let mut text = Vec::from_slice(alloc, TWO_RANKS.as_bytes())?;
+    let mut text = of_two_ranks(alloc)?;
     for index in 0..size {
         let port = draw.below(8);
         let channel = draw.below(4);

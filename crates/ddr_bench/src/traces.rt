@@ -4,7 +4,7 @@
 //! `draw`, `text` and `configs` stand below.
 ghost use Rattle.std.specs.Prelude.{◌<◌, ◌≤◌, ◌^◌};
 
-use crate::configs::ONE_RANK;
+use crate::configs::of_one_rank;
 use crate::draw::Draw;
 use crate::text::{number, word};
 use ddr_text::fault::Fault;
@@ -121,7 +121,7 @@ fn add_visit(
 /// A trace of about so many commands, with the configuration before it. Of so many visits about one has a fault, where
 /// `faults` is above 0.
 fn trace(alloc: Global, size: u64, faults: u64, draw: &mut Draw) -> Result<Vec<u8>, Fault> {
-    let mut text = Vec::from_slice(alloc, ONE_RANK.as_bytes())?;
+    let mut text = of_one_rank(alloc)?;
     word(&mut text, HEAD)?;
     let mut interval = INTERVAL;
     let mut cycle = interval.wrapping_add(REFRESH);
