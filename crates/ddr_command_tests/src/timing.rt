@@ -45,6 +45,16 @@ fn reads_the_timing_of_profile_s(rt: HostRuntime) -> Result<(), Fail> {
     Ok(())
 }
 
+/// The map of both profiles, whose lowest digit comes first.
+const MAP: [Digit; 6] = [
+    Digit::Column,
+    Digit::Group,
+    Digit::Bank,
+    Digit::Row,
+    Digit::Channel,
+    Digit::Rank,
+];
+
 #[test]
 fn reads_the_shape_and_the_limits_of_profile_s(rt: HostRuntime) -> Result<(), Fail> {
     let config = Config::read(rt.alloc(), PROFILE_S)?;
@@ -53,15 +63,7 @@ fn reads_the_shape_and_the_limits_of_profile_s(rt: HostRuntime) -> Result<(), Fa
         [g.version, g.channels, g.ranks, g.groups, g.rows, g.columns],
         [1, 2, 1, 4, 16, 64]
     );
-    let order = [
-        Digit::Column,
-        Digit::Group,
-        Digit::Bank,
-        Digit::Row,
-        Digit::Channel,
-        Digit::Rank,
-    ];
-    assert_eq!(rt; g.map, order);
+    assert_eq!(rt; g.map, MAP);
     assert!(rt; !g.bank_xor);
     let l = config.limits;
     assert_eq!(rt;

@@ -163,32 +163,31 @@ fn trace(chance: &mut Chance, alloc: Global, config: &Config) -> Result<Vec<Entr
     Ok(entries)
 }
 
-pub fn last_cycle(entries: &[Entry]) -> u64 {
+fn last_cycle(entries: &[Entry]) -> u64 {
     match entries {
         [.., last] => last.cycle,
         [] => 0,
     }
 }
 
-/// The rule broken first in a trace that looks like chance, in which the plain checker finds the same fault.
-fn rule_of(
+fn rule_in(found: Option<Fault>) -> Option<Rule> {
+    let fault = found?;
+    Some(fault.rule)
+}
+
+/// The rule broken first in a trace of that turn, whose end is by chance and in which the plain checker finds the same fault.
+pub fn rule_of(
     rt: &impl Abort,
     alloc: Global,
     config: &Config,
+    (turn, entries): (u32, &[Entry]),
     chance: &mut Chance,
-    turn: u32,
 ) -> Result<Option<Rule>, Fail> {
-    let entries = trace(chance, alloc, config)?;
-    let end = last_cycle(&entries).saturating_add(gap(chance));
-    let found = first_fault(alloc, &entries, config, 0, end)?;
-    let plain = checker::first_fault(&entries, config, 0, end);
-    assert_eq!(rt; found, plain, "trace {turn}");
+    let end = last_cycle(entries).saturating_add(gap(chance));
+    let found = first_fault(alloc, entries, config, 0, end)?;
+    let plain = checker::first_fault(entries, config, 0, end);
+    assert_eq!(rt; found, plain, "trace {turn}: {entries:?} up to {end}");
     Ok(rule_in(found))
-}
-
-pub fn rule_in(found: Option<Fault>) -> Option<Rule> {
-    let fault = found?;
-    Some(fault.rule)
 }
 
 /// The rules broken first in 400 such traces.
@@ -197,7 +196,9 @@ fn rules_of_400(rt: &impl Abort, alloc: Global) -> Result<Vec<Option<Rule>>, Fai
     let mut chance = Chance::new(1);
     let mut rules = Vec::new(alloc);
     for turn in 0..400 {
-        rules.push(rule_of(rt, alloc, &config, &mut chance, turn)?)?;
+        let entries = trace(&mut chance, alloc, &config)?;
+        let rule = rule_of(rt, alloc, &config, (turn, &entries), &mut chance)?;
+        rules.push(rule)?;
     }
     Ok(rules)
 }

@@ -1,5 +1,5 @@
 //! The two versions of a configuration's text: which keys and which words each has.
-use super::{refusal, refusal_with};
+use super::{MAP, refusal, refusal_with};
 use ddr_samples::sample::with_lines;
 use ddr_timing::config::Config;
 use ddr_timing::error::ConfigError;
@@ -25,15 +25,7 @@ fn reads_profile_s2(rt: HostRuntime) -> Result<(), Fail> {
         [g.version, g.channels, g.ranks, g.groups, g.rows, g.columns],
         [2, 2, 2, 4, 16, 64]
     );
-    let order = [
-        Digit::Column,
-        Digit::Group,
-        Digit::Bank,
-        Digit::Row,
-        Digit::Channel,
-        Digit::Rank,
-    ];
-    assert_eq!(rt; g.map, order);
+    assert_eq!(rt; g.map, MAP);
     assert!(rt; !config.limits.closed);
     let t = config.timing;
     assert_eq!(rt; [t.cl, t.refi, t.postpone, t.rtrs], [4, 200, 2, 2]);

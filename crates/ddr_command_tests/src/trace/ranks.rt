@@ -135,6 +135,23 @@ fn commands_stand_a_burst_apart(rt: HostRuntime) -> Result<(), Fail> {
     check_with(&rt, alloc, &[("cwl", "cwl = 12")], LATE_WRITE_DATA)
 }
 
+/// Four ACTs of each rank by turns, and a fifth one of rank 0 at a cycle.
+macro_rules! fifth_at {
+    ($cycle:expr) => {
+        &[
+            OPENED,
+            act!(1; 1, 0, 0, 0),
+            act!(2, 1, 0, 0),
+            act!(1; 3, 1, 0, 0),
+            act!(4, 2, 0, 0),
+            act!(1; 5, 2, 0, 0),
+            act!(6, 3, 0, 0),
+            act!(1; 7, 3, 0, 0),
+            act!($cycle, 0, 1, 0),
+        ]
+    };
+}
+
 /// ACTs of one rank stand 2 clocks apart, where the groups differ, and a fifth one 12 clocks behind the first.
 const ACTIVATIONS: &[Ending] = &[
     (&[OPENED, act!(1; 1, 0, 0, 0)], None),
@@ -150,34 +167,8 @@ const ACTIVATIONS: &[Ending] = &[
         ],
         None,
     ),
-    (
-        &[
-            OPENED,
-            act!(1; 1, 0, 0, 0),
-            act!(2, 1, 0, 0),
-            act!(1; 3, 1, 0, 0),
-            act!(4, 2, 0, 0),
-            act!(1; 5, 2, 0, 0),
-            act!(6, 3, 0, 0),
-            act!(1; 7, 3, 0, 0),
-            act!(11, 0, 1, 0),
-        ],
-        Some(Rule::Faw),
-    ),
-    (
-        &[
-            OPENED,
-            act!(1; 1, 0, 0, 0),
-            act!(2, 1, 0, 0),
-            act!(1; 3, 1, 0, 0),
-            act!(4, 2, 0, 0),
-            act!(1; 5, 2, 0, 0),
-            act!(6, 3, 0, 0),
-            act!(1; 7, 3, 0, 0),
-            act!(12, 0, 1, 0),
-        ],
-        None,
-    ),
+    (fifth_at!(11), Some(Rule::Faw)),
+    (fifth_at!(12), None),
 ];
 
 /// Commands of one rank that come too soon behind another of the same rank, and behind one of the other rank do not.

@@ -1,11 +1,10 @@
 //! Traces on two ranks that look like chance, with RDA and WRA among their commands: in each the checker in one pass
 //! finds the fault that the plain one finds, or none.
-use super::super::check::{gap, last_cycle, rule_in};
-use ddr_legality::checker::first_fault;
+use super::super::check::{gap, rule_of};
 use ddr_samples::chance::Chance;
 use ddr_timing::config::Config;
 use ddr_timing::profile::PROFILE_S2;
-use ddr_trace::checker::{self, lowest_broken};
+use ddr_trace::checker::lowest_broken;
 use ddr_trace::command::{Command, Entry};
 use ddr_trace::rule::Rule;
 use std::alloc::{AllocError, Global};
@@ -86,28 +85,15 @@ fn trace(chance: &mut Chance, alloc: Global, config: &Config) -> Result<Vec<Entr
     Ok(entries)
 }
 
-/// The rule broken first in such a trace, in which the plain checker finds the same fault.
-fn rule_of(
-    rt: &impl Abort,
-    alloc: Global,
-    config: &Config,
-    chance: &mut Chance,
-    turn: u32,
-) -> Result<Option<Rule>, Fail> {
-    let entries = trace(chance, alloc, config)?;
-    let end = last_cycle(&entries).saturating_add(gap(chance));
-    let found = first_fault(alloc, &entries, config, 0, end)?;
-    let plain = checker::first_fault(&entries, config, 0, end);
-    assert_eq!(rt; found, plain, "trace {turn}: {entries:?} up to {end}");
-    Ok(rule_in(found))
-}
-
+/// The rules broken first in such traces.
 fn rules(rt: &impl Abort, alloc: Global) -> Result<Vec<Option<Rule>>, Fail> {
     let config = Config::read(alloc, PROFILE_S2)?;
     let mut chance = Chance::new(1);
     let mut rules = Vec::new(alloc);
     for turn in 0..TRACES {
-        rules.push(rule_of(rt, alloc, &config, &mut chance, turn)?)?;
+        let entries = trace(&mut chance, alloc, &config)?;
+        let rule = rule_of(rt, alloc, &config, (turn, &entries), &mut chance)?;
+        rules.push(rule)?;
     }
     Ok(rules)
 }
