@@ -85,6 +85,21 @@ impl Step {
     }
 }
 
+/// Five banks read in profile S, of which the fifth is in the first one's group. The third ACT waits for the read of cycle 4, and
+/// the fifth, which FAW allows at 12, leaves the bus to the one of that cycle.
+pub const FIVE_BANKS: &[Step] = &[
+    Step::Act(0, 0, 0, 0),
+    Step::Act(2, 1, 0, 0),
+    Step::Rd(4, 0, 0, 0, 0),
+    Step::Act(5, 2, 0, 0),
+    Step::Act(7, 3, 0, 0),
+    Step::Rd(8, 1, 0, 0, 0),
+    Step::Rd(12, 2, 0, 0, 0),
+    Step::Act(13, 0, 1, 0),
+    Step::Rd(16, 3, 0, 0, 0),
+    Step::Rd(20, 0, 1, 0, 0),
+];
+
 /// The entries of these steps, in order.
 pub fn entries_of(alloc: Global, steps: &[Step]) -> Result<Vec<Entry>, AllocError> {
     let mut entries = Vec::new(alloc);

@@ -1,6 +1,7 @@
 //! Requests that all stand before the first cycle. In profile S an address is
 //! 64 * line + 512 * group + 2048 * bank + 8192 * row + offset.
 use super::*;
+use ddr_samples::steps;
 
 const ONE_READ: Case = Case {
     lines: &[],
@@ -84,7 +85,7 @@ fn reads_in_two_groups(rt: HostRuntime) -> Result<(), Fail> {
     check(&rt, rt.alloc(), &TWO_GROUPS)
 }
 
-/// The third ACT waits for the read of cycle 4, and the fifth, which FAW allows at 12, for the one of that cycle.
+/// Each request comes in the first cycle that the rules and the command bus leave to it.
 const FIVE_BANKS: Case = Case {
     lines: &[],
     turns: &[(
@@ -98,18 +99,7 @@ const FIVE_BANKS: Case = Case {
         ],
     )],
     outcome: Outcome {
-        commands: &[
-            Step::Act(0, 0, 0, 0),
-            Step::Act(2, 1, 0, 0),
-            Step::Rd(4, 0, 0, 0, 0),
-            Step::Act(5, 2, 0, 0),
-            Step::Act(7, 3, 0, 0),
-            Step::Rd(8, 1, 0, 0, 0),
-            Step::Rd(12, 2, 0, 0, 0),
-            Step::Act(13, 0, 1, 0),
-            Step::Rd(16, 3, 0, 0, 0),
-            Step::Rd(20, 0, 1, 0, 0),
-        ],
+        commands: steps::FIVE_BANKS,
         end: 29,
         times: &[
             (0, 4, 12),

@@ -1,5 +1,5 @@
 //! Whole traces: legal ones, of which each command comes in the first cycle that the rules leave to it.
-use ddr_samples::steps::Step;
+use ddr_samples::steps::{FIVE_BANKS, Step};
 
 /// Two rows of a bank, one after the other: RCD, RAS, RP with RC, RCD.
 const TWO_ROWS: &[Step] = &[
@@ -8,20 +8,6 @@ const TWO_ROWS: &[Step] = &[
     Step::Pre(10, 0, 0),
     Step::Act(14, 0, 0, 1),
     Step::Rd(18, 0, 0, 1, 0),
-];
-
-/// Five banks read, of which the fifth is in the first one's group. Its ACT leaves the bus to a read at 12.
-const FIVE_BANKS: &[Step] = &[
-    Step::Act(0, 0, 0, 0),
-    Step::Act(2, 1, 0, 0),
-    Step::Rd(4, 0, 0, 0, 0),
-    Step::Act(5, 2, 0, 0),
-    Step::Act(7, 3, 0, 0),
-    Step::Rd(8, 1, 0, 0, 0),
-    Step::Rd(12, 2, 0, 0, 0),
-    Step::Act(13, 0, 1, 0),
-    Step::Rd(16, 3, 0, 0, 0),
-    Step::Rd(20, 0, 1, 0, 0),
 ];
 
 /// Two reads of the open row before a row of the same bank.
