@@ -6,7 +6,7 @@
 ghost use Rattle.std.specs.Prelude.{◌≡◌, ◌<◌, IfOk};
 ghost use Rattle.ddr_channel.specs.Sound.{IsServed};
 
-use ddr_address_map::map::Map;
+use crate::requests::request_of;
 use ddr_address_map::request::{Done, Echo, Kind, Req};
 use ddr_channel::channel::Channel;
 use ddr_legality::checker;
@@ -201,17 +201,7 @@ fn is_precharge_of_all(command: Command) -> bool {
 fn request(alloc: Global, config: &Config, number: u64, echo: Echo) -> Result<Req, Fail>
     ensures { IfOk result (λ r. IsServed config.now r.place) }
 {
-    let place = Map::new(config)
-        .place(echo.addr)
-        .ok_or("outside the memory")?;
-    Ok(Req {
-        port: 0,
-        number,
-        echo,
-        place,
-        mask: 0,
-        line: Box::new(alloc, [0; 64])?,
-    })
+    request_of(alloc, config, number, echo, (0, 0))
 }
 
 /// A channel under requests by chance.

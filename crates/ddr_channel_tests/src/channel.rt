@@ -5,7 +5,7 @@ ghost use Rattle.std.specs.Prelude.{◌≡◌, ◌≤◌, IfOk};
 ghost use Rattle.ddr_timing.specs.declared.units.TheConstants.{CLOCK_STOP};
 ghost use Rattle.ddr_channel.specs.Sound.{IsServed};
 
-use ddr_address_map::map::Map;
+use crate::requests::request_of;
 use ddr_address_map::request::{Done, Echo, Kind, Line, Req};
 use ddr_channel::channel::{Channel, CycleError};
 use ddr_samples::sample::changed;
@@ -78,19 +78,8 @@ impl Access {
 fn request(alloc: Global, config: &Config, number: u64, access: Access) -> Result<Req, Fail>
     ensures { IfOk result (λ r. IsServed config.now r.place) }
 {
-    let echo = access.echo();
-    let (mask, byte) = access.mask_and_byte();
-    let place = Map::new(config)
-        .place(echo.addr)
-        .ok_or("outside the memory")?;
-    Ok(Req {
-        port: 0,
-        number,
-        echo,
-        place,
-        mask,
-        line: Box::new(alloc, [byte; 64])?,
-    })
+    let written = access.mask_and_byte();
+    request_of(alloc, config, number, access.echo(), written)
 }
 
 /// A channel of profile S with other lines, before this cycle.

@@ -3,6 +3,7 @@
 ghost use Rattle.std.specs.Prelude.{◌<◌};
 
 use super::*;
+use ddr_address_map::map::Map;
 use ddr_address_map::place::Place;
 use ddr_samples::sample::changed;
 
