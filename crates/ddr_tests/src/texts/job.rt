@@ -131,6 +131,7 @@ const ERRORS: &[(&str, ErrorKind)] = &[
     ("ddr sim --from-first", ErrorKind::UnknownArgument),
     ("ddr sim --skip 1", ErrorKind::UnknownArgument),
     ("ddr draw --tck 1", ErrorKind::UnknownArgument),
+    ("ddr sim --drampower 0", ErrorKind::UnknownArgument),
     ("ddr trace", ErrorKind::InvalidSubcommand),
     ("ddr SIM", ErrorKind::InvalidSubcommand),
     ("ddr ", ErrorKind::InvalidSubcommand),
@@ -140,6 +141,12 @@ const ERRORS: &[(&str, ErrorKind)] = &[
     ("ddr sim --trace=4294967296", ErrorKind::ValueValidation),
     ("ddr sim --trace", ErrorKind::InvalidValue),
     ("ddr replay --trace x", ErrorKind::ValueValidation),
+    ("ddr replay --drampower x", ErrorKind::ValueValidation),
+    (
+        "ddr replay --drampower 4294967296",
+        ErrorKind::ValueValidation,
+    ),
+    ("ddr replay --drampower", ErrorKind::InvalidValue),
     ("ddr replay --numbers --skip=-1", ErrorKind::ValueValidation),
     (
         "ddr replay --numbers --tck 4294967296",
@@ -203,6 +210,22 @@ const REPLAYS: &[(&str, Reading, Told)] = &[
         Told::Requests,
     ),
     ("--trace 3 --sample", OWN, Told::Trace { channel: 3 }),
+    (
+        "--drampower 3 --sample",
+        OWN,
+        Told::Drampower { channel: 3 },
+    ),
+    (
+        "--ramulator2 --sample --drampower=4294967295 --spread",
+        Reading {
+            format: Format::Ramulator2,
+            spread: true,
+            wrap: false,
+        },
+        Told::Drampower {
+            channel: 4_294_967_295,
+        },
+    ),
     (
         "--sample --spread --wrap --trace=0 --dramsim3",
         Reading {
@@ -447,6 +470,26 @@ const MISUSES: &[(&str, Misuse)] = &[
         Misuse::FirstOfNoCycles,
     ),
     (
+        "ddr replay --drampower 0 --requests",
+        Misuse::DrampowerBesideOthers,
+    ),
+    (
+        "ddr replay --trace 1 --sample --drampower 1",
+        Misuse::DrampowerBesideOthers,
+    ),
+    (
+        "ddr replay --drampower 0 --trace 0 --requests",
+        Misuse::RequestsBesideTrace,
+    ),
+    (
+        "ddr replay --numbers --drampower 0 --trace 0",
+        Misuse::DrampowerBesideOthers,
+    ),
+    (
+        "ddr replay --numbers --drampower 0",
+        Misuse::NumbersBesideOthers,
+    ),
+    (
         "ddr replay --numbers --requests",
         Misuse::NumbersBesideOthers,
     ),
@@ -459,6 +502,7 @@ const MISUSES: &[(&str, Misuse)] = &[
         Misuse::RequestsBesideTrace,
     ),
     ("ddr replay --skip 1", Misuse::PartOfNumbers),
+    ("ddr replay --drampower 0 --skip 1", Misuse::PartOfNumbers),
     ("ddr replay --requests --tck 0", Misuse::PartOfNumbers),
     ("ddr replay --numbers --tck 0", Misuse::ClockOfNoTime),
     ("ddr check --dramsim3 --ramulator2 --all", Misuse::TwoForms),
