@@ -2,3 +2,4 @@ mod ClassLemmas
 mod SumLemmas
 mod BandLemmas
 mod PercentileLemmas
+mod IntervalLemmas

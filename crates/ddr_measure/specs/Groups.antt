@@ -1,9 +1,8 @@
 -- Which requests are looked at together, and how long they took.
-use Rattle.std.specs.Prelude.{ℕ, Bool, true, false, if◌then◌else◌, List, codes, fold, Option, Some}
+use Rattle.std.specs.Prelude.{ℕ, Bool, true, false, if◌then◌else◌, List, codes, fold}
 use Rattle.ddr_address_map.specs.declared.request.Kind.{Kind}
 use Rattle.ddr_address_map.specs.declared.request.Kind.TheVariants.{Read, Write}
-use Rattle.ddr_statistics.specs.declared.counts.Finding.{Finding}
-use Rattle.ddr_statistics.specs.declared.counts.Finding.TheVariants.{Hit, Miss, Conflict}
+use Rattle.ddr_statistics.specs.Visits.{is_conflict, is_hit, is_miss}
 use Rattle.ddr_measure.specs.Distributions.{no_distribution, with_value}
 use Rattle.ddr_measure.specs.Spans.{clocks_of}
 use Rattle.ddr_measure.specs.declared.distribution.Distribution.{Distribution}
@@ -19,18 +18,6 @@ is_read Write = false
 abbrev pub is_write : Kind → Bool
 is_write Read = false
 is_write Write = true
-
-abbrev pub is_hit : Option Finding → Bool
-is_hit (Some Hit) = true
-is_hit _ = false
-
-abbrev pub is_miss : Option Finding → Bool
-is_miss (Some Miss) = true
-is_miss _ = false
-
-abbrev pub is_conflict : Option Finding → Bool
-is_conflict (Some Conflict) = true
-is_conflict _ = false
 
 abbrev pub holds : Group → Timed → Bool
 holds Reads request = is_read request.kind

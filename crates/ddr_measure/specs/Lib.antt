@@ -1,6 +1,9 @@
 pub mod Distributions
 pub mod Groups
+pub mod Intervals
+pub mod Noting
 pub mod Percentiles
+pub mod Series
 pub mod Spans
 pub mod Sums
 pub mod Text

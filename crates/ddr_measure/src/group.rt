@@ -1,7 +1,7 @@
 //! Which requests are looked at together.
 //!
 //! `timed`, `span` and `distribution` stand below, and `text` above.
-ghost use Rattle.std.specs.Prelude.{◌≡◌};
+ghost use Rattle.std.specs.Prelude.{◌≡◌, count_by};
 ghost use Rattle.ddr_measure.specs.Groups.{distribution_of, holds, name_of, noted};
 
 use crate::distribution::Distribution;
@@ -64,6 +64,16 @@ impl Group {
             self.note(span, request, &mut spread);
         }
         spread
+    }
+
+    /// How many of these requests are of them.
+    pub fn count(self, requests: &[Timed]) -> usize
+        ensures { result ≡ count_by (holds self) requests.now }
+    {
+        requests
+            .iter()
+            .filter(|request| self.holds(request))
+            .count()
     }
 
     /// Notes a request, if it is one of them.

@@ -4,11 +4,14 @@
 //! stand `ddr_address_map`, which has the kinds of requests, and `ddr_statistics`, which says how a read or a write finds its bank; above,
 //! `ddr_replay`. `timed` is a request with its cycles, `span` the clocks between two of its steps, `group` which requests are looked at
 //! together, `distribution` how some numbers of clocks are spread, `usage` what the data bus was used for, and `text` writes all of it.
+//! `interval` has the requests of each interval of time, and `series` writes the numbers of these.
 #![tactic(auto)]
 
 pub mod distribution;
 pub mod group;
+mod interval;
 pub mod percentiles;
+pub mod series;
 pub mod span;
 pub mod sums;
 pub mod text;

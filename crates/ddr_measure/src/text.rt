@@ -183,7 +183,7 @@ fn nanoseconds_line(
 }
 
 /// The mean, of which each clock counts for so many; 0 where there is no number.
-fn mean_at(scale: u32, spread: &Distribution) -> u128
+pub(crate) fn mean_at(scale: u32, spread: &Distribution) -> u128
     ensures { result ≡ mean_at scale spread.now }
 {
     quotient(
@@ -248,7 +248,7 @@ fn class_line(alloc: Global, class: usize, count: u64) -> Result<String, AllocEr
 
 /// A number of thousandths, with three digits behind the point.
 #[tactic(auto, unfolding(crate::specs::Text::thousandths))]
-fn thousandths(alloc: Global, number: u128) -> Result<String, AllocError>
+pub(crate) fn thousandths(alloc: Global, number: u128) -> Result<String, AllocError>
     ensures { IfOk result (λ text. string_bytes text ≡ thousandths number) }
 {
     let whole = number / 1000;
