@@ -1,5 +1,5 @@
 -- What the command `replay` writes, and by which faults it ends.
-use Rattle.std.specs.Prelude.{◌≡◌, ℕ, ◌<◌, ◌≤◌, Bool, true, false, nat_le, if◌then◌else◌, List, [], drop, length, map, slice_get, Option, Result, Ok, Err}
+use Rattle.std.specs.Prelude.{◌≡◌, ℕ, ◌<◌, ◌≤◌, Bool, true, false, nat_le, if◌then◌else◌, List, [], drop, length, map, max, slice_get, Option, Result, Ok, Err}
 use Rattle.std.specs.Io.KnownBytes.{Appends}
 use Rattle.std.specs.Option.{option_map_or}
 use Rattle.std.specs.Str.{IsUtf8}
@@ -17,7 +17,9 @@ use Rattle.ddr_text.specs.Instructions.{◌>>>◌}
 use Rattle.ddr_replay.specs.declared.replaying.TheConstants.{MOST_ROUNDS}
 use Rattle.ddr_stream.specs.declared.stream.TheConstants.{LONGEST_STREAM}
 use Rattle.ddr_replay.specs.declared.numbers.Requests.{Requests}
+use Rattle.ddr_measure.specs.Series.{series_text}
 use Rattle.ddr_measure.specs.Text.{measured_text}
+use Rattle.ddr_measure.specs.declared.timed.Timed.{Timed}
 use Rattle.ddr_replay.specs.Drampower.{drampower_text}
 use Rattle.ddr_replay.specs.Found.{findings_of}
 use Rattle.ddr_replay.specs.Measured.{timed_of}
@@ -39,12 +41,20 @@ listed config run =
     let channels = config.geometry.channels in
     if is_any_spent run.state channels then Err faults.ClockSpent else Ok (served_text config.geometry (findings_of run.state channels) run.ledger.served)
 
--- the numbers of the requests of such a run, behind the first so many
-abbrev pub measured : Config → ℕ → Option ℕ → Run → Result (List ℕ) Fault
-measured config skip clock run =
+-- the requests of such a run behind the first so many, as numbers are taken of them
+abbrev pub requests_behind : Config → ℕ → Run → Result (List Timed) Fault
+requests_behind config skip run =
     let channels = config.geometry.channels in
     if is_any_spent run.state channels then Err faults.ClockSpent
-    else Ok (measured_text channels clock (map (timed_of config.geometry (findings_of run.state channels)) (drop skip run.ledger.served)))
+    else Ok (map (timed_of config.geometry (findings_of run.state channels)) (drop skip run.ledger.served))
+
+-- the numbers of these
+abbrev pub measured : Config → ℕ → Option ℕ → Run → Result (List ℕ) Fault
+measured config skip clock run = requests_behind config skip run >>> λ requests. Ok (measured_text config.geometry.channels clock requests)
+
+-- those of each interval of so many cycles, which are at least one
+abbrev pub series : Config → ℕ → ℕ → Run → Result (List ℕ) Fault
+series config skip every run = requests_behind config skip run >>> λ requests. Ok (series_text (max every 1) requests)
 
 -- the trace of a channel, as a text
 abbrev pub channel_text : State → ℕ → List ℕ
@@ -54,18 +64,21 @@ channel_text s c = option_map_or (λ side. trace_text side.channel.trace side.ch
 abbrev pub channel_commands : State → ℕ → List ℕ
 channel_commands s c = option_map_or (λ side. drampower_text side.channel.trace side.channel.now) (slice_get s.channels c) []
 
--- what is to be told of a run: its statistics, its requests, the trace of a channel in one of two forms, or its numbers
+-- what is to be told of a run: its statistics, its requests, the trace of a channel in one of two forms, its numbers, or those of
+-- intervals
 abbrev pub told_of : Config → Wanted → List Requests → Run → Result (List ℕ) Fault
 told_of config told.Statistics requests run = reported config requests run
 told_of config told.Requests requests run = listed config run
 told_of config (told.Trace channel) requests run = Ok (channel_text run.state channel)
 told_of config (told.Drampower channel) requests run = Ok (channel_commands run.state channel)
 told_of config (told.Numbers skip clock) requests run = measured config skip clock run
+told_of config (told.Intervals skip every) requests run = series config skip every run
 
 -- the requests that were served are kept where they are to be told
 abbrev pub keeps_served : Wanted → Bool
 keeps_served told.Requests = true
 keeps_served (told.Numbers skip clock) = true
+keeps_served (told.Intervals skip every) = true
 keeps_served _ = false
 
 -- the commands are asked for of a channel that isn't there
@@ -96,6 +109,13 @@ IsSaid view (Err faults.ReplayLimit) said = said ≡ Err faults.ReplayLimit
 IsSaid view (Err faults.ClockSpent) said = said ≡ Err faults.ClockSpent
 IsSaid view (Err faults.OutOfMemory) said = Unit {0}
 IsSaid view (Err _) said = ⊥
+
+-- the requests that are counted, seen by the view, are these, unless memory ran out
+abbrev pub IsCounted : {X : Type 0} → (X → List Timed) → Result X Fault → Result (List Timed) Fault → Type 0
+IsCounted view (Ok x) said = said ≡ Ok (view x)
+IsCounted view (Err faults.ClockSpent) said = said ≡ Err faults.ClockSpent
+IsCounted view (Err faults.OutOfMemory) said = Unit {0}
+IsCounted view (Err _) said = ⊥
 
 -- what is answered, seen by the view, is what the body says, or its replay can go on no more
 abbrev pub IsReported : {X : Type 0} → (X → List ℕ) → Config → Taking → Wanted → List ℕ → Result X Fault → Type 0

@@ -29,8 +29,8 @@ use std::str;
 /// version, a line `---` and the stream. `taking` says how its lines are read, each of which asks for the whole line of the memory that
 /// holds an address, and whether their cycles count from the first one's. Before each round every port, from port 0 on, submits its next requests in order while their cycle is at
 /// most the rounds made so far and they aren't refused; then comes the round of `sim`; until every request was submitted and its
-/// reply released. Then `told` says what is written: statistics as TOML, the requests as CSV, a channel's trace in one of two forms, or numbers
-/// of the requests as TOML.
+/// reply released. Then `told` says what is written: statistics as TOML, the requests as CSV, a channel's trace in one of two forms, numbers
+/// of the requests as TOML, or those of each interval as CSV.
 ///
 /// Fails as `take_apart` does, then as `TraceNoSuch` where there is no channel of that number, then as `ReplayLine` or `ReplayRange` at
 /// the first line of the stream that is at fault, then as `ReplayLimit` where more than `MOST_ROUNDS` rounds are needed, or as
@@ -114,7 +114,7 @@ fn keeps_served(told: Wanted) -> bool
     ensures { result ≡ keeps_served told }
 {
     match told {
-        Wanted::Requests | Wanted::Numbers { .. } => true,
+        Wanted::Requests | Wanted::Numbers { .. } | Wanted::Intervals { .. } => true,
         _ => false,
     }
 }

@@ -5,7 +5,7 @@ ghost use Rattle.std.specs.Prelude.{◌≡◌, IfErr, IfOk};
 ghost use Rattle.ddr_trace.specs.Text.{trace_text};
 ghost use Rattle.ddr_world.specs.Kept.{state_of};
 ghost use Rattle.ddr_replay.specs.Drampower.{drampower_text};
-ghost use Rattle.ddr_replay.specs.Replays.{IsSaid, channel_commands, channel_text, listed, measured, reported, told_of};
+ghost use Rattle.ddr_replay.specs.Replays.{IsCounted, IsSaid, channel_commands, channel_text, listed, measured, reported, requests_behind, series, told_of};
 ghost use Rattle.ddr_replay.specs.View.{run_of};
 
 use crate::drampower::drampower_text;
@@ -19,7 +19,9 @@ use crate::served::served_text;
 use crate::wanted::Wanted;
 use ddr_address_map::map::Map;
 use ddr_channel::channel::Channel;
+use ddr_measure::series::series_text;
 use ddr_measure::text::measured_text;
+use ddr_measure::timed::Timed;
 use ddr_text::fault::Fault;
 use ddr_timing::config::Config;
 use ddr_trace::text::write_trace;
@@ -42,6 +44,7 @@ pub fn told_of(
         Wanted::Trace { channel } => channel_text(alloc, replaying.world(), channel),
         Wanted::Drampower { channel } => channel_commands(alloc, replaying.world(), channel),
         Wanted::Numbers { skip, clock } => measured(alloc, config, skip, clock, replaying),
+        Wanted::Intervals { skip, every } => series(alloc, config, skip, every, replaying),
     }
 }
 
@@ -75,6 +78,38 @@ fn measured(
 ) -> Result<Vec<u8>, Fault>
     ensures { IsSaid (λ v. v.items) result (measured config.now skip clock (run_of replaying.now)) }
 {
+    let requests = requests_behind(alloc, config, skip, replaying)?;
+    let channels = config.geometry.channels;
+    let text = measured_text(alloc, channels, clock, requests.as_slice())?;
+    Ok(text.into_bytes())
+}
+
+/// The numbers of each interval of so many cycles, of the requests behind the first so many. Fails as `ClockSpent` where a channel's
+/// clock has come to its end.
+fn series(
+    alloc: Global,
+    config: &Config,
+    skip: u32,
+    every: u32,
+    replaying: &Replaying,
+) -> Result<Vec<u8>, Fault>
+    ensures { IsSaid (λ v. v.items) result (series config.now skip every (run_of replaying.now)) }
+{
+    let requests = requests_behind(alloc, config, skip, replaying)?;
+    let text = series_text(alloc, every, requests.as_slice())?;
+    Ok(text.into_bytes())
+}
+
+/// The requests behind the first so many, with how each found its bank. Fails as `ClockSpent` where a channel's clock has come to its
+/// end.
+fn requests_behind(
+    alloc: Global,
+    config: &Config,
+    skip: u32,
+    replaying: &Replaying,
+) -> Result<Vec<Timed>, Fault>
+    ensures { IsCounted (λ v. v.items) result (requests_behind config.now skip (run_of replaying.now)) }
+{
     let world = replaying.world();
     let channels = config.geometry.channels;
     if is_any_spent(world, channels) {
@@ -84,8 +119,7 @@ fn measured(
     let map = Map::new(config);
     let served = behind(replaying.ledger().served(), skip);
     let requests = timed(alloc, &map, findings.as_slice(), served)?;
-    let text = measured_text(alloc, channels, clock, requests.as_slice())?;
-    Ok(text.into_bytes())
+    Ok(requests)
 }
 
 /// The statistics. Fails as `ClockSpent` where a channel's clock has come to its end.

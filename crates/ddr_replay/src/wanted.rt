@@ -15,4 +15,6 @@ pub enum Wanted {
     /// How long the requests took whose replies were released behind the first `skip` ones, and what they used of the data bus. `clock` is
     /// how many picoseconds a clock has, where that is known.
     Numbers { skip: u32, clock: Option<u32> },
+    /// What the requests whose replies were released behind the first `skip` ones come to in each interval of `every` cycles.
+    Intervals { skip: u32, every: u32 },
 }

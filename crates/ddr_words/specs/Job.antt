@@ -15,7 +15,7 @@ use Rattle.clap.specs.declared.error.kind.ErrorKind.TheVariants.{OutOfMemory}
 use Rattle.ddr_words.specs.declared.job.JobError.{JobError}
 use Rattle.ddr_words.specs.declared.job.JobError.TheVariants as errors
 use Rattle.ddr_words.specs.declared.misuse.Misuse.{Misuse}
-use Rattle.ddr_words.specs.declared.misuse.Misuse.TheVariants.{TwoForms, SpreadOfOwnForm, FirstOfNoCycles, RequestsBesideTrace, DrampowerBesideOthers, NumbersBesideOthers, PartOfNumbers, ClockOfNoTime, FaultsOfCapture, ChannelOfOwnForm, PartOfWaves}
+use Rattle.ddr_words.specs.declared.misuse.Misuse.TheVariants.{TwoForms, SpreadOfOwnForm, FirstOfNoCycles, RequestsBesideTrace, DrampowerBesideOthers, NumbersBesideOthers, PartOfNumbers, ClockOfNoTime, IntervalOfNoCycle, ClockOfIntervals, FaultsOfCapture, ChannelOfOwnForm, PartOfWaves}
 use Rattle.ddr_words.specs.declared.command.Job.{Job}
 use Rattle.ddr_words.specs.declared.command.Job.TheVariants.{Sim, Run, Replay, Measure, Check, Explain, All, Stream, Draw, Map, Lint}
 use Rattle.ddr_text.specs.declared.command.Format.{Format}
@@ -106,6 +106,10 @@ skip_rule = number_rule (codes "skip")
 abbrev pub clock_rule : Rule
 clock_rule = number_rule (codes "tck")
 
+-- the option `--every`
+abbrev pub every_rule : Rule
+every_rule = number_rule (codes "every")
+
 -- the flag `--progress`
 abbrev pub progress_rule : Rule
 progress_rule = flag_rule (codes "progress")
@@ -160,7 +164,7 @@ with_telling app = with_rule (with_rule (with_rule (with_rule app requests_rule)
 
 -- a subcommand with the options that say which numbers are told of a replay
 abbrev pub with_numbers : App → App
-with_numbers app = with_rule (with_rule (with_rule app numbers_rule) skip_rule) clock_rule
+with_numbers app = with_rule (with_rule (with_rule (with_rule app numbers_rule) skip_rule) clock_rule) every_rule
 
 -- the subcommand `replay`, with its own options behind the flag
 abbrev pub replay_app : App
@@ -270,6 +274,7 @@ pub record AreTaken (options : List Row) : Type 0 where
   pub numbers : IfSome (one_of (codes "numbers") options) (IsTaken (filled numbers_rule))
   pub skip : IfSome (one_of (codes "skip") options) (IsTaken (filled skip_rule))
   pub clock : IfSome (one_of (codes "tck") options) (IsTaken (filled clock_rule))
+  pub every : IfSome (one_of (codes "every") options) (IsTaken (filled every_rule))
   pub stream : IfSome (one_of (codes "stream") options) (IsTaken (filled stream_rule))
   pub start : IfSome (one_of (codes "start") options) (IsTaken (filled start_rule))
   pub channel : IfSome (one_of (codes "channel") options) (IsTaken (filled channel_rule))
@@ -283,7 +288,7 @@ is_subcommand name = bytes_eq name (codes "sim") || bytes_eq name (codes "run") 
 -- the job of the subcommand `replay`
 abbrev pub replay_job : List Row → Bool → Job
 replay_job options sample =
-    if is_used (codes "numbers") options then Measure sample (reading_of options) (is_used (codes "from-first") options) (unwrap_or (number_in (codes "skip") options) 0) (number_in (codes "tck") options) (is_used (codes "progress") options)
+    if is_used (codes "numbers") options then Measure sample (reading_of options) (is_used (codes "from-first") options) (unwrap_or (number_in (codes "skip") options) 0) (number_in (codes "tck") options) (number_in (codes "every") options) (is_used (codes "progress") options)
     else Replay sample (reading_of options) (is_used (codes "from-first") options) (told_of options) (is_used (codes "progress") options)
 
 -- the job of `check` on a whole trace; who asks for the first faults asks for all, which tell more than an explanation
@@ -310,21 +315,28 @@ job_with name options =
     else if bytes_eq name (codes "map") then Map (is_sample options)
     else Lint (is_sample options)
 
--- a clock that takes no time
-abbrev pub is_no_clock : Option ℕ → Bool
-is_no_clock (Some clock) = clock == 0
-is_no_clock None = false
+-- the number is there, and 0
+abbrev pub is_zero : Option ℕ → Bool
+is_zero (Some number) = number == 0
+is_zero None = false
 
 -- whether a replay is asked for its requests or for the commands of a channel
 abbrev pub tells_others : List Row → Bool
 tells_others options = is_used (codes "requests") options || is_some (trace_of options) || is_some (drampower_of options)
 
--- of the numbers of a replay: something else to be told too; a part of them, where none are told; a clock of no time
+-- whether an option is used that says which numbers are told, or how
+abbrev pub tells_part : List Row → Bool
+tells_part options = is_some (number_in (codes "skip") options) || is_some (number_in (codes "tck") options) || is_some (number_in (codes "every") options)
+
+-- of the numbers of a replay: something else to be told too; a part of them, where none are told; a clock of no time; intervals of no
+-- cycle; a clock of intervals, which are told in clocks
 abbrev pub numbers_misuse : List Row → Option Misuse
 numbers_misuse options =
     if is_used (codes "numbers") options && tells_others options then Some NumbersBesideOthers
-    else if not (is_used (codes "numbers") options) && (is_some (number_in (codes "skip") options) || is_some (number_in (codes "tck") options)) then Some PartOfNumbers
-    else if is_no_clock (number_in (codes "tck") options) then Some ClockOfNoTime
+    else if not (is_used (codes "numbers") options) && tells_part options then Some PartOfNumbers
+    else if is_zero (number_in (codes "tck") options) then Some ClockOfNoTime
+    else if is_zero (number_in (codes "every") options) then Some IntervalOfNoCycle
+    else if is_some (number_in (codes "tck") options) && is_some (number_in (codes "every") options) then Some ClockOfIntervals
     else None
 
 -- of `replay`: both other forms; ports in turn, where lines name their ports; a first cycle, where lines have none; two things to be told

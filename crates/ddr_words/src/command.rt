@@ -28,13 +28,14 @@ pub enum Job {
         progress: bool,
     },
     /// Replays a request stream, which is read so, and tells numbers of the requests behind the first `skip` ones. `clock` is how many
-    /// picoseconds a clock has, where that is known.
+    /// picoseconds a clock has, where that is known. Where `every` is there the numbers are those of each interval of so many cycles.
     Measure {
         sample: bool,
         reading: Reading,
         from_first: bool,
         skip: u32,
         clock: Option<u32>,
+        every: Option<u32>,
         /// Whether a line on standard error tells how far it is, about each second.
         progress: bool,
     },

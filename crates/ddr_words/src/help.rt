@@ -64,7 +64,9 @@ Output: statistics as TOML, once all requests are served: tables of all channels
   used, and for reads, writes, row hits, misses and conflicts how long they took between
   any two steps, with a histogram of eight classes an octave and what 50, 90, 99 and 99.9
   in a hundred don't pass. --skip N leaves out the first N requests that are served;
-  --tck P, the picoseconds of a clock, tells nanoseconds and bytes a second too.
+  --tck P, the picoseconds of a clock, tells nanoseconds and bytes a second too. With
+  --every N a line of comma-separated values for each interval of N cycles in their place:
+  which requests were complete in it, and how long the data buses were busy.
   With --progress a line on standard error says about each second how far it is; the
   output stays the same.
 Status: 0; 2 for a bad input or command line; 3 where the device, the memory or the

@@ -10,7 +10,7 @@ use crate::command::{Job, Picture};
 use crate::help;
 use crate::misuse::{Misuse, misuse_of};
 use crate::options::{
-    channel_of, clock_of, drampower_of, from_of, is_all, is_explained, is_from_first,
+    channel_of, clock_of, drampower_of, every_of, from_of, is_all, is_explained, is_from_first,
     is_of_dramsim3, is_of_numbers, is_of_ramulator2, is_of_requests, is_progress, is_sample,
     is_spread, is_streamed, is_svg, is_wrapped, most_of, skip_of, start_of, to_of, trace_of,
 };
@@ -32,7 +32,7 @@ pub enum JobError {
 /// The subcommands are `sim`, `run`, `replay`, `check`, `draw`, `map` and `lint`. Each has the flag `--sample`, `sim` the option `--trace C`
 /// with the number of a channel, a `u32`, and `check` the flags `--explain` and `--all` and the option `--most N` with a `u32`, which
 /// asks for all faults too. `replay` has the flags `--dramsim3`, `--ramulator2`, `--spread`, `--wrap`, `--from-first`, `--requests`, `--progress` and
-/// `--numbers`, and `--trace C`, `--drampower C`, `--skip N` and `--tck PICOSECONDS`, each with a `u32`. `check` has the flags `--stream`, `--dramsim3` and `--ramulator2` and the options `--start CYCLE` with a `u64` and
+/// `--numbers`, and `--trace C`, `--drampower C`, `--skip N`, `--tck PICOSECONDS` and `--every CYCLES`, each with a `u32`. `check` has the flags `--stream`, `--dramsim3` and `--ramulator2` and the options `--start CYCLE` with a `u64` and
 /// `--channel C` with a `u32` too: each of them asks for captured commands. `draw` has the flag `--svg` and the options `--from CYCLE` and
 /// `--to CYCLE`. No words, or the name alone, are read as `sim --sample`.
 ///
@@ -116,6 +116,7 @@ fn replay_job(options: &ArgMatches<'_>, sample: bool) -> Job
             from_first: is_from_first(options),
             skip: skip_of(options).unwrap_or(0),
             clock: clock_of(options),
+            every: every_of(options),
             progress: is_progress(options),
         }
     } else {
@@ -330,7 +331,9 @@ fn with_numbers<'a>(alloc: Global, command: Command<'a>) -> Result<Command<'a>, 
     let skipping = counting.arg(number_option(alloc, "skip", "N", about))?;
     let about =
         "Tells times in nanoseconds too, where a clock takes so many picoseconds, with --numbers";
-    skipping.arg(number_option(alloc, "tck", "PICOSECONDS", about))
+    let timing = skipping.arg(number_option(alloc, "tck", "PICOSECONDS", about))?;
+    let about = "Tells the numbers of each interval of so many cycles, as CSV, with --numbers";
+    timing.arg(number_option(alloc, "every", "CYCLES", about))
 }
 
 /// The command with the subcommand that checks a trace, which has options of its own.

@@ -3,10 +3,10 @@
 //! `options` stands below, and `job` and `ending` above.
 ghost use Rattle.std.specs.Prelude.{◌≡◌};
 ghost use Rattle.clap.specs.Words.{found_of, rows_of};
-ghost use Rattle.ddr_words.specs.Job.{AreTaken, check_misuse, draw_misuse, misuse_of, numbers_misuse, replay_misuse, tells_faults, tells_others};
+ghost use Rattle.ddr_words.specs.Job.{AreTaken, check_misuse, draw_misuse, misuse_of, numbers_misuse, replay_misuse, tells_faults, tells_others, tells_part};
 
 use crate::options::{
-    channel_of, clock_of, drampower_of, from_of, is_all, is_explained, is_from_first,
+    channel_of, clock_of, drampower_of, every_of, from_of, is_all, is_explained, is_from_first,
     is_of_numbers, is_of_ramulator2, is_of_requests, is_spread, is_streamed, is_svg, most_of,
     names_form, names_two_forms, skip_of, to_of, trace_of,
 };
@@ -35,11 +35,17 @@ pub enum Misuse {
     #[error("--numbers says what is told, and so does --requests, --trace or --drampower: one of them can be")]
     NumbersBesideOthers,
     /// Statistics, requests and traces are those of the whole run, in clocks.
-    #[error("--skip and --tck need --numbers: all else is told of the whole run, in clocks")]
+    #[error("--skip, --tck and --every need --numbers: all else is told of the whole run, in clocks")]
     PartOfNumbers,
     /// A clock takes time.
     #[error("--tck 0 is no clock: it is how many picoseconds one takes")]
     ClockOfNoTime,
+    /// An interval has a cycle.
+    #[error("--every 0 is no interval: it is how many cycles each one has")]
+    IntervalOfNoCycle,
+    /// The numbers of intervals are told in clocks.
+    #[error("--tck says how times are told in nanoseconds, and --every tells them in clocks: one of them can be")]
+    ClockOfIntervals,
     /// Captured commands are judged as they come, and their first faults alone are told.
     #[error("--explain, --all and --most need a whole trace: captured commands are judged as they come")]
     FaultsOfCapture,
@@ -93,15 +99,25 @@ fn numbers_misuse(options: &ArgMatches<'_>) -> Option<Misuse>
 {
     if is_of_numbers(options) && tells_others(options) {
         Some(Misuse::NumbersBesideOthers)
-    } else if !is_of_numbers(options)
-        && (skip_of(options).is_some() || clock_of(options).is_some())
-    {
+    } else if !is_of_numbers(options) && tells_part(options) {
         Some(Misuse::PartOfNumbers)
     } else if clock_of(options) == Some(0) {
         Some(Misuse::ClockOfNoTime)
+    } else if every_of(options) == Some(0) {
+        Some(Misuse::IntervalOfNoCycle)
+    } else if clock_of(options).is_some() && every_of(options).is_some() {
+        Some(Misuse::ClockOfIntervals)
     } else {
         None
     }
+}
+
+/// Whether an option is used that says which numbers are told, or how.
+fn tells_part(options: &ArgMatches<'_>) -> bool
+    requires { AreTaken (rows_of (found_of options.now)) }
+    ensures { result ≡ tells_part (rows_of (found_of options.now)) }
+{
+    skip_of(options).is_some() || clock_of(options).is_some() || every_of(options).is_some()
 }
 
 /// Whether the options ask a replay for its requests or for the commands of a channel.

@@ -163,6 +163,14 @@ pub(crate) fn clock_of(options: &ArgMatches<'_>) -> Option<u32>
     options.get_one::<u32>("tck")
 }
 
+/// The cycles of the option `--every`, if that was used.
+pub(crate) fn every_of(options: &ArgMatches<'_>) -> Option<u32>
+    requires { AreTaken (rows_of (found_of options.now)) }
+    ensures { result ≡ number_in (codes "every") (rows_of (found_of options.now)) }
+{
+    options.get_one::<u32>("every")
+}
+
 /// Whether the flag `--all` was used.
 pub(crate) fn is_all(options: &ArgMatches<'_>) -> bool
     requires { AreTaken (rows_of (found_of options.now)) }

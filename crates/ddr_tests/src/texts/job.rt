@@ -269,26 +269,29 @@ fn replays(rt: HostRuntime) -> Result<(), Fail> {
     states(&rt, alloc, "ddr replay", plain)
 }
 
-/// Words behind `ddr replay --sample --numbers`, how many requests are left out, and how long a clock takes.
-const NUMBERS: &[(&str, u32, Option<u32>)] = &[
-    ("", 0, None),
-    (" --skip 0", 0, None),
-    (" --skip=4294967295", 4_294_967_295, None),
-    (" --tck 833", 0, Some(833)),
-    (" --tck=1 --skip 12", 12, Some(1)),
+/// Words behind `ddr replay --sample --numbers`, how many requests are left out, how long a clock takes, and how many cycles an interval has.
+const NUMBERS: &[(&str, u32, Option<u32>, Option<u32>)] = &[
+    ("", 0, None, None),
+    (" --skip 0", 0, None, None),
+    (" --skip=4294967295", 4_294_967_295, None, None),
+    (" --tck 833", 0, Some(833), None),
+    (" --tck=1 --skip 12", 12, Some(1), None),
+    (" --every 1", 0, None, Some(1)),
+    (" --every=4294967295 --skip 3", 3, None, Some(4_294_967_295)),
 ];
 
 #[test]
 fn numbers(rt: HostRuntime) -> Result<(), Fail> {
     let alloc = rt.alloc();
-    for (words, skip, clock) in NUMBERS {
-        let (skip, clock) = (*skip, *clock);
+    for (words, skip, clock, every) in NUMBERS {
+        let (skip, clock, every) = (*skip, *clock, *every);
         let wanted = Job::Measure {
             sample: true,
             reading: OWN,
             from_first: false,
             skip,
             clock,
+            every,
             progress: false,
         };
         let line = format!(in alloc; "ddr replay --sample --numbers{words}")?;
@@ -304,6 +307,7 @@ fn numbers(rt: HostRuntime) -> Result<(), Fail> {
         from_first: true,
         skip: 3,
         clock: Some(625),
+        every: None,
         progress: true,
     };
     let line =
@@ -504,6 +508,21 @@ const MISUSES: &[(&str, Misuse)] = &[
     ("ddr replay --skip 1", Misuse::PartOfNumbers),
     ("ddr replay --drampower 0 --skip 1", Misuse::PartOfNumbers),
     ("ddr replay --requests --tck 0", Misuse::PartOfNumbers),
+    ("ddr replay --every 7", Misuse::PartOfNumbers),
+    ("ddr replay --trace 1 --every 0", Misuse::PartOfNumbers),
+    ("ddr replay --numbers --every 0", Misuse::IntervalOfNoCycle),
+    (
+        "ddr replay --numbers --every 0 --tck 5",
+        Misuse::IntervalOfNoCycle,
+    ),
+    (
+        "ddr replay --numbers --every 0 --tck 0",
+        Misuse::ClockOfNoTime,
+    ),
+    (
+        "ddr replay --numbers --tck 1 --every 1",
+        Misuse::ClockOfIntervals,
+    ),
     ("ddr replay --numbers --tck 0", Misuse::ClockOfNoTime),
     ("ddr check --dramsim3 --ramulator2 --all", Misuse::TwoForms),
     ("ddr check --stream --explain", Misuse::FaultsOfCapture),
