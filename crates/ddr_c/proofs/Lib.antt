@@ -1,4 +1,5 @@
 pub mod FollowLemmas
+pub mod HandleLemmas
 pub mod OpenLemmas
 pub mod ReplyLemmas
 pub mod TraceLemmas

@@ -1,5 +1,4 @@
 pub mod Bus
 pub mod Calls
 pub mod Faults
-pub mod Held
 pub mod Opens

@@ -1,8 +1,11 @@
 //! A box that C can hold as a pointer, or nothing. Contracts see the judge that it holds.
 //!
-//! `ddr_loose` stands below, and `slot` above. The pointer that C sees has no type, since no pointer to a vector may cross.
+//! `ddr_loose` stands below, whose `proofs/Handles.antt` has the proofs of the three functions, and `slot` above. The pointer that C sees
+//! has no type, since no pointer to a vector may cross; and the struct has no type parameter, since none such may cross either.
 ghost use Rattle.std.specs.Prelude.{◌≡◌, true, IsSome, None, Option, Some};
-ghost use Rattle.ddr_judge_c.specs.Held.{held, held_coded};
+ghost use Rattle.std.specs.Coded.{coded_option};
+ghost use Rattle.ddr_loose.specs.Held.{held};
+ghost use Rattle.ddr_judge_c.specs.contracts.judge.Judge.{the_row};
 ghost use Rattle.ddr_judge_c.specs.declared.judge.Judge.{Judge};
 
 use crate::judge::Judge;
@@ -16,11 +19,11 @@ use std::marker::Model;
 pub struct Handle {
     at: *mut (),
     alloc: Global,
-    pub ghost holds: { Option Judge } by { held_coded },
+    pub ghost holds: { Option Judge } by { coded_option the_row.coded },
 }
 
 impl Model for Handle {
-    ghost also_owns = { λ h. held h.holds h.alloc h.at };
+    ghost also_owns = { λ h. held the_row h.holds h.alloc h.at };
 }
 
 impl Handle {
