@@ -1,11 +1,10 @@
 -- What comes of opening a core.
-use Rattle.std.specs.Prelude.{◌≡◌, ◌≢◌, ◌⊎◌, ℕ, ℤ, List, [], ◌++◌, drop, length, replicate, take, Option, Some, None}
+use Rattle.std.specs.Prelude.{◌≡◌, ◌≢◌, ◌⊎◌, ℕ, ℤ, List, [], replicate, Option, Some, None}
 use Rattle.std.specs.Str.{IsUtf8}
 use Rattle.toml.specs.Parse.{parse_document}
 use Rattle.ddr_timing.specs.declared.config.Config.{Config}
-use Rattle.ddr_timing.specs.declared.error.ConfigError.{ConfigError}
-use Rattle.ddr_timing.specs.Refusals.{refusal_of}
 use Rattle.ddr_timing.specs.Values.{IsReadAs}
+use Rattle.ddr_loose.specs.Text.{IsMessage, IsRefusedText}
 use Rattle.ddr_world.specs.Kept.{state_of}
 use Rattle.ddr_world.specs.Record.{StandsFor}
 use Rattle.ddr_world.specs.State.{opened}
@@ -25,21 +24,13 @@ abbrev pub IsOpened : Config → ℤ → Option Core → Type 0
 IsOpened config told None = told ≡ code.NO_MEMORY
 IsOpened config told (Some core) = (told ≡ code.OK) × IsFresh config core
 
--- the text is none of a configuration: it is no UTF-8, or is refused
-abbrev pub IsRefusedText : List ℕ → Type 0
-IsRefusedText text = (¬ (IsUtf8 text)) ⊎ ((cause : ConfigError) × (refusal_of (parse_document text) ≡ Some cause))
-
 -- the core is that of the configuration which the text is read as; or there is none, since the text is refused, or it is UTF-8 and
 -- memory was refused
 abbrev pub IsOpening : List ℕ → ℤ → Option Core → Type 0
 IsOpening text told None = ((told ≡ code.CONFIG) × IsRefusedText text) ⊎ ((told ≡ code.NO_MEMORY) × IsUtf8 text)
 IsOpening text told (Some core) = (told ≡ code.OK) × ((config : Config) × IsReadAs (parse_document text) config × IsFresh config core)
 
--- a text in front of what is there, as far as it fits
-abbrev pub message_after : List ℕ → List ℕ → List ℕ
-message_after text there = take (length there) text ++ drop (length text) there
-
 -- a refusal's text is shown where the code is that of one, with its whole length, and else nothing is written
 pub record IsShown (told : ℤ) (old new : List ℕ) (length_old length_new : ℕ) : Type 0 where
-  pub shown : told ≡ code.CONFIG → (text : List ℕ) × (new ≡ message_after text old) × (length_new ≡ length text)
+  pub shown : told ≡ code.CONFIG → IsMessage old new length_new
   pub untouched : told ≢ code.CONFIG → (new ≡ old) × (length_new ≡ length_old)

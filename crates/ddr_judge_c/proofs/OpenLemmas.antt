@@ -1,5 +1,5 @@
 -- A judge of the configuration that a text is read as.
-use Rattle.std.proofs.Common.{◌≡◌, ℕ, List, Option, Some, None, inr, subst}
+use Rattle.std.proofs.Common.{ℕ, List, Option, Some, None, inr}
 use Rattle.std.specs.Prelude.{ℤ}
 use Rattle.std.specs.Str.{IsUtf8}
 use Rattle.toml.specs.Parse.{parse_document}
@@ -8,6 +8,6 @@ use Rattle.ddr_timing.specs.Values.{IsReadAs}
 use Rattle.ddr_judge_c.specs.declared.judge.Judge.{Judge}
 use Rattle.ddr_judge_c.specs.Opens.{IsOpened, IsOpening}
 
-pub opening : (text inner : List ℕ) (config : Config) (start : ℕ) (told : ℤ) (held : Option Judge) → inner ≡ text → IsUtf8 text → IsReadAs (parse_document inner) config → IsOpened config start told held → IsOpening text start told held
-opening text inner config start told None same letters read is = inr (is, letters)
-opening text inner config start told (Some core) same letters read is = (is.0, (config, subst (λ (t : List ℕ). IsReadAs (parse_document t) config) same read, is.1))
+pub opening : (text : List ℕ) (config : Config) (start : ℕ) (told : ℤ) (held : Option Judge) → IsUtf8 text × IsReadAs (parse_document text) config → IsOpened config start told held → IsOpening text start told held
+opening text config start told None read is = inr (is, read.0)
+opening text config start told (Some judge) read is = (is.0, (config, read.1, is.1))

@@ -1,15 +1,15 @@
 //! Opening a judge from a configuration's text.
 //!
-//! `judge` and `slot` stand below, and `lib` above.
-ghost use Rattle.std.specs.Prelude.{◌≡◌, ◌≢◌, ◌⊎◌, ◌++◌, ◌-◌, drop, length, take, None};
+//! `judge` and `slot` stand below, and `ddr_loose`, which reads the text; `lib` above.
+ghost use Rattle.std.specs.Prelude.{◌≡◌, None};
 ghost use Rattle.ddr_judge_c.specs.Calls.{judge_in};
-ghost use Rattle.ddr_judge_c.specs.Opens.{IsOpened, IsOpening, IsShown, message_after};
+ghost use Rattle.ddr_judge_c.specs.Opens.{IsOpened, IsOpening, IsShown};
 
 use crate::codes::{CONFIG, NO_MEMORY, OK};
 use crate::judge::Judge;
 use crate::slot::Slot;
+use ddr_loose::text::{Unread, read_config};
 use ddr_timing::config::Config;
-use ddr_timing::error::ConfigError;
 use std::alloc::Global;
 
 /// Opens a judge in a closed slot. A refusal's text is copied as far as it fits, and its whole length told.
@@ -25,14 +25,10 @@ pub(crate) fn open(
     ensures opened { IsOpening text.now start result (judge_in slot.new) }
     ensures shown { IsShown result message.old message.new length.old length.new }
 {
-    let Ok(text) = std::str::from_utf8(text) else {
-        *length = copied("the configuration is not UTF-8", message);
-        return CONFIG;
-    };
-    match Config::read(alloc, text) {
+    match read_config(alloc, text, message, length) {
         Ok(config) => opened(alloc, slot, &config, start),
-        Err(ConfigError::OutOfMemory) => NO_MEMORY,
-        Err(error) => told(alloc, &error, message, length),
+        Err(Unread::Refused) => CONFIG,
+        Err(Unread::OutOfMemory) => NO_MEMORY,
     }
 }
 
@@ -51,29 +47,4 @@ fn opened(alloc: Global, slot: &mut Slot, config: &Config, start: u64) -> i32
         }
         Err(_) => NO_MEMORY,
     }
-}
-
-/// Copies the text of a configuration's refusal, and tells its code.
-fn told(alloc: Global, error: &ConfigError, message: &mut [u8], length: &mut u64) -> i32
-    ensures code { (result ≡ CONFIG) ⊎ (result ≡ NO_MEMORY) }
-    ensures shown { IsShown result message.old message.new length.old length.new }
-{
-    match format!(in alloc; "{error}") {
-        Ok(text) => {
-            *length = copied(text.as_str(), message);
-            CONFIG
-        }
-        Err(_) => NO_MEMORY,
-    }
-}
-
-/// Copies a text as far as it fits, and tells its whole length.
-fn copied(text: &str, buffer: &mut [u8]) -> u64
-    ensures length { result ≡ length text.now }
-    ensures copied { buffer.new ≡ message_after text.now buffer.old }
-{
-    let bytes = text.as_bytes();
-    let count = bytes.len().min(buffer.len());
-    buffer[..count].copy_from_slice(&bytes[..count]);
-    bytes.len() as u64
 }

@@ -6,7 +6,7 @@ use Rattle.ddr_judge_c.specs.Opens.{IsOpening}
 use Rattle.ddr_judge_c.proofs.OpenLemmas.{opening}
 use Rattle.ddr_judge_c.proofs.open.open.Goals as goal
 
-pub returns-in-Ok-read-clause-opened : goal.returns-in-Ok-read-clause-opened
-returns-in-Ok-read-clause-opened c =
+pub returns-in-Ok-clause-opened : goal.returns-in-Ok-clause-opened
+returns-in-Ok-clause-opened c =
     subst (λ (told : ℤ). IsOpening c.args.text.now c.args.start told (judge_in c.opened.new.slot)) (sym (to_z-of_z w32 c.opened.result (search rules)))
-    (opening c.args.text.now c.in-Ok.text.now c.in-Ok-read.config c.args.start c.opened.result (judge_in c.opened.new.slot) c.in-Ok.ensures.cases.0 c.in-Ok.ensures.cases.1 c.in-Ok-read.ensures.read c.opened.ensures)
+    (opening c.args.text.now c.in-Ok.config c.args.start c.opened.result (judge_in c.opened.new.slot) c.in-Ok.ensures.read c.opened.ensures)
