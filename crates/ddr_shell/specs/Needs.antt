@@ -8,5 +8,5 @@ abbrev pub needs_scheduler : Job → Bool
 needs_scheduler (job.Sim sample trace) = true
 needs_scheduler (job.Run sample) = true
 needs_scheduler (job.Replay sample reading from_first told progress) = true
-needs_scheduler (job.Measure sample reading from_first skip clock progress) = true
+needs_scheduler (job.Measure sample reading from_first skip clock every progress) = true
 needs_scheduler _ = false
