@@ -1,6 +1,7 @@
 pub mod AllowedLemmas
 pub mod BrokenLemmas
 pub mod ColumnLemmas
+pub mod FewLemmas
 pub mod IssuedLemmas
 pub mod KeptLemmas
 pub mod LegalLemmas

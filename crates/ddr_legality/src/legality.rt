@@ -1,5 +1,5 @@
 //! What was issued on a channel's command bus, and what may be issued next.
-ghost use Rattle.std.specs.Prelude.{◌≡◌, ℕ, ◌+◌, ◌-◌, ◌<◌, ◌≤◌, ◌↔◌, ◌&&◌, nat_le, [], ◌∷◌, ◌++◌, None, Some, IsOk, IfOk, OnErr, OnOk, MatchResult};
+ghost use Rattle.std.specs.Prelude.{◌≡◌, ℕ, ◌+◌, ◌-◌, ◌<◌, ◌≤◌, ◌↔◌, ◌&&◌, nat_le, [], ◌∷◌, ◌++◌, true, false, None, Some, IsOk, IfOk, OnErr, OnOk, MatchResult, vec_len, vec_capacity};
 ghost use Rattle.ddr_timing.specs.declared.units.TheConstants.{CLOCK_STOP};
 ghost use Rattle.ddr_trace.specs.Banks.{bank_behind, ready_row};
 ghost use Rattle.ddr_trace.specs.Bus.{KeepsBus};
@@ -10,6 +10,7 @@ ghost use Rattle.ddr_rank.specs.Ready.{LAST_CYCLE};
 ghost use Rattle.ddr_legality.specs.Bus.{broken_now, fits_now, is_legal_now, keeps_distances_now, open_row_now, opened, passed, recorded, ticked};
 
 use crate::issued::Issued;
+use ddr_past::past::Past;
 use ddr_timing::config::Config;
 use ddr_trace::command::{Command, Entry};
 use ddr_trace::rule::Rule;
@@ -17,11 +18,16 @@ use std::alloc::{AllocError, Global};
 use std::marker::Model;
 
 /// A channel's command bus: the commands issued on it, each with its cycle, and the cycle that comes next.
-/// Contracts see that, and for how many further entries there is room (`spare`).
+/// Contracts see that, for how many further entries there is room (`spare`), and whether the entries are kept (`keeps`): of a bus that
+/// keeps none, contracts alone know what was issued.
 #[derive(Drop)]
 pub struct Legality {
     issued: Issued,
     now: u64,
+    // What was issued, for contracts alone.
+    past: Past<Entry>,
+    keeps: bool,
+    // What was issued, where it is kept; else none.
     entries: Vec<Entry>,
 }
 
@@ -37,17 +43,60 @@ impl Model for Legality {
     ghost invariant = { IsWhole };
 }
 
+// Notes the entry, where entries are kept.
+#[inline(always)]
+fn note(keeps: bool, entries: &mut Vec<Entry>, entry: Entry)
+    requires { keeps ≡ true → vec_len entries.old < vec_capacity entries.old }
+    ensures kept { keeps ≡ true → entries.new.items ≡ entries.old.items ++ entry ∷ [] }
+    ensures length { keeps ≡ true → vec_len entries.new ≡ vec_len entries.old + 1 }
+    ensures capacity { vec_capacity entries.new ≡ vec_capacity entries.old }
+    ensures unkept { keeps ≡ false → entries.new ≡ entries.old }
+{
+    if keeps {
+        entries.push_reserved(entry);
+    }
+}
+
 impl Legality {
     /// A bus on which nothing was issued, and whose first cycle is `first`.
     pub fn open(alloc: Global, config: &Config, first: u64) -> Result<Legality, AllocError>
         requires { first ≤ CLOCK_STOP }
-        ensures { IfOk result (λ l. l.bus ≡ opened config.now first) }
+        ensures bus { IfOk result (λ l. l.bus ≡ opened config.now first) }
+        ensures keeps { IfOk result (λ l. l.keeps ≡ true) }
     {
         Ok(Legality {
             issued: Issued::open(alloc, config, first)?,
             now: first,
+            past: Past::new(),
+            keeps: true,
             entries: Vec::new(alloc),
         })
+    }
+
+    /// As `open`, but no entry is kept, so that it takes no more memory however much is issued.
+    pub fn open_without_entries(
+        alloc: Global,
+        config: &Config,
+        first: u64,
+    ) -> Result<Legality, AllocError>
+        requires { first ≤ CLOCK_STOP }
+        ensures bus { IfOk result (λ l. l.bus ≡ opened config.now first) }
+        ensures keeps { IfOk result (λ l. l.keeps ≡ false) }
+    {
+        Ok(Legality {
+            issued: Issued::open(alloc, config, first)?,
+            now: first,
+            past: Past::new(),
+            keeps: false,
+            entries: Vec::new(alloc),
+        })
+    }
+
+    /// Whether the entries are kept: `open` keeps them, and `open_without_entries` doesn't.
+    pub fn keeps_entries(&self) -> bool
+        ensures { result ≡ self.entry.now.keeps }
+    {
+        self.keeps
     }
 
     /// The first cycle.
@@ -123,13 +172,18 @@ impl Legality {
         self.issued.allowed_at(self.now, &command)
     }
 
-    /// Makes room for one more entry. Where there is room, nothing is asked for and nothing changes.
+    /// Makes room for one more entry. Where there is room, as always where no entry is kept, nothing is asked for and nothing
+    /// changes.
     pub fn reserve_entry(&mut self) -> Result<(), AllocError>
         ensures same { self.new.bus ≡ self.old.bus }
+        ensures keeps { self.new.keeps ≡ self.old.keeps }
         ensures room { OnOk result (1 ≤ self.new.spare) }
         ensures ready { 1 ≤ self.old.spare → IsOk result × (self.new ≡ self.old) }
         ensures err { OnErr result (self.new ≡ self.old) }
     {
+        if !self.keeps {
+            return Ok(());
+        }
         if self.entries.len() < self.entries.capacity() {
             return Ok(());
         }
@@ -142,13 +196,15 @@ impl Legality {
         requires room { 1 ≤ self.old.spare }
         ensures bus { self.new.bus ≡ recorded command self.old.bus }
         ensures spare { self.new.spare + 1 ≡ self.old.spare }
+        ensures keeps { self.new.keeps ≡ self.old.keeps }
     {
         let entry = Entry {
             cycle: self.now,
             command,
         };
         self.issued.issue(&entry);
-        self.entries.push_reserved(entry);
+        self.past = self.past.and(&entry);
+        note(self.keeps, &mut self.entries, entry);
     }
 
     /// Goes on to the next cycle.
@@ -156,6 +212,7 @@ impl Legality {
         requires { self.old.bus.now < CLOCK_STOP }
         ensures bus { self.new.bus ≡ ticked self.old.bus }
         ensures spare { self.new.spare ≡ self.old.spare }
+        ensures keeps { self.new.keeps ≡ self.old.keeps }
     {
         self.now += 1;
     }
@@ -165,6 +222,7 @@ impl Legality {
         requires { self.old.bus.now + count ≤ CLOCK_STOP }
         ensures bus { self.new.bus ≡ passed count self.old.bus }
         ensures spare { self.new.spare ≡ self.old.spare }
+        ensures keeps { self.new.keeps ≡ self.old.keeps }
     {
         self.now += count;
     }
@@ -186,24 +244,28 @@ impl Legality {
         self.issued.ready_row(rank, group, bank)
     }
 
-    /// The commands so far. They are legal, in a trace that ends behind this cycle, and no two of their bursts
-    /// overlap on the data bus.
+    /// The commands so far, where they are kept; else none. They are legal, in a trace that ends behind this cycle, and no two of
+    /// their bursts overlap on the data bus.
     pub fn entries(&self) -> &[Entry]
-        ensures value { result.now ≡ self.entry.now.bus.trace }
-        ensures legal { let b = self.entry.now.bus in IsLegal b.config b.start (b.now + 1) result.now }
-        ensures bus { KeepsBus self.entry.now.bus.config.timing result.now }
+        ensures value { self.entry.now.keeps ≡ true → result.now ≡ self.entry.now.bus.trace }
+        ensures legal { let b = self.entry.now.bus in self.entry.now.keeps ≡ true → IsLegal b.config b.start (b.now + 1) result.now }
+        ensures bus { self.entry.now.keeps ≡ true → KeepsBus self.entry.now.bus.config.timing result.now }
+        ensures nothing { self.entry.now.keeps ≡ false → result.now ≡ [] }
     {
         self.entries.as_slice()
     }
 
-    /// The commands so far, legal as `entries` says. The bus is given up.
+    /// The commands so far, where they are kept, legal as `entries` says; else none. The bus is given up.
     pub fn into_entries(self) -> Vec<Entry>
-        ensures value { result.items ≡ self.bus.trace }
-        ensures legal { IsLegal self.bus.config self.bus.start (self.bus.now + 1) result.items }
+        ensures value { self.keeps ≡ true → result.items ≡ self.bus.trace }
+        ensures legal { self.keeps ≡ true → IsLegal self.bus.config self.bus.start (self.bus.now + 1) result.items }
+        ensures nothing { self.keeps ≡ false → result.items ≡ [] }
     {
         let Legality {
             issued: _,
             now: _,
+            past: _,
+            keeps: _,
             entries,
         } = self;
         entries

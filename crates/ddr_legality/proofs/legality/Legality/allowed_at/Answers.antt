@@ -10,12 +10,12 @@ pub returns-clause-first : goal.returns-clause-first
 returns-clause-first c =
     let a = c.self.inside in
     rw (← c.self.view_is)
-    (λ cycle begun below. c.allowed_at.ensures.first a.entries.items cycle c.self.invariant.issued begun below)
+    (λ cycle begun below. c.allowed_at.ensures.first a.past.items cycle c.self.invariant.issued begun below)
 
 pub returns-clause-legal : goal.returns-clause-legal
 returns-clause-legal c =
     let a = c.self.inside in
     rw (← c.self.view_is)
     (λ cycle begun below.
-    fits_and_keeps (λ r. is_on_commands r && breaks a.issued.config a.issued.start (cycle + 1) r a.entries.items (entry cycle c.args.command))
-    ∙ ap (λ w. state_fits a.issued.config a.entries.items (entry cycle c.args.command) && w) (c.allowed_at.ensures.first a.entries.items cycle c.self.invariant.issued begun below))
+    fits_and_keeps (λ r. is_on_commands r && breaks a.issued.config a.issued.start (cycle + 1) r a.past.items (entry cycle c.args.command))
+    ∙ ap (λ w. state_fits a.issued.config a.past.items (entry cycle c.args.command) && w) (c.allowed_at.ensures.first a.past.items cycle c.self.invariant.issued begun below))

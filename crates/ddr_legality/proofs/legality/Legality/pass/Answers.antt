@@ -9,8 +9,12 @@ pub invariant_of-self : goal.invariant_of-self
 invariant_of-self c = record {
   issued = c.self.invariant.issued;
   legal = (let a = c.self.inside in
-      subst (λ (n : ℕ). IsLegal a.issued.config a.issued.start n a.entries.items) (omega arith)
-      (IsLegal-later_by c.args.count a.issued.config a.issued.start (a.now + 1) a.entries.items c.self.invariant.legal));
+      subst (λ (n : ℕ). IsLegal a.issued.config a.issued.start n a.past.items) (omega arith)
+      (IsLegal-later_by c.args.count a.issued.config a.issued.start (a.now + 1) a.past.items c.self.invariant.legal));
   begun = omega (arith, c.self.invariant.begun);
   clock = omega (arith, ap (λ (k : Kept). k.bus.now) c.self.view_is);
+  few = c.self.invariant.few;
+  reach = c.self.invariant.reach;
+  kept = c.self.invariant.kept;
+  unkept = c.self.invariant.unkept;
 }
