@@ -121,15 +121,15 @@ stands_without a p r calls whole served full same stands =
 
 -- a channel's fields before the first cycle
 
-abbrev pub fields_open : Config → ℕ → ℕ → Rows → Inside
-fields_open config first spare rows = record {
+abbrev pub fields_open : Config → ℕ → ℕ → Bool → Rows → Inside
+fields_open config first spare keeps rows = record {
   config = config;
   pending = pending.opened config.limits.reads config.limits.writes;
   drain = false;
   debts = refreshes.opened config.timing ∷ refreshes.opened config.timing ∷ [];
   flight = buffer [] config.limits.done;
   done = buffer [] config.limits.done;
-  legality = record { bus = bus.opened config first; spare = spare };
+  legality = record { bus = bus.opened config first; spare = spare; keeps = keeps };
   rows = rows;
   still_until = 0;
   owes_refresh = false;
@@ -137,12 +137,12 @@ fields_open config first spare rows = record {
 
 pub fields_are_open : (config : Config) (first : ℕ) (p : PendingList) (debts : List Refreshes) (flight done : Buffer Completion) (l : legality.Kept) (rows : Rows) →
     p ≡ pending.opened config.limits.reads config.limits.writes → debts ≡ refreshes.opened config.timing ∷ refreshes.opened config.timing ∷ [] → flight ≡ buffer [] config.limits.done → done ≡ buffer [] config.limits.done → l.bus ≡ bus.opened config first →
-    record { config = config; pending = p; drain = false; debts = debts; flight = flight; done = done; legality = l; rows = rows; still_until = 0; owes_refresh = false } ≡ fields_open config first l.spare rows
+    record { config = config; pending = p; drain = false; debts = debts; flight = flight; done = done; legality = l; rows = rows; still_until = 0; owes_refresh = false } ≡ fields_open config first l.spare l.keeps rows
 fields_are_open config first p debts flight done l rows p_is debts_are flight_is done_is bus_are =
-    λ i. record { config = config; pending = p_is i; drain = false; debts = debts_are i; flight = flight_is i; done = done_is i; legality = record { bus = bus_are i; spare = l.spare }; rows = rows; still_until = 0; owes_refresh = false }
+    λ i. record { config = config; pending = p_is i; drain = false; debts = debts_are i; flight = flight_is i; done = done_is i; legality = record { bus = bus_are i; spare = l.spare; keeps = l.keeps }; rows = rows; still_until = 0; owes_refresh = false }
 
-pub state_open : (config : Config) (first spare : ℕ) (rows : Rows) → IsFresh config rows → state_of (kept_of (fields_open config first spare rows)) ≡ opened config first
-state_open config first spare rows fresh =
+pub state_open : (config : Config) (first spare : ℕ) (keeps : Bool) (rows : Rows) → IsFresh config rows → state_of (kept_of (fields_open config first spare keeps rows)) ≡ opened config first
+state_open config first spare keeps rows fresh =
     let zeros : line_cells config.geometry rows ≡ (λ _. replicate LINE_BYTES 0) = fun_ext (λ address. fresh_line address (is_bank_in config.geometry address.rank address.group address.bank)) in
     ap (λ (f : LineAddress → List ℕ). record (opened config first) { cells = f }) zeros
   where
@@ -155,12 +155,12 @@ no_command : (rank group bank : ℕ) → ready_row (bank_behind (Pre rank group 
 unfolding bank_behind
 no_command rank group bank = refl
 
-pub whole_open : (config : Config) (first spare : ℕ) (rows : Rows) → first ≤ CLOCK_STOP → IsFresh config rows → IsWhole (fields_open config first spare rows)
-whole_open config first spare rows clock fresh =
+pub whole_open : (config : Config) (first spare : ℕ) (keeps : Bool) (rows : Rows) → first ≤ CLOCK_STOP → IsFresh config rows → IsWhole (fields_open config first spare keeps rows)
+whole_open config first spare keeps rows clock fresh =
     let sound = IsSound-opened config first in
     let none : 0 ≡ first - first = omega arith in
     record {
-      sound = subst IsSound (sym (state_open config first spare rows fresh)) sound;
+      sound = subst IsSound (sym (state_open config first spare keeps rows fresh)) sound;
       of_config = refl;
       clock = clock;
       reads = refl;
@@ -174,5 +174,5 @@ whole_open config first spare rows clock fresh =
         lines = fresh.lines;
         opened = λ rank group bank r g b. fresh.idle (bank_number config.geometry rank group bank) ∙ sym (no_command rank group bank);
       };
-      still = awake 0 (state_of (kept_of (fields_open config first spare rows))) (omega arith);
+      still = awake 0 (state_of (kept_of (fields_open config first spare keeps rows))) (omega arith);
     }

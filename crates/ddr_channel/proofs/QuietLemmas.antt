@@ -1,5 +1,5 @@
 -- What quiet cycles make of a state and of a channel's fields: the clock goes on, and the drain mode, and nothing else.
-use Rattle.std.proofs.Common.{◌≡◌, ℕ, zero, suc, ◌+◌, ◌-◌, ◌<◌, ◌≤◌, Bool, true, false, not, cond, eqb, ltb, leb, map, replicate, List, [], ◌∷◌, ◌++◌, None, All, get_or, refl, sym, ap, subst, ◌∙◌, arith}
+use Rattle.std.proofs.Common.{◌≡◌, ℕ, zero, suc, ◌+◌, ◌-◌, ◌<◌, ◌≤◌, Bool, true, false, not, cond, eqb, ltb, leb, map, replicate, List, [], ◌∷◌, ◌++◌, All, get_or, refl, sym, ap, subst, ◌∙◌, arith}
 use Rattle.std.specs.List.{filter}
 use Rattle.std.proofs.lemmas.Bool.Decides.{nat_tests}
 use Rattle.std.proofs.lemmas.List.{append-nil, append_assoc}
@@ -19,12 +19,11 @@ use Rattle.ddr_channel.specs.declared.channel.Channel.TheInside.{Inside}
 use Rattle.ddr_channel.specs.Choice.{policy_of, rank_refreshes, refreshes_of}
 use Rattle.ddr_channel.specs.Cycle.{at_choice, drained, issued, ticked, after_cycle}
 use Rattle.ddr_channel.specs.History.{Call, Cycle, run}
-use Rattle.ddr_channel.specs.Kept.{Kept, state_of, AgreesWith}
+use Rattle.ddr_channel.specs.Kept.{Kept, state_of}
 use Rattle.ddr_channel.specs.Promise.{AreCalls, StandsFor}
 use Rattle.ddr_channel.specs.Quiet.{IsIdleNext, IsQuiet, after_cycles, drain_after}
 use Rattle.ddr_channel.specs.Sound.{IsSound}
 use Rattle.ddr_channel.specs.State.{State}
-use Rattle.ddr_channel.specs.Told.{issued_by, issued_in}
 use Rattle.ddr_channel.specs.View.{kept_of, IsWhole}
 use Rattle.ddr_channel.proofs.SoundLemmas.{IsSound-after_cycle}
 use Rattle.ddr_channel.proofs.StandsLemmas.{stands_after_cycle}

@@ -26,6 +26,8 @@ pub record Kept : Type 0 where
   pub rows : Rows
   -- for how many further entries the trace has room
   pub spare : ℕ
+  -- whether the trace is kept
+  pub keeps : Bool
 
 -- the bytes of a line in the rows; of a bank that the geometry doesn't have they are zeros
 abbrev pub line_cells : Geometry → Rows → LineAddress → List ℕ

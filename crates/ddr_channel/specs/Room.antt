@@ -1,5 +1,5 @@
 -- What a cycle needs of memory, and the room that a call leaves.
-use Rattle.std.specs.Prelude.{ℕ, ◌+◌, ◌≤◌, ◌==◌, ◌||◌, Bool, false, not, length, Option, IsTrue}
+use Rattle.std.specs.Prelude.{◌≡◌, ℕ, ◌+◌, ◌≤◌, ◌==◌, ◌||◌, Bool, false, not, length, Option, IsTrue}
 use Rattle.std.specs.Option.{option_map_or}
 use Rattle.ddr_timing.specs.declared.geometry.Geometry.{Geometry}
 use Rattle.ddr_timing.specs.Banks.{bank_number}
@@ -29,7 +29,8 @@ next_command s = command_of (at_choice s).pending (choice_of (at_choice s))
 abbrev pub wants_memory : Kept → Bool
 wants_memory k = option_map_or (needs_memory k.config.geometry k.spare k.rows) (next_command (state_of k)) false
 
--- no row is given up, and no room for entries but by entries
+-- no row is given up, and no room for entries but by entries; and the trace is kept as before
 pub record KeepsRoom (old new : Kept) : Type 0 where
   pub stored : (bank row : ℕ) → IsTrue (is_stored old.rows bank row) → IsTrue (is_stored new.rows bank row)
   pub entries : old.spare + length old.trace ≤ new.spare + length new.trace
+  pub keeps : new.keeps ≡ old.keeps

@@ -20,6 +20,7 @@ kept_of a = record {
   trace = a.legality.bus.trace;
   rows = a.rows;
   spare = a.legality.spare;
+  keeps = a.legality.keeps;
 }
 
 -- what the fields keep, beside what every state does

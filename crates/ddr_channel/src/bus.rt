@@ -32,6 +32,7 @@ fn reserve_for(
     ensures ready { OnOk result (IsReadyFor config.now.geometry legality.new.spare rows.new command) }
     ensures memory { OnErr result (IsTrue (needs_memory config.now.geometry legality.old.spare rows.old command)) }
     ensures spare { legality.old.spare ≤ legality.new.spare }
+    ensures keeps { legality.new.keeps ≡ legality.old.keeps }
     ensures stored { (b r : ℕ) → IsTrue (is_stored rows.old b r) → IsTrue (is_stored rows.new b r) }
     ensures bus { legality.new.bus ≡ legality.old.bus }
     ensures opened { (b : ℕ) → open_row rows.new b ≡ open_row rows.old b }
@@ -65,6 +66,7 @@ pub(crate) fn reserve(
     ensures idle { command ≡ None → IsOk result }
     ensures memory { OnErr result (IsTrue (option_map_or (needs_memory config.now.geometry legality.old.spare rows.old) command false)) }
     ensures spare { legality.old.spare ≤ legality.new.spare }
+    ensures keeps { legality.new.keeps ≡ legality.old.keeps }
     ensures stored { (b r : ℕ) → IsTrue (is_stored rows.old b r) → IsTrue (is_stored rows.new b r) }
     ensures bus { legality.new.bus ≡ legality.old.bus }
     ensures opened { (b : ℕ) → open_row rows.new b ≡ open_row rows.old b }
@@ -134,6 +136,7 @@ fn issue_command(config: &Config, legality: &mut Legality, rows: &mut RowArray, 
     requires ready { IsReadyFor config.now.geometry legality.old.spare rows.old command }
     ensures bus { legality.new.bus ≡ recorded command legality.old.bus }
     ensures spare { legality.new.spare + length legality.new.bus.trace ≡ legality.old.spare + length legality.old.bus.trace }
+    ensures keeps { legality.new.keeps ≡ legality.old.keeps }
     ensures agrees { AgreesWith config.now legality.new.bus.trace rows.new }
     ensures bytes { SameBytes rows.old rows.new }
 {
@@ -154,6 +157,7 @@ pub(crate) fn issue(
     requires ready { IfSome command (IsReadyFor config.now.geometry legality.old.spare rows.old) }
     ensures bus { legality.new.bus ≡ bus_with command legality.old.bus }
     ensures spare { legality.new.spare + length legality.new.bus.trace ≡ legality.old.spare + length legality.old.bus.trace }
+    ensures keeps { legality.new.keeps ≡ legality.old.keeps }
     ensures agrees { AgreesWith config.now legality.new.bus.trace rows.new }
     ensures bytes { SameBytes rows.old rows.new }
 {

@@ -1,5 +1,5 @@
 //! One channel: its pending requests, its rows, its trace, and the cycles that it makes.
-ghost use Rattle.std.specs.Prelude.{◌≡◌, ℕ, false, if◌then◌else◌, ◌+◌, ◌-◌, ◌<◌, ◌≤◌, ◌↔◌, List, [], ◌∷◌, ◌++◌, map, replicate, IfSome, IsTrue, IsErr, IsOk, IfOk, IfErr, OnOk, OnErr, IsErrOf, option_copied, slice_get};
+ghost use Rattle.std.specs.Prelude.{◌≡◌, ℕ, true, false, if◌then◌else◌, ◌+◌, ◌-◌, ◌<◌, ◌≤◌, ◌↔◌, List, [], ◌∷◌, ◌++◌, map, replicate, IfSome, IsTrue, IsErr, IsOk, IfOk, IfErr, OnOk, OnErr, IsErrOf, option_copied, slice_get};
 ghost use Rattle.ddr_arbiter.specs.declared.choice.Choice.TheVariants as choice;
 ghost use Rattle.ddr_arbiter.specs.Quiet.{IsQuietUntil};
 ghost use Rattle.ddr_channel.specs.declared.channel.CycleError.TheVariants.{ClockSpent, OutOfMemory};
@@ -8,6 +8,7 @@ ghost use Rattle.ddr_timing.specs.declared.units.TheConstants.{CLOCK_STOP};
 ghost use Rattle.std.specs.Option.{is_some};
 ghost use Rattle.ddr_trace.specs.Commands.{is_column};
 ghost use Rattle.ddr_trace.specs.Legality.{IsLegal, IsRefreshed};
+ghost use Rattle.ddr_legality.specs.Bus as bus;
 ghost use Rattle.ddr_refresh.specs.Refreshes.{after_tick};
 ghost use Rattle.ddr_hazards.specs.declared.pending.TheConstants.{RANKS};
 ghost use Rattle.ddr_channel.specs.Choice.{choice_of, policy_of, refreshes_of, situation_of};
@@ -92,6 +93,39 @@ impl Channel {
         requires { first_cycle ≤ CLOCK_STOP }
         ensures state { IfOk result (λ c. state_of c ≡ opened config.now first_cycle) }
         ensures config { IfOk result (λ c. c.config ≡ config.now) }
+        ensures keeps { IfOk result (λ c. c.keeps ≡ true) }
+        ensures stands { IfOk result (λ c. StandsFor c []) }
+    {
+        Channel::open_as(alloc, config, first_cycle, true)
+    }
+
+    /// As `open`, but no trace is kept, so that a run of any length takes no more memory than its rows. Every promise of every call
+    /// is as of a channel that keeps one, but for `trace` and `into_trace`, which have no entry to hand out.
+    pub fn open_without_trace(
+        alloc: Global,
+        config: &Config,
+        first_cycle: u64,
+    ) -> Result<Channel, AllocError>
+        requires { first_cycle ≤ CLOCK_STOP }
+        ensures state { IfOk result (λ c. state_of c ≡ opened config.now first_cycle) }
+        ensures config { IfOk result (λ c. c.config ≡ config.now) }
+        ensures keeps { IfOk result (λ c. c.keeps ≡ false) }
+        ensures stands { IfOk result (λ c. StandsFor c []) }
+    {
+        Channel::open_as(alloc, config, first_cycle, false)
+    }
+
+    /// A channel that has made no cycle, with or without its trace.
+    fn open_as(
+        alloc: Global,
+        config: &Config,
+        first_cycle: u64,
+        keeps: bool,
+    ) -> Result<Channel, AllocError>
+        requires { first_cycle ≤ CLOCK_STOP }
+        ensures state { IfOk result (λ c. state_of c ≡ opened config.now first_cycle) }
+        ensures config { IfOk result (λ c. c.config ≡ config.now) }
+        ensures keeps { IfOk result (λ c. c.keeps ≡ keeps) }
         ensures stands { IfOk result (λ c. StandsFor c []) }
     {
         let limits = config.limits;
@@ -102,7 +136,7 @@ impl Channel {
             debts: [Debt::open(config); RANKS as usize],
             flight: HeapCircularBuffer::with_capacity(alloc, limits.done as usize)?,
             done: HeapCircularBuffer::with_capacity(alloc, limits.done as usize)?,
-            legality: Legality::open(alloc, config, first_cycle)?,
+            legality: open_bus(alloc, config, first_cycle, keeps)?,
             rows: RowArray::open(alloc, config)?,
             still_until: 0,
             owes_refresh: false,
@@ -437,22 +471,40 @@ impl Channel {
         self.drain
     }
 
-    /// The commands so far. The open rows of the row array are those that they leave for reads and writes.
+    /// Whether the trace is kept: `open` keeps it, and `open_without_trace` doesn't.
+    pub fn keeps_trace(&self) -> bool
+        ensures { result ≡ self.entry.now.keeps }
+    {
+        self.legality.keeps_entries()
+    }
+
+    /// The commands so far, where the trace is kept; else none. The open rows of the row array are those that they leave for reads
+    /// and writes.
     pub fn trace(&self) -> &[Entry]
-        ensures value { result.now ≡ self.entry.now.trace }
-        ensures rows { AgreesWith self.entry.now.config result.now self.entry.now.rows }
-        ensures legal { IsLegal self.entry.now.config self.entry.now.start self.entry.now.now result.now }
-        ensures refreshed { (calls : List Call) → StandsFor self.entry.now calls
+        ensures value { self.entry.now.keeps ≡ true → result.now ≡ self.entry.now.trace }
+        ensures rows { self.entry.now.keeps ≡ true → AgreesWith self.entry.now.config result.now self.entry.now.rows }
+        ensures legal { self.entry.now.keeps ≡ true → IsLegal self.entry.now.config self.entry.now.start self.entry.now.now result.now }
+        ensures refreshed { self.entry.now.keeps ≡ true → (calls : List Call) → StandsFor self.entry.now calls
             → IsRefreshed self.entry.now.config self.entry.now.start self.entry.now.now result.now }
+        ensures nothing { self.entry.now.keeps ≡ false → result.now ≡ [] }
     {
         self.legality.entries()
     }
 
-    /// The commands so far, from the first cycle to the next one. The channel is given up.
+    /// The commands so far are legal, whether or not they are kept. A law: it does nothing.
+    pub fn commands_are_legal(&self)
+        ensures { IsLegal self.now.config self.now.start self.now.now self.now.trace }
+    {
+        let _ = &self.legality;
+    }
+
+    /// The commands so far, where the trace is kept, from the first cycle to the next one; else none. The channel is given up.
     pub fn into_trace(self) -> Trace
-        ensures value { result ≡ record { start = self.start; end = self.now; entries = self.trace } }
-        ensures legal { IsLegal self.config result.start result.end result.entries }
-        ensures refreshed { (calls : List Call) → StandsFor self calls → IsRefreshed self.config result.start result.end result.entries }
+        ensures span { (result.start ≡ self.start) × (result.end ≡ self.now) }
+        ensures value { self.keeps ≡ true → result ≡ record { start = self.start; end = self.now; entries = self.trace } }
+        ensures legal { self.keeps ≡ true → IsLegal self.config result.start result.end result.entries }
+        ensures refreshed { self.keeps ≡ true → (calls : List Call) → StandsFor self calls → IsRefreshed self.config result.start result.end result.entries }
+        ensures nothing { self.keeps ≡ false → result.entries ≡ [] }
     {
         let Channel {
             config: _,
@@ -473,6 +525,24 @@ impl Channel {
             end,
             entries: legality.into_entries(),
         }
+    }
+}
+
+/// A bus on which nothing was issued, with or without its entries.
+fn open_bus(
+    alloc: Global,
+    config: &Config,
+    first_cycle: u64,
+    keeps: bool,
+) -> Result<Legality, AllocError>
+    requires { first_cycle ≤ CLOCK_STOP }
+    ensures bus { IfOk result (λ l. l.bus ≡ bus.opened config.now first_cycle) }
+    ensures keeps { IfOk result (λ l. l.keeps ≡ keeps) }
+{
+    if keeps {
+        Legality::open(alloc, config, first_cycle)
+    } else {
+        Legality::open_without_entries(alloc, config, first_cycle)
     }
 }
 

@@ -49,6 +49,7 @@ returns-in_err-reserve-clause-room c =
     subst (λ (k : Kept). KeepsRoom k (kept_of (record c.self.inside { legality = c.reserve.new.legality; rows = c.reserve.new.rows }))) c.self.view_is (record {
       stored = c.reserve.ensures.stored;
       entries = omega (arith, c.reserve.ensures.spare, ap (λ (b : Bus). length b.trace) c.reserve.ensures.bus);
+      keeps = c.reserve.ensures.keeps;
     })
 
 pub issue-requires-clause-legal : goal.issue-requires-clause-legal
@@ -162,6 +163,7 @@ returns-clause-room c =
     subst (λ (k : Kept). KeepsRoom k (kept_of (after c.self.inside c.serve-served.new.pending c.next_drain-drain.result c.count.new.debts c.serve-served.new.flight c.complete.new.done c.tick-2.new.self c.issue.new.rows))) c.self.view_is (record {
       stored = λ bank row is. c.issue.ensures.bytes.stored bank row ∙ c.serve-served.ensures.stored bank row ∙ c.reserve.ensures.stored bank row is;
       entries = omega (arith, c.reserve.ensures.spare, reserved, c.issue.ensures.spare, c.tick-2.ensures.spare, traced);
+      keeps = c.tick-2.ensures.keeps ∙ (c.issue.ensures.keeps ∙ c.reserve.ensures.keeps);
     })
 
 pub returns-clause-issued : goal.returns-clause-issued

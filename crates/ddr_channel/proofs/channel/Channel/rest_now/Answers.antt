@@ -1,5 +1,5 @@
 -- Where the clock is spent, no cycle is told.
-use Rattle.std.proofs.Common.{ap, ◌∙◌, arith}
+use Rattle.std.proofs.Common.{ap, arith}
 use Rattle.ddr_channel.specs.Kept.{Kept, state_of}
 use Rattle.ddr_channel.proofs.CycleLemmas.{awake}
 use Rattle.ddr_channel.proofs.channel.Channel.rest_now.Goals as goal
