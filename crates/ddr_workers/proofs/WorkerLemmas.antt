@@ -1,15 +1,13 @@
 -- What each step of a turn keeps.
-use Rattle.std.proofs.Common.{◌≡◌, ℕ, zero, suc, ◌+◌, replicate, ◌<◌, Bool, true, false, cond, eqb, List, [], ◌∷◌, ◌++◌, All, length, map, take, Option, Some, None, IfSome, is_some, Result, Ok, Err, IsTrue, ◌↔◌, slice_get, get_or, set, refl, sym, ap, ap₂, ◌∙◌, subst, arith}
+use Rattle.std.proofs.Common.{◌≡◌, ℕ, zero, suc, ◌+◌, replicate, ◌<◌, Bool, true, false, cond, eqb, List, [], ◌∷◌, ◌++◌, All, length, map, take, Option, Some, None, IfSome, is_some, Result, Ok, Err, slice_get, get_or, set, refl, sym, ap, ap₂, ◌∙◌, subst, arith}
 use Rattle.std.specs.List.{fold}
 use Rattle.std.specs.Option.{option_to_list}
-use Rattle.std.specs.Result.{IsOk, IsErr, IsErrOf, OnOk, OnErr}
-use Rattle.std.proofs.lemmas.Bool.{false≢true}
+use Rattle.std.specs.Result.{IsErrOf, OnOk, OnErr}
 use Rattle.std.proofs.lemmas.List.{length-set}
 use Rattle.std.proofs.lemmas.List.Elements.{All-push, All-nil}
 use Rattle.std.proofs.lemmas.List.Sums.{fold-append}
 use Rattle.ddr_timing.specs.declared.config.Config.{Config}
 use Rattle.ddr_timing.specs.declared.units.TheConstants.{CLOCK_STOP}
-use Rattle.ddr_address_map.specs.declared.request.Kind.{Kind}
 use Rattle.ddr_address_map.specs.declared.request.Kind.TheVariants.{Read, Write}
 use Rattle.ddr_address_map.specs.Map.{in_range, place_of}
 use Rattle.ddr_address_map.specs.Requests as records
@@ -74,10 +72,10 @@ if_given None P Q f p = tt
 if_given (Some d) P Q f p = f d p
 
 -- a completion was taken from the channel, and is held
-pub whole_held : (w : WorkerState) (k : Kept) (o : Option Completion) → IsWhole w → w.held ≡ None → o ≡ slice_get w.channel.done 0 → kept.state_of k ≡ after_pop (kept.state_of w.channel) → k.config ≡ w.channel.config
+pub whole_held : (w : WorkerState) (k : Kept) (o : Option Completion) → IsWhole w → w.held ≡ None → o ≡ slice_get w.channel.done 0 → kept.state_of k ≡ after_pop (kept.state_of w.channel) → k.config ≡ w.channel.config → k.keeps ≡ w.channel.keeps
     → ((calls : List Call) → StandsFor w.channel calls → IfSome o (IsNextAnswer (run w.channel.config w.channel.start calls)))
     → ((calls : List Call) → StandsFor w.channel calls → StandsFor k (calls ++ Pop ∷ [])) → IsWhole (record w { channel = k; held = o })
-whole_held w k o whole none first rest config right stands =
+whole_held w k o whole none first rest config keeps right stands =
     let calls = whole.calls in
     let h = history_of w.channel calls in
     let route = w.requests.who.queue.purpose in
@@ -113,6 +111,7 @@ whole_held w k o whole none first rest config right stands =
       held = held;
       noted_ports = whole.noted_ports;
       noted = whole.noted;
+      keeps = keeps ∙ whole.keeps;
     }
 
 -- the completion that is held was pushed
@@ -145,6 +144,7 @@ whole_pushed w d xs whole held pushed =
       held = tt;
       noted_ports = whole.noted_ports ∙ sym count;
       noted = λ p below. whole.noted p (subst (λ n. p < n) count below);
+      keeps = whole.keeps;
     } in
     subst (λ ys. IsWhole (record w { completions = ys; held = None })) (sym pushed) whole'
 
@@ -191,6 +191,7 @@ whole_full w d back xs whole held same full =
       held = subst (λ n. IfSome w.held (IsGiven w.requests.who.queue.purpose n)) (sym count) whole.held;
       noted_ports = whole.noted_ports ∙ sym count;
       noted = λ p below. whole.noted p (subst (λ n. p < n) count below);
+      keeps = whole.keeps;
     } in
     subst (λ ys. IsWhole (record w { completions = ys; held = Some back })) (sym full)
     (subst (λ o. IsWhole (record w { completions = changed_at d.port after_full w.completions; held = o })) (held ∙ ap (λ x. Some x) (sym same)) whole')
@@ -240,9 +241,9 @@ admitted_at w k r calls at room made config stands =
     }
 
 pub whole_admitted : (w : WorkerState) (k : Kept) (r : records.Request) (t : TakeSide Route Item) → IsWhole w → t ≡ sides.after_pop w.requests (Request r) → IsNext w.requests (Request r)
-    → is_queue_full (kept.state_of w.channel) r.echo.kind ≡ false → kept.state_of k ≡ after_admit r (kept.state_of w.channel) → k.config ≡ w.channel.config
+    → is_queue_full (kept.state_of w.channel) r.echo.kind ≡ false → kept.state_of k ≡ after_admit r (kept.state_of w.channel) → k.config ≡ w.channel.config → k.keeps ≡ w.channel.keeps
     → ((calls : List Call) → StandsFor w.channel calls → StandsFor k (calls ++ Admit r ∷ [])) → IsWhole (record w { channel = k; requests = t })
-whole_admitted w k r t whole popped is_next room made config stands =
+whole_admitted w k r t whole popped is_next room made config keeps stands =
     let calls = whole.calls in
     let route = w.requests.who.queue.purpose in
     let ports = length w.completions in
@@ -257,6 +258,7 @@ whole_admitted w k r t whole popped is_next room made config stands =
       held = whole.held;
       noted_ports = whole.noted_ports;
       noted = λ p below. whole.noted p below ∙ sym (ends_asked p w.requests.took r);
+      keeps = keeps ∙ whole.keeps;
     } in
     subst (λ (x : TakeSide Route Item). IsWhole (record w { channel = k; requests = x })) (sym popped) whole'
 
@@ -299,6 +301,7 @@ whole_noted w q t whole popped is_next =
       held = whole.held;
       noted_ports = length-set w.noted q true ∙ whole.noted_ports;
       noted = λ p below. noted_ended w.noted w.requests.took p q within (whole.noted p below);
+      keeps = whole.keeps;
     } in
     subst (λ (x : TakeSide Route Item). IsWhole (record w { requests = x; noted = set w.noted q true })) (sym popped) whole'
 
@@ -317,7 +320,7 @@ pub whole_taken : (w : WorkerState) (k : Kept) (x : Item) (t : TakeSide Route It
     → (is_queue_full (kept.state_of w.channel) Read ≡ false) × (is_queue_full (kept.state_of w.channel) Write ≡ false) → Takes x w.channel k w.noted noted → IsWhole (record w { channel = k; requests = t; noted = noted })
 whole_taken w k (Request r) t noted whole popped is_next free takes =
     subst (λ (xs : List Bool). IsWhole (record w { channel = k; requests = t; noted = xs })) (sym takes.1)
-    (whole_admitted w k r t whole popped is_next (free_kind (kept.state_of w.channel) r.echo.kind free) takes.0.state takes.0.config takes.0.stands)
+    (whole_admitted w k r t whole popped is_next (free_kind (kept.state_of w.channel) r.echo.kind free) takes.0.state takes.0.config takes.0.keeps takes.0.stands)
 whole_taken w k (End q) t noted whole popped is_next free takes =
     subst (λ (xs : List Bool). IsWhole (record w { channel = k; requests = t; noted = xs })) (sym takes.1)
     (subst (λ (c : Kept). IsWhole (record w { channel = c; requests = t; noted = set w.noted q true })) (sym takes.0) (whole_noted w q t whole popped is_next))
@@ -378,9 +381,9 @@ cycle_alike h f same = if_alike (eqb h.state.now CLOCK_STOP) h (record (with_own
 flight_due : (k : Kept) (calls : List Call) → StandsFor k calls → AreDue k.now k.flight
 flight_due k calls stands = subst (λ (s : State). AreDue s.now s.flight) (sym stands.state) (kept_run k.config k.start calls stands.calls_are).keeps.due
 
-pub whole_cycled : (w : WorkerState) (k : Kept) → IsWhole w → HasTried w → (IsIdle (kept.state_of w.channel) → ⊥) → k.config ≡ w.channel.config → kept.state_of k ≡ after_cycle (kept.state_of w.channel)
+pub whole_cycled : (w : WorkerState) (k : Kept) → IsWhole w → HasTried w → (IsIdle (kept.state_of w.channel) → ⊥) → k.config ≡ w.channel.config → k.keeps ≡ w.channel.keeps → kept.state_of k ≡ after_cycle (kept.state_of w.channel)
     → ((calls : List Call) → StandsFor w.channel calls → StandsFor k (calls ++ Cycle ∷ [])) → IsWhole (record w { channel = k })
-whole_cycled w k whole before holds config made stands =
+whole_cycled w k whole before holds config keeps made stands =
     let calls = before.calls in
     let at = before.at_work in
     let h = history_of w.channel calls in
@@ -408,11 +411,12 @@ whole_cycled w k whole before holds config made stands =
       held = whole.held;
       noted_ports = whole.noted_ports;
       noted = whole.noted;
+      keeps = keeps ∙ whole.keeps;
     }
 
 -- it made none, and is in the state that it was in
-pub whole_uncycled : (w : WorkerState) (k : Kept) → IsWhole w → kept.state_of k ≡ kept.state_of w.channel → IsWhole (record w { channel = k })
-whole_uncycled w k whole same =
+pub whole_uncycled : (w : WorkerState) (k : Kept) → IsWhole w → kept.state_of k ≡ kept.state_of w.channel → k.keeps ≡ w.channel.keeps → IsWhole (record w { channel = k })
+whole_uncycled w k whole same keeps =
     let calls = whole.calls in
     let config : k.config ≡ w.channel.config = ap (λ (s : State). s.config) same in
     let start : k.start ≡ w.channel.start = ap (λ (s : State). s.start) same in
@@ -438,6 +442,7 @@ whole_uncycled w k whole same =
       held = whole.held;
       noted_ports = whole.noted_ports;
       noted = whole.noted;
+      keeps = keeps ∙ whole.keeps;
     }
 
 -- it is the same worker
@@ -508,9 +513,9 @@ length-replicate : {X : Type 0} (n : ℕ) (x : X) → length (replicate n x) ≡
 length-replicate zero x = refl
 length-replicate (suc n) x = ap suc (length-replicate n x)
 
-pub whole_opened : (w : WorkerState) (config : Config) → w.channel.config ≡ config → StandsFor w.channel [] → w.requests.who.queue.purpose ≡ record { geometry = config.geometry; channel = w.number } → w.requests.who.count ≡ length w.completions
+pub whole_opened : (w : WorkerState) (config : Config) → w.channel.config ≡ config → w.channel.keeps ≡ true → StandsFor w.channel [] → w.requests.who.queue.purpose ≡ record { geometry = config.geometry; channel = w.number } → w.requests.who.count ≡ length w.completions
     → w.requests.took ≡ [] → ((p : ℕ) (side : Side) → slice_get w.completions p ≡ Some side → IsNewDonePut config.geometry w.number p side) → w.held ≡ None → w.noted ≡ replicate (length w.completions) false → IsWhole w
-whole_opened w config same stands route ports took new held noted = record {
+whole_opened w config same keeps stands route ports took new held noted = record {
   calls = [];
   at_work = record {
     stands = stands;
@@ -533,4 +538,5 @@ whole_opened w config same stands route ports took new held noted = record {
   held = subst (λ o. IfSome o (IsGiven w.requests.who.queue.purpose (length w.completions))) (sym held) tt;
   noted_ports = ap length noted ∙ length-replicate (length w.completions) false;
   noted = λ p below. ap (λ bs. get_or bs p false) noted ∙ get_or-replicate (length w.completions) p ∙ sym (ap (λ xs. has_end (of_port p xs)) took);
+  keeps = keeps;
 }

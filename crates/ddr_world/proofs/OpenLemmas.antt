@@ -7,7 +7,7 @@ use Rattle.std.proofs.lemmas.List.FromFn.{length-range_with_len}
 use Rattle.std.proofs.lemmas.List.Elements.{All-map}
 use Rattle.ddr_timing.specs.declared.config.Config.{Config}
 use Rattle.ddr_world.specs.declared.world.World.TheInside.{Inside}
-use Rattle.ddr_world.specs.Kept.{KeptSide, side_of}
+use Rattle.ddr_world.specs.Kept.{KeptSide, opened_with, side_of}
 use Rattle.ddr_world.specs.State.{PortSide, ChannelSide, IsChannelDrained, opened_port, opened_channel}
 use Rattle.ddr_world.specs.View.{IsPortOf, IsWhole}
 
@@ -15,13 +15,13 @@ of_opened : (config : Config) (first port : ℕ) → IsPortOf config (opened_por
 of_opened config first port = record { geometry = refl; channels = length-replicate config.geometry.channels false }
 
 pub whole_opened : (a : Inside) (cycle number : ℕ) → a.ports.items ≡ map (opened_port a.config number) (range_with_len 0 a.config.limits.ports)
-    → map side_of a.channels.items ≡ replicate a.config.geometry.channels (opened_channel a.config cycle) → All (λ (side : KeptSide). side.channel.config ≡ a.config) a.channels.items → IsWhole a
-whole_opened a cycle number ports channels config = record {
+    → map side_of a.channels.items ≡ replicate a.config.geometry.channels (opened_channel a.config cycle) → All (λ (side : KeptSide). opened_with side ≡ (a.config, a.keeps)) a.channels.items → IsWhole a
+whole_opened a cycle number ports channels as_opened = record {
   ports_are = ap (λ (xs : List PortSide). length xs) ports ∙ length-map (range_with_len 0 a.config.limits.ports) (opened_port a.config number) ∙ length-range_with_len 0 a.config.limits.ports;
   channels_are = sym (length-map a.channels.items side_of) ∙ ap (λ (xs : List ChannelSide). length xs) channels ∙ length-replicate a.config.geometry.channels (opened_channel a.config cycle);
   ports_of_config = subst (All (IsPortOf a.config)) (sym ports) (All-map (IsPortOf a.config) (opened_port a.config number) (range_with_len 0 a.config.limits.ports)
       (λ k d within. of_opened a.config number (get_or (range_with_len 0 a.config.limits.ports) k d)));
-  channels_of_config = config;
+  channels_as_opened = as_opened;
 }
 
 pub sides_drained : (xs : List KeptSide) → All (λ (side : KeptSide). IsChannelDrained (side_of side)) xs → All IsChannelDrained (map side_of xs)

@@ -20,7 +20,7 @@ use Rattle.ddr_world.specs.declared.event.Outcome.TheVariants.{Cycled}
 use Rattle.ddr_world.specs.declared.event.Refusal.TheVariants as refusal
 use Rattle.ddr_world.specs.Events.{Cycle}
 use Rattle.ddr_world.specs.History.{Opening, Answered, History, begun, after, after_step, run}
-use Rattle.ddr_world.specs.Kept.{Kept, KeptSide, side_of, state_of}
+use Rattle.ddr_world.specs.Kept.{Kept, KeptSide, opened_with, side_of, state_of}
 use Rattle.ddr_world.specs.Quiet.{IsQuietSide, IsQuiet, side_passed, passed, cycles_of, cycles_made}
 use Rattle.ddr_world.specs.Record.{IsRecord, StandsFor}
 use Rattle.ddr_world.specs.State.{ChannelSide, State}
@@ -132,15 +132,16 @@ each_quiet zero s is c side there = tt
 each_quiet (suc count) s is c side there = (All-at (IsQuietSide (suc count)) s.channels c side (is (omega arith)).channels there).channel
 
 -- a core in which cycles were passed stands for them
-pub stands_passed : (count : ℕ) (k k' : Kept) (opening : Opening) (earlier : List Answered) → IsQuiet count (state_of k) → k'.config ≡ k.config → state_of k' ≡ passed count (state_of k) → StandsFor k opening earlier
+pub stands_passed : (count : ℕ) (k k' : Kept) (opening : Opening) (earlier : List Answered) → IsQuiet count (state_of k) → k'.config ≡ k.config → k'.keeps ≡ k.keeps → state_of k' ≡ passed count (state_of k) → StandsFor k opening earlier
     → StandsFor k' opening (earlier ++ cycles_made count (length k.channels))
-stands_passed count k k' opening earlier is config state stands =
+stands_passed count k k' opening earlier is config keeps state stands =
     let h = run opening earlier in
     let n = length k.channels in
     let long : n ≡ length h.state.channels = sym (length-map k.channels side_of) ∙ ap (λ (s : State). length s.channels) stands.state in
     let goes = first_go count n h (omega (arith, long)) (each_quiet count h.state (subst (IsQuiet count) stands.state is)) in
     record {
       config = config ∙ stands.config;
+      keeps = keeps ∙ stands.keeps;
       is_record = record_append (begun opening) earlier (cycles_made count n) stands.is_record goes.is_record;
       state = state ∙ ap (passed count) stands.state
           ∙ ap (λ (xs : List ChannelSide). record h.state { channels = xs }) (sym (first_all count h.state.channels) ∙ ap (λ m. first_passed count m h.state.channels) (sym long))
@@ -171,12 +172,11 @@ next_passed count i start now side new passed there is =
     ∙ first_more count i (map side_of start) (side_of side) (next_side count i start now side passed there)
     ∙ ap (λ n. first_passed count n (map side_of start)) one
 
--- where the configurations are the same, each is still that of the core
-pub configs_kept : (config : Config) (old new : List KeptSide) → map (λ (side : KeptSide). side.channel.config) new ≡ map (λ (side : KeptSide). side.channel.config) old → All (λ side. side.channel.config ≡ config) old → All (λ side. side.channel.config ≡ config) new
-configs_kept config old new same all = λ k d within.
-    let of = λ (side : KeptSide). side.channel.config in
-    All-at (λ (c : Config). c ≡ config) (map of old) k (of (get_or new k d)) (All-map (λ (c : Config). c ≡ config) of old all)
-    (ap (λ (cs : List Config). slice_get cs k) (sym same) ∙ slice_get-map of new k ∙ ap (option_map of) (slice_get-get_or new k d within))
+-- where the channels are as they were opened, each is still as the core was
+pub openings_kept : (with : Config × Bool) (old new : List KeptSide) → map opened_with new ≡ map opened_with old → All (λ side. opened_with side ≡ with) old → All (λ side. opened_with side ≡ with) new
+openings_kept with old new same all = λ k d within.
+    All-at (λ (c : Config × Bool). c ≡ with) (map opened_with old) k (opened_with (get_or new k d)) (All-map (λ (c : Config × Bool). c ≡ with) opened_with old all)
+    (ap (λ (cs : List (Config × Bool)). slice_get cs k) (sym same) ∙ slice_get-map opened_with new k ∙ ap (option_map opened_with) (slice_get-get_or new k d within))
 
 -- nothing is first where nothing was found
 pub none_first : {A T : Type 0} (f : A → T) (o : Option A) (xs : List T) → is_some o ≡ false → option_map f o ≡ slice_get xs 0 → xs ≡ []

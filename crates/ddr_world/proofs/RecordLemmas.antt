@@ -1,5 +1,5 @@
 -- What users of the calls have of the promise, for every record that a core stands for.
-use Rattle.std.proofs.Common.{◌≡◌, ℕ, suc, ◌+◌, List, [], ◌∷◌, Option, Some, None, IfSome, map, length, refl, sym, ap, ap₂, subst, subst₂, ◌∙◌, arith}
+use Rattle.std.proofs.Common.{◌≡◌, ℕ, suc, ◌+◌, Bool, true, false, if◌then◌else◌, All, List, [], ◌∷◌, Option, Some, None, IfSome, map, length, refl, sym, ap, ap₂, subst, subst₂, ◌∙◌, arith}
 use Rattle.std.specs.List.{AllByRecursion, slice_get, range_with_len}
 use Rattle.std.specs.Option.{IsSomeAnd, option_map, option_and_then}
 use Rattle.std.proofs.lemmas.List.{length-map}
@@ -9,9 +9,9 @@ use Rattle.ddr_trace.specs.Legality.{IsLegal, IsRefreshed}
 use Rattle.ddr_channel.proofs.ListLemmas.{All-at}
 use Rattle.ddr_reorder.specs.declared.reply.Reply.{Reply}
 use Rattle.ddr_reorder.specs.Replies.{Answer, lent_service, said, nth_answer, nth_service, served_answer, served_service}
-use Rattle.ddr_world.specs.Close.{trace_of, IsRightTrace, GaveAll}
+use Rattle.ddr_world.specs.Close.{trace_of, kept_trace, IsRightTrace, GaveAll}
 use Rattle.ddr_world.specs.History.{Opening, History, front_of, run}
-use Rattle.ddr_world.specs.Kept.{KeptSide, Kept, Left, side_of, state_of}
+use Rattle.ddr_world.specs.Kept.{KeptSide, Kept, Left, opened_with, side_of, state_of}
 use Rattle.ddr_world.specs.Promise.{replies_of_port, KeepsPromise}
 use Rattle.ddr_world.specs.Record.{IsNext, IsRightAt}
 use Rattle.ddr_world.specs.Served.{WasServed, TellsService}
@@ -66,11 +66,23 @@ told_by_index : {X : Type 0} (f : X → ℕ) (g : ℕ → ℕ) (a : ℕ) (xs : L
 told_by_index f g a [] told = refl
 told_by_index f g a (x ∷ xs) told = ap₂ ◌∷◌ (told 0 x refl ∙ ap g (omega arith)) (told_by_index f g (a + 1) xs (λ i y is. told (suc i) y is ∙ ap g (omega arith)))
 
+-- the trace of a channel that keeps it is there, and of one that doesn't is not
+there : (o : Opening) (side : KeptSide) → side.channel.keeps ≡ true → IsRightTrace o (trace_of side) → IsSomeAnd (kept_trace side) (IsRightTrace o)
+there o side keeps right = subst (λ b. IsSomeAnd (if b then Some (trace_of side) else None) (IsRightTrace o)) (sym keeps) right
+
+not_there : (side : KeptSide) → side.channel.keeps ≡ false → kept_trace side ≡ None
+not_there side keeps = ap (λ b. if b then Some (trace_of side) else None) keeps
+
 -- each trace is there, and is right where that of its channel is
-each_trace : (o : Opening) (sides : List KeptSide) → ((c : ℕ) (side : KeptSide) → slice_get sides c ≡ Some side → IsRightTrace o (trace_of side))
-    → AllByRecursion (λ t. IsSomeAnd t (IsRightTrace o)) (map (λ side. Some (trace_of side)) sides)
+each_trace : (o : Opening) (sides : List KeptSide) → ((c : ℕ) (side : KeptSide) → slice_get sides c ≡ Some side → (side.channel.keeps ≡ true) × IsRightTrace o (trace_of side))
+    → AllByRecursion (λ t. IsSomeAnd t (IsRightTrace o)) (map kept_trace sides)
 each_trace o [] told = tt
-each_trace o (side ∷ sides) told = (told 0 side refl, each_trace o sides (λ c later is. told (suc c) later is))
+each_trace o (side ∷ sides) told = (there o side (told 0 side refl).0 (told 0 side refl).1, each_trace o sides (λ c later is. told (suc c) later is))
+
+-- or none is
+no_trace : (sides : List KeptSide) → ((c : ℕ) (side : KeptSide) → slice_get sides c ≡ Some side → side.channel.keeps ≡ false) → AllByRecursion (λ t. t ≡ None) (map kept_trace sides)
+no_trace [] told = tt
+no_trace (side ∷ sides) told = (not_there side (told 0 side refl), no_trace sides (λ c later is. told (suc c) later is))
 
 -- that of a channel begins with the core's first cycle, and is legal and refreshed under its configuration
 trace_right : (o : Opening) (h : History) (c : ℕ) (side : KeptSide) → KeepsPromise o h → slice_get h.state.channels c ≡ Some (side_of side) → IsRightTrace o (trace_of side)
@@ -83,14 +95,16 @@ trace_right o h c side promise there =
     }
 
 -- a drained core that is closed gave all
-pub closed_gave_all : (k : Kept) (left : Left) → IsDrained (state_of k) → left.accepted ≡ map (λ side. side.accepted) k.ports → left.taken ≡ map (λ side. side.taken) k.ports
-    → left.traces ≡ map (λ side. Some (trace_of side)) k.channels → GaveAll k left
-closed_gave_all k left drained accepted taken traces opening events stands =
+pub closed_gave_all : (k : Kept) (left : Left) → All (λ side. opened_with side ≡ (k.config, k.keeps)) k.channels → IsDrained (state_of k) → left.accepted ≡ map (λ side. side.accepted) k.ports → left.taken ≡ map (λ side. side.taken) k.ports
+    → left.traces ≡ map kept_trace k.channels → GaveAll k left
+closed_gave_all k left as_opened drained accepted taken traces opening events stands =
     let h = run opening events in
     let promise = core_keeps_promise opening events in
     let ports : k.ports ≡ h.state.ports = ap (λ (s : State). s.ports) stands.state in
     let channels : map side_of k.channels ≡ h.state.channels = ap (λ (s : State). s.channels) stands.state in
     let all : IsDrained h.state = subst IsDrained stands.state drained in
+    let kept : (c : ℕ) (side : KeptSide) → slice_get k.channels c ≡ Some side → side.channel.keeps ≡ opening.keeps = λ c side is.
+    ap (λ (p : Config × Bool). p.1) (All-at (λ (s : KeptSide). opened_with s ≡ (k.config, k.keeps)) k.channels c side as_opened is) ∙ stands.keeps in
     record {
       finished = promise.finished all;
       accepted = accepted ∙ ap (map (λ (side : PortSide). side.accepted)) ports
@@ -101,7 +115,10 @@ closed_gave_all k left drained accepted taken traces opening events stands =
           let empty = All-at IsPortDrained h.state.ports p side all.ports is in
           let same : side.taken ≡ length (h.sent p) = omega (arith, counted.taken, counted.outstanding, empty.outstanding) in
           same ∙ ap (λ n. length (h.sent n)) (omega arith));
-      channels = ap length traces ∙ length-map k.channels (λ (side : KeptSide). Some (trace_of side)) ∙ sym (length-map k.channels side_of) ∙ ap length channels ∙ (run_keeps opening events).channels_are;
-      traces = subst (AllByRecursion (λ t. IsSomeAnd t (IsRightTrace opening))) (sym traces) (each_trace opening k.channels (λ c side is.
-          trace_right opening h c side promise (ap (λ (sides : List ChannelSide). slice_get sides c) (sym channels) ∙ slice_get-map side_of k.channels c ∙ ap (option_map side_of) is)));
+      channels = ap length traces ∙ length-map k.channels kept_trace ∙ sym (length-map k.channels side_of) ∙ ap length channels ∙ (run_keeps opening events).channels_are;
+      traces = λ keeps. subst (AllByRecursion (λ t. IsSomeAnd t (IsRightTrace opening))) (sym traces) (each_trace opening k.channels (λ c side is. (
+        kept c side is ∙ keeps,
+        trace_right opening h c side promise (ap (λ (sides : List ChannelSide). slice_get sides c) (sym channels) ∙ slice_get-map side_of k.channels c ∙ ap (option_map side_of) is),
+      )));
+      untold = λ keeps. subst (AllByRecursion (λ t. t ≡ None)) (sym traces) (no_trace k.channels (λ c side is. kept c side is ∙ keeps));
     }

@@ -59,14 +59,16 @@ may_take k noted (item.End p) served ports free = omega (arith, served, ports)
 pub record IsTakenIn (it : Item) (before after : channel.Kept) (noted noted' : List Bool) : Type 0 where
   pub state : channel.state_of after ≡ channel_after it (channel.state_of before)
   pub config : after.config ≡ before.config
+  pub keeps : after.keeps ≡ before.keeps
   pub noted_is : noted' ≡ noted_after it noted
   pub count : length noted' ≡ length noted
 
 pub taken_in : (it : Item) (before after : channel.Kept) (noted noted' : List Bool) → Takes it before after noted noted' → IsTakenIn it before after noted noted'
-taken_in (item.Request r) before after noted noted' takes = record { state = takes.0.state; config = takes.0.config; noted_is = takes.1; count = ap (λ (xs : List Bool). length xs) takes.1 }
+taken_in (item.Request r) before after noted noted' takes = record { state = takes.0.state; config = takes.0.config; keeps = takes.0.keeps; noted_is = takes.1; count = ap (λ (xs : List Bool). length xs) takes.1 }
 taken_in (item.End p) before after noted noted' takes = record {
   state = ap channel.state_of takes.0;
   config = ap (λ (k : channel.Kept). k.config) takes.0;
+  keeps = ap (λ (k : channel.Kept). k.keeps) takes.0;
   noted_is = takes.1;
   count = ap (λ (xs : List Bool). length xs) takes.1 ∙ length-set noted p true;
 }

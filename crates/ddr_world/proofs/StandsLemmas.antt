@@ -17,7 +17,7 @@ use Rattle.ddr_world.specs.Events.{Event, Submit, Take, Cycle, Deliver, Collect,
 use Rattle.ddr_world.specs.History.{Opening, Answered, History, begun, after, after_answer, after_step, run}
 use Rattle.ddr_world.specs.Kept.{KeptSide, Kept, side_of, state_of}
 use Rattle.ddr_world.specs.Record.{MayAnswer, IsRecord, StandsFor, RunsTo}
-use Rattle.ddr_world.specs.State.{ChannelSide, State, opened}
+use Rattle.ddr_world.specs.State.{ChannelSide, State}
 use Rattle.ddr_world.specs.Step.{Step, step}
 
 record_more : (h : History) (events : List Answered) (a : Answered) → IsRecord h events → MayAnswer (fold after h events).state a.event a.answer → IsRecord h (events ++ a ∷ [])
@@ -55,6 +55,7 @@ stands_more k k' opening events event answer stands answered =
     let a : Answered = record { event = event; answer = answer } in
     record {
       config = answered.config ∙ stands.config;
+      keeps = answered.keeps ∙ stands.keeps;
       is_record = record_more (begun opening) events a stands.is_record (may_answer h.state k k' event answer stands.state answered);
       state = state_after h k k' event answer stands.state answered ∙ ap (λ (t : History). t.state) (sym (fold-append after (begun opening) events (a ∷ [])));
     }
@@ -82,9 +83,6 @@ runs_more k k' k'' events made refused made' refused' event answer runs more_mad
 -- no event leads on from every record to that record
 pub runs_none : (k : Kept) → RunsTo k k [] 0 0
 runs_none k = record { answered = []; events_are = refl; made_are = refl; refused_are = refl; stands = λ opening earlier stands. subst (λ record_now. StandsFor k opening record_now) (sym (append-nil earlier)) stands }
-
-pub stands_opened : (k : Kept) (opening : Opening) → k.config ≡ opening.config → state_of k ≡ opened opening.config opening.cycle opening.number → StandsFor k opening []
-stands_opened k opening config state = record { config = config; is_record = tt; state = state }
 
 -- a run over a list of events goes on to the next one
 pub run_on : (k k' k'' : Kept) (xs : List given.Event) (i : ℕ) (d : given.Event) (made refused made' refused' : ℕ) (answer : Result Outcome Refusal) → i < length xs

@@ -85,16 +85,17 @@ no_want k (Collect p) cause is memory = tt
 no_want k (Release p) cause is memory = tt
 no_want k (End p c) cause is memory = tt
 
-pub answered : (k k' : Kept) (event : Event) (o : Outcome) (s : State) → step (state_of k) event ≡ made s o → state_of k' ≡ s → k'.config ≡ k.config → IsAnswered k k' event (Ok o)
-answered k k' event o s is state config = record { ok = is ∙ ap (λ t. made t o) (sym state); refused = tt; memory = tt; err = tt; config = config }
+pub answered : (k k' : Kept) (event : Event) (o : Outcome) (s : State) → step (state_of k) event ≡ made s o → state_of k' ≡ s → k'.config ≡ k.config → k'.keeps ≡ k.keeps → IsAnswered k k' event (Ok o)
+answered k k' event o s is state config keeps = record { ok = is ∙ ap (λ t. made t o) (sym state); refused = tt; memory = tt; err = tt; config = config; keeps = keeps }
 
-pub refused : (k k' : Kept) (event : Event) (cause : Refusal) → step (state_of k) event ≡ Err cause → state_of k' ≡ state_of k → k'.config ≡ k.config → IsAnswered k k' event (Err cause)
-refused k k' event cause is state config = record {
+pub refused : (k k' : Kept) (event : Event) (cause : Refusal) → step (state_of k) event ≡ Err cause → state_of k' ≡ state_of k → k'.config ≡ k.config → k'.keeps ≡ k.keeps → IsAnswered k k' event (Err cause)
+refused k k' event cause is state config keeps = record {
   ok = tt;
   refused = is_refused event cause (step (state_of k) event) is;
   memory = no_want k event cause is;
   err = state;
   config = config;
+  keeps = keeps;
 }
 
 -- an event of one channel alone
@@ -105,7 +106,7 @@ pub channel_made : (k : Kept) (c : ℕ) (old new : KeptSide) (event : Event) (o 
 channel_made k c old new event o f is there made_is =
     answered k (record k { channels = slice_set k.channels c new }) event o (with_channel c (side_of new) (state_of k))
     (is ∙ at_channel_is k c old (λ side. change_channel (state_of k) c o (f side)) there ∙ ap (change_channel (state_of k) c o) made_is)
-    (channel_set k c new) refl
+    (channel_set k c new) refl refl
 
 pub channel_refused : (k : Kept) (c : ℕ) (old new : KeptSide) (event : Event) (o : Outcome) (cause : Refusal) (f : ChannelSide → Result ChannelSide Refusal)
     → step (state_of k) event ≡ at_channel (state_of k) c (λ side. change_channel (state_of k) c o (f side)) → slice_get k.channels c ≡ Some old → f (side_of old) ≡ Err cause → side_of new ≡ side_of old
@@ -113,7 +114,7 @@ pub channel_refused : (k : Kept) (c : ℕ) (old new : KeptSide) (event : Event) 
 channel_refused k c old new event o cause f is there refused_is same =
     refused k (record k { channels = slice_set k.channels c new }) event cause
     (is ∙ at_channel_is k c old (λ side. change_channel (state_of k) c o (f side)) there ∙ ap (change_channel (state_of k) c o) refused_is)
-    (channel_same k c old new there same) refl
+    (channel_same k c old new there same) refl refl
 
 refused_for : (s : State) (c : ℕ) (o : Outcome) (cause : Refusal) (r : Result ChannelSide Refusal) → IsRefusedFor cause r → IsRefusedFor cause (change_channel s c o r)
 refused_for s c o cause (Ok side) is = is
@@ -130,11 +131,12 @@ cycle_refused k c old new o cause f is there refused_is wanted same = record {
   memory = λ memory. subst (λ (x : Option KeptSide). IfSome x (λ side. IsTrue (wants_memory side.channel))) (sym there) (wanted memory);
   err = channel_same k c old new there same;
   config = refl;
+  keeps = refl;
 }
 
 -- no port or no channel of that number
 pub no_such_port : (k : Kept) (p : ℕ) (event : Event) (f : PortSide → Step) → step (state_of k) event ≡ at_port (state_of k) p f → length k.ports ≤ p → IsAnswered k k event (Err refusal.NoSuch)
-no_such_port k p event f is out = refused k k event refusal.NoSuch (is ∙ no_port k p f out) refl refl
+no_such_port k p event f is out = refused k k event refusal.NoSuch (is ∙ no_port k p f out) refl refl refl
 
 -- an event of one port alone
 
@@ -143,14 +145,14 @@ pub port_made : (k : Kept) (p : ℕ) (old new : PortSide) (event : Event) (o : O
     → IsAnswered k (record k { ports = slice_set k.ports p new }) event (Ok o)
 port_made k p old new event o f after is there made_is same =
     answered k (record k { ports = slice_set k.ports p new }) event o (with_port p after (state_of k)) (is ∙ at_port_is k p old f there ∙ made_is)
-    (ap (λ (side : PortSide). with_port p side (state_of k)) same) refl
+    (ap (λ (side : PortSide). with_port p side (state_of k)) same) refl refl
 
 pub port_refused : (k : Kept) (p : ℕ) (old new : PortSide) (event : Event) (cause : Refusal) (f : PortSide → Step)
     → step (state_of k) event ≡ at_port (state_of k) p f → slice_get k.ports p ≡ Some old → f old ≡ Err cause → new ≡ old
     → IsAnswered k (record k { ports = slice_set k.ports p new }) event (Err cause)
 port_refused k p old new event cause f is there refused_is same =
     refused k (record k { ports = slice_set k.ports p new }) event cause (is ∙ at_port_is k p old f there ∙ refused_is)
-    (ap state_of (port_same k p old new there same)) refl
+    (ap state_of (port_same k p old new there same)) refl refl
 
 -- Collect
 
@@ -217,7 +219,7 @@ submit_busy k p old new asked r side there free prepared channel busy same =
     refused k (record k { ports = slice_set k.ports p new }) (Submit p asked) (refusal.Busy r.place.channel)
     (submit_of k p old asked r side there free prepared channel
     ∙ ap (λ b. cond b (Err (refusal.Busy r.place.channel)) (made (with_channel r.place.channel (queued (item.Request r) (side_of side)) (with_port p (after_submit asked old) (state_of k))) (outcome.Accepted r.number))) busy)
-    (ap state_of (port_same k p old new there same)) refl
+    (ap state_of (port_same k p old new there same)) refl refl
 
 pub submit_made : (k : Kept) (p : ℕ) (old new : PortSide) (asked : Asked) (r : Request) (side side' : KeptSide) → slice_get k.ports p ≡ Some old → refusal_of old.core asked ≡ None → request_at old.core asked ≡ Some r
     → slice_get k.channels r.place.channel ≡ Some side → is_busy (side_of side) ≡ false → new ≡ after_submit asked old → side_of side' ≡ queued (item.Request r) (side_of side)
@@ -229,7 +231,7 @@ submit_made k p old new asked r side side' there free prepared channel busy is q
     (submit_of k p old asked r side there free prepared channel
     ∙ ap (λ b. cond b (Err (refusal.Busy c)) (made (with_channel c (queued (item.Request r) (side_of side)) (with_port p (after_submit asked old) (state_of k))) (outcome.Accepted r.number))) busy)
     (channel_set (record k { ports = slice_set k.ports p new }) c side'
-    ∙ ap₂ (λ (x : PortSide) (y : ChannelSide). with_channel c y (with_port p x (state_of k))) is queued_is) refl
+    ∙ ap₂ (λ (x : PortSide) (y : ChannelSide). with_channel c y (with_port p x (state_of k))) is queued_is) refl refl
 
 -- Deliver
 
@@ -244,7 +246,7 @@ pub deliver_nothing : (k : Kept) (c : ℕ) (side : KeptSide) → slice_get k.cha
 deliver_nothing k c side there none =
     refused k k (Deliver c) refusal.Nothing
     (at_channel_is k c side (deliver_by (state_of k) c) there
-    ∙ ap (λ o. option_map_or (push_completion (state_of k) c (side_of side)) o (Err refusal.Nothing)) (none_of (λ (d : Completion). d.port) (slice_get side.channel.done 0) none)) refl refl
+    ∙ ap (λ o. option_map_or (push_completion (state_of k) c (side_of side)) o (Err refusal.Nothing)) (none_of (λ (d : Completion). d.port) (slice_get side.channel.done 0) none)) refl refl refl
 
 no_queue : (k : Kept) (c p : ℕ) (side : KeptSide) (o : Option Completion) → slice_get k.channels c ≡ Some side → slice_get side.channel.done 0 ≡ o → Some p ≡ option_map (λ (d : Completion). d.port) o
     → length k.ports ≤ p → IsAnswered k k (Deliver c) (Err refusal.QueueFull)
@@ -253,7 +255,7 @@ no_queue k c p side (Some d) there done for out =
     let port_is : p ≡ d.port = cc in
     refused k k (Deliver c) refusal.QueueFull
     (deliver_of k c side d there done
-    ∙ ap (λ o. option_map_or (deliver_to (state_of k) c (side_of side) d) o (Err refusal.QueueFull)) (slice_get_past k.ports d.port (subst (λ n. length k.ports ≤ n) port_is out))) refl refl
+    ∙ ap (λ o. option_map_or (deliver_to (state_of k) c (side_of side) d) o (Err refusal.QueueFull)) (slice_get_past k.ports d.port (subst (λ n. length k.ports ≤ n) port_is out))) refl refl refl
 
 pub deliver_nowhere : (k : Kept) (c p : ℕ) (side : KeptSide) → slice_get k.channels c ≡ Some side → Some p ≡ option_map (λ (d : Completion). d.port) (slice_get side.channel.done 0)
     → length k.ports ≤ p → IsAnswered k k (Deliver c) (Err refusal.QueueFull)
@@ -267,7 +269,7 @@ full_queue k c p side port (Some d) there done for at full =
     refused k k (Deliver c) refusal.QueueFull
     (deliver_of k c side d there done
     ∙ ap (λ o. option_map_or (deliver_to (state_of k) c (side_of side) d) o (Err refusal.QueueFull)) (ap (slice_get k.ports) (sym port_is) ∙ at)
-    ∙ ap (λ b. cond b (Err refusal.QueueFull) (made (with_port d.port (after_deliver d port) (with_channel c (sent (side_of side)) (state_of k))) outcome.Delivered)) full) refl refl
+    ∙ ap (λ b. cond b (Err refusal.QueueFull) (made (with_port d.port (after_deliver d port) (with_channel c (sent (side_of side)) (state_of k))) outcome.Delivered)) full) refl refl refl
 
 pub deliver_full : (k : Kept) (c p : ℕ) (side : KeptSide) (port : PortSide) → slice_get k.channels c ≡ Some side → Some p ≡ option_map (λ (d : Completion). d.port) (slice_get side.channel.done 0)
     → slice_get k.ports p ≡ Some port → is_completion_queue_full port ≡ true → IsAnswered k k (Deliver c) (Err refusal.QueueFull)
@@ -285,7 +287,7 @@ deliver_made k c p side side' port port' d there for done at free sent_is is =
     ∙ ap (λ b. cond b (Err refusal.QueueFull) (made (with_port d.port (after_deliver d port) (with_channel c (sent (side_of side)) (state_of k))) outcome.Delivered)) free)
     (channel_set (record k { ports = slice_set k.ports p port' }) c side'
     ∙ ap₂ (λ (x : PortSide) (y : ChannelSide). with_channel c y (with_port p x (state_of k))) is sent_is
-    ∙ ap (λ n. with_port n (after_deliver d port) (with_channel c (sent (side_of side)) (state_of k))) port_is) refl
+    ∙ ap (λ n. with_port n (after_deliver d port) (with_channel c (sent (side_of side)) (state_of k))) port_is) refl refl
 
 -- End
 
@@ -308,7 +310,7 @@ pub end_refused : (k : Kept) (p c : ℕ) (port : PortSide) (side : KeptSide) (ou
     → cond outstanding (Err refusal.NotEmpty) (cond ended (Err refusal.Finished) (cond busy (Err (refusal.Busy c)) (made (with_channel c (queued (item.End p) (side_of side)) (with_port p (after_end c port) (state_of k))) outcome.Ended))) ≡ Err cause
     → IsAnswered k k (End p c) (Err cause)
 end_refused k p c port side outstanding ended busy cause there channel o e b is =
-    refused k k (End p c) cause (end_of k p c port side there channel ∙ chosen_end (state_of k) p c port (side_of side) outstanding ended busy o e b ∙ is) refl refl
+    refused k k (End p c) cause (end_of k p c port side there channel ∙ chosen_end (state_of k) p c port (side_of side) outstanding ended busy o e b ∙ is) refl refl refl
 
 pub end_made : (k : Kept) (p c : ℕ) (port port' : PortSide) (side side' : KeptSide) → slice_get k.ports p ≡ Some port → slice_get k.channels c ≡ Some side
     → eqb (length port.core.reorder.outstanding) 0 ≡ true → unwrap_or (slice_get port.pushed c) false ≡ false → is_busy (side_of side) ≡ false
@@ -319,4 +321,4 @@ end_made k p c port port' side side' there channel o e b is queued_is =
     (with_channel c (queued (item.End p) (side_of side)) (with_port p (after_end c port) (state_of k)))
     (end_of k p c port side there channel ∙ chosen_end (state_of k) p c port (side_of side) false false false o e b)
     (channel_set (record k { ports = slice_set k.ports p port' }) c side'
-    ∙ ap₂ (λ (x : PortSide) (y : ChannelSide). with_channel c y (with_port p x (state_of k))) is queued_is) refl
+    ∙ ap₂ (λ (x : PortSide) (y : ChannelSide). with_channel c y (with_port p x (state_of k))) is queued_is) refl refl

@@ -20,7 +20,7 @@ use Rattle.ddr_reorder.specs.State.{awaits}
 use Rattle.ddr_ports.specs.Asked.{Asked}
 use Rattle.ddr_ports.specs.State.{PortState, after_fill}
 use Rattle.ddr_world.specs.declared.world.World.TheInside.{Inside}
-use Rattle.ddr_world.specs.Kept.{KeptSide}
+use Rattle.ddr_world.specs.Kept.{KeptSide, opened_with}
 use Rattle.ddr_world.specs.State.{PortSide}
 use Rattle.ddr_world.specs.Step.{after_submit, after_deliver, after_collect, after_release, after_end}
 use Rattle.ddr_world.specs.View.{IsPortOf, IsWhole}
@@ -34,23 +34,23 @@ channel_there a c side within is = slice_get_read a.channels.items (length a.cha
 pub old_port : (a : Inside) (p : ℕ) (side : PortSide) → IsWhole a → p < length a.ports.items → side ≡ get_or a.ports.items p side → IsPortOf a.config side
 old_port a p side whole within is = subst (IsPortOf a.config) (sym is) (whole.ports_of_config p side within)
 
-pub old_channel : (a : Inside) (c : ℕ) (side : KeptSide) → IsWhole a → c < length a.channels.items → side ≡ get_or a.channels.items c side → side.channel.config ≡ a.config
-old_channel a c side whole within is = ap (λ (s : KeptSide). s.channel.config) is ∙ whole.channels_of_config c side within
+pub old_channel : (a : Inside) (c : ℕ) (side : KeptSide) → IsWhole a → c < length a.channels.items → side ≡ get_or a.channels.items c side → opened_with side ≡ (a.config, a.keeps)
+old_channel a c side whole within is = ap opened_with is ∙ whole.channels_as_opened c side within
 
 pub whole_port : (a : Inside) (p : ℕ) (side : PortSide) → IsWhole a → IsPortOf a.config side → IsWhole (record a { ports = with_item a.ports p side })
 whole_port a p side whole of = record {
   ports_are = length-set a.ports.items p side ∙ whole.ports_are;
   channels_are = whole.channels_are;
   ports_of_config = All-set (IsPortOf a.config) a.ports.items p side of whole.ports_of_config;
-  channels_of_config = whole.channels_of_config;
+  channels_as_opened = whole.channels_as_opened;
 }
 
-pub whole_channel : (a : Inside) (c : ℕ) (side : KeptSide) → IsWhole a → side.channel.config ≡ a.config → IsWhole (record a { channels = with_item a.channels c side })
+pub whole_channel : (a : Inside) (c : ℕ) (side : KeptSide) → IsWhole a → opened_with side ≡ (a.config, a.keeps) → IsWhole (record a { channels = with_item a.channels c side })
 whole_channel a c side whole of = record {
   ports_are = whole.ports_are;
   channels_are = length-set a.channels.items c side ∙ whole.channels_are;
   ports_of_config = whole.ports_of_config;
-  channels_of_config = All-set (λ (s : KeptSide). s.channel.config ≡ a.config) a.channels.items c side of whole.channels_of_config;
+  channels_as_opened = All-set (λ (s : KeptSide). opened_with s ≡ (a.config, a.keeps)) a.channels.items c side of whole.channels_as_opened;
 }
 
 -- a port keeps its shape

@@ -39,3 +39,4 @@ pub record IsAnswered (before after : Kept) (event : Event) (answer : Result Out
   pub memory : IfErr answer (λ cause. cause ≡ OutOfMemory → WantsMemory before event)
   pub err : OnErr answer (state_of after ≡ state_of before)
   pub config : after.config ≡ before.config
+  pub keeps : after.keeps ≡ before.keeps

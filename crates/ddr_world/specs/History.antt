@@ -1,6 +1,6 @@
 -- What a record of events makes of the core, with what no code keeps: which requests each channel's queue
 -- accepted, where each port's requests are, and which replies were taken.
-use Rattle.std.specs.Prelude.{ℕ, ◌==◌, if◌then◌else◌, List, [], ◌∷◌, ◌++◌, length, fold, slice_get, Option, Result, Ok, Err}
+use Rattle.std.specs.Prelude.{ℕ, Bool, ◌==◌, if◌then◌else◌, List, [], ◌∷◌, ◌++◌, length, fold, slice_get, Option, Result, Ok, Err}
 use Rattle.std.specs.Option.{option_and_then, option_map_or}
 use Rattle.ddr_timing.specs.declared.config.Config.{Config}
 use Rattle.ddr_address_map.specs.Requests.{Request}
@@ -15,9 +15,10 @@ use Rattle.ddr_world.specs.Events.{Event, Submit, Take, Release}
 use Rattle.ddr_world.specs.State.{State, opened}
 use Rattle.ddr_world.specs.Step.{Step, step}
 
--- what the core was opened with: the first cycle of each channel, and the first number of each port
+-- what the core was opened with: whether each channel keeps its trace, its first cycle, and the first number of each port
 pub record Opening : Type 0 where
   pub config : Config
+  pub keeps : Bool
   pub cycle : ℕ
   pub number : ℕ
 

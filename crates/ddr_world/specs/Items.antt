@@ -29,6 +29,7 @@ MayTake (item.End p) k noted = p < length noted
 pub record Admits (r : Request) (before after : Kept) : Type 0 where
   pub state : state_of after ≡ after_admit r (state_of before)
   pub config : after.config ≡ before.config
+  pub keeps : after.keeps ≡ before.keeps
   pub stands : (calls : List Call) → StandsFor before calls → StandsFor after (calls ++ Admit r ∷ [])
 
 -- one of both changes, as said above, and the other stays as it was

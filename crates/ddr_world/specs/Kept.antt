@@ -14,14 +14,20 @@ pub record KeptSide : Type 0 where
 
 pub record Kept : Type 0 where
   pub config : Config
+  -- whether each channel keeps its trace
+  pub keeps : Bool
   pub ports : List PortSide
   pub channels : List KeptSide
 
--- of each port how many requests it had accepted and how many replies it gave up, and the trace of each channel
+-- of each port how many requests it had accepted and how many replies it gave up, and the trace of each channel, where it was kept
 pub record Left : Type 0 where
   pub accepted : List ℕ
   pub taken : List ℕ
   pub traces : List (Option Recorded)
+
+-- what a channel was opened with, that no call changes
+abbrev pub opened_with : KeptSide → Config × Bool
+opened_with k = (k.channel.config, k.channel.keeps)
 
 abbrev pub side_of : KeptSide → ChannelSide
 side_of k = record { channel = channel_kept.state_of k.channel; requests = k.requests; noted = k.noted }

@@ -25,6 +25,7 @@ IsRecord h (a ∷ later) = MayAnswer h.state a.event a.answer × IsRecord (after
 -- The core stands for the record: it begins with the core's opening, and the core's state is what its events make.
 pub record StandsFor (k : Kept) (opening : Opening) (events : List Answered) : Type 0 where
   pub config : k.config ≡ opening.config
+  pub keeps : k.keeps ≡ opening.keeps
   pub is_record : IsRecord (begun opening) events
   pub state : state_of k ≡ (run opening events).state
 

@@ -10,7 +10,7 @@ use Rattle.ddr_world.specs.declared.port_side.PortSide.TheInside as port_inside
 use Rattle.ddr_world.specs.declared.channel_side.ChannelSide.TheInside as channel_inside
 use Rattle.ddr_world.specs.declared.world.World.TheInside as world_inside
 use Rattle.ddr_world.specs.State.{PortSide}
-use Rattle.ddr_world.specs.Kept.{KeptSide, Kept}
+use Rattle.ddr_world.specs.Kept.{KeptSide, Kept, opened_with}
 
 abbrev pub port_of : port_inside.Inside → PortSide
 port_of a = record { core = a.core; completions = a.completions.items; accepted = a.accepted; taken = a.taken; pushed = a.pushed.items }
@@ -38,7 +38,7 @@ pub record IsChannelWhole (a : channel_inside.Inside) : Type 0 where
   pub ports : length a.noted.items ≡ a.channel.config.limits.ports
 
 abbrev pub kept_of : world_inside.Inside → Kept
-kept_of a = record { config = a.config; ports = a.ports.items; channels = a.channels.items }
+kept_of a = record { config = a.config; keeps = a.keeps; ports = a.ports.items; channels = a.channels.items }
 
 -- the port has the memory's shape, and an End for each channel
 pub record IsPortOf (config : Config) (side : PortSide) : Type 0 where
@@ -49,4 +49,4 @@ pub record IsWhole (a : world_inside.Inside) : Type 0 where
   pub ports_are : length a.ports.items ≡ a.config.limits.ports
   pub channels_are : length a.channels.items ≡ a.config.geometry.channels
   pub ports_of_config : All (IsPortOf a.config) a.ports.items
-  pub channels_of_config : All (λ c. c.channel.config ≡ a.config) a.channels.items
+  pub channels_as_opened : All (λ c. opened_with c ≡ (a.config, a.keeps)) a.channels.items

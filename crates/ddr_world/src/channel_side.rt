@@ -5,9 +5,10 @@ ghost use Rattle.ddr_timing.specs.declared.units.TheConstants.{CLOCK_STOP};
 ghost use Rattle.ddr_channel.specs.Kept as kept;
 ghost use Rattle.ddr_channel.specs.Quiet.{IsQuiet};
 ghost use Rattle.ddr_channel.specs.Room.{wants_memory};
+ghost use Rattle.ddr_channel.specs.State as channel_state;
 ghost use Rattle.ddr_world.specs.declared.event.Refusal.TheVariants.{OutOfMemory};
-ghost use Rattle.ddr_world.specs.Close.{trace_of};
-ghost use Rattle.ddr_world.specs.Kept.{side_of};
+ghost use Rattle.ddr_world.specs.Close.{kept_trace};
+ghost use Rattle.ddr_world.specs.Kept.{opened_with, side_of};
 ghost use Rattle.ddr_world.specs.Quiet.{IsQuietSide, side_passed};
 ghost use Rattle.ddr_world.specs.State.{IsChannelDrained, is_busy, opened_channel};
 ghost use Rattle.ddr_world.specs.Step.{IsRefusedFor, cycled, queued, sent, taken};
@@ -48,18 +49,19 @@ impl Model for ChannelSide {
 }
 
 impl ChannelSide {
-    /// A channel that has made no cycle, with an empty queue.
+    /// A channel that has made no cycle, with an empty queue. Its trace is kept, where `keeps` says so.
     pub(crate) fn open(
         alloc: Global,
         config: &Config,
         first_cycle: u64,
+        keeps: bool,
     ) -> Result<ChannelSide, AllocError>
         requires { first_cycle ≤ CLOCK_STOP }
         ensures state { IfOk result (λ side. side_of side ≡ opened_channel config.now first_cycle) }
-        ensures config { IfOk result (λ side. side.channel.config ≡ config.now) }
+        ensures opened { IfOk result (λ side. opened_with side ≡ (config.now, keeps)) }
     {
         Ok(ChannelSide {
-            channel: Channel::open(alloc, config, first_cycle)?,
+            channel: open_channel(alloc, config, first_cycle, keeps)?,
             requests: HeapCircularBuffer::with_capacity(alloc, config.limits.intake as usize)?,
             noted: vec![in alloc; false; config.limits.ports as usize]?,
         })
@@ -77,7 +79,7 @@ impl ChannelSide {
         requires free { is_busy (side_of self.old) ≡ false }
         requires served { IsServedItem self.old.channel.config item }
         ensures state { side_of self.new ≡ queued item (side_of self.old) }
-        ensures config { self.new.channel.config ≡ self.old.channel.config }
+        ensures opened { opened_with self.new ≡ opened_with self.old }
     {
         let _ = self.requests.try_push_back(item);
     }
@@ -88,7 +90,7 @@ impl ChannelSide {
         ensures ok { OnOk result (taken (side_of self.old) ≡ Ok (side_of self.new)) }
         ensures refused { IfErr result (λ cause. taken (side_of self.old) ≡ Err cause) }
         ensures err { OnErr result (self.new ≡ self.old) }
-        ensures config { self.new.channel.config ≡ self.old.channel.config }
+        ensures opened { opened_with self.new ≡ opened_with self.old }
     {
         if self.requests.is_empty() {
             return Err(Refusal::Nothing);
@@ -109,7 +111,7 @@ impl ChannelSide {
         ensures refused { IfErr result (λ cause. IsRefusedFor cause (cycled (side_of self.old))) }
         ensures memory { IfErr result (λ cause. cause ≡ OutOfMemory → IsTrue (wants_memory self.old.channel)) }
         ensures err { OnErr result (side_of self.new ≡ side_of self.old) }
-        ensures config { self.new.channel.config ≡ self.old.channel.config }
+        ensures opened { opened_with self.new ≡ opened_with self.old }
         ensures told { IfOk result (Tells self.old.channel self.new.channel) }
     {
         let issued = self.channel.cycle_observed()?;
@@ -131,7 +133,7 @@ impl ChannelSide {
     pub(crate) fn pass(&mut self, count: u64)
         requires { IsQuiet count (kept.state_of self.old.channel) }
         ensures state { side_of self.new ≡ side_passed count (side_of self.old) }
-        ensures config { self.new.channel.config ≡ self.old.channel.config }
+        ensures opened { opened_with self.new ≡ opened_with self.old }
     {
         self.channel.pass(count);
     }
@@ -149,7 +151,7 @@ impl ChannelSide {
     pub(crate) fn pop_done(&mut self) -> Option<Done>
         ensures first { result ≡ slice_get self.old.channel.done 0 }
         ensures rest { side_of self.new ≡ sent (side_of self.old) }
-        ensures config { self.new.channel.config ≡ self.old.channel.config }
+        ensures opened { opened_with self.new ≡ opened_with self.old }
     {
         self.channel.pop_done()
     }
@@ -168,15 +170,37 @@ impl ChannelSide {
         &self.channel
     }
 
-    /// The commands of the channel. The side is given up.
-    pub(crate) fn into_trace(self) -> Trace
-        ensures { result ≡ trace_of self }
+    /// The commands of the channel, where it keeps them. The side is given up.
+    pub(crate) fn into_trace(self) -> Option<Trace>
+        ensures { result ≡ kept_trace self }
     {
         let ChannelSide {
             channel,
             requests: _,
             noted: _,
         } = self;
-        channel.into_trace()
+        if !channel.keeps_trace() {
+            return None;
+        }
+        Some(channel.into_trace())
+    }
+}
+
+/// A channel that has made no cycle, with or without its trace.
+fn open_channel(
+    alloc: Global,
+    config: &Config,
+    first_cycle: u64,
+    keeps: bool,
+) -> Result<Channel, AllocError>
+    requires { first_cycle ≤ CLOCK_STOP }
+    ensures state { IfOk result (λ c. kept.state_of c ≡ channel_state.opened config.now first_cycle) }
+    ensures config { IfOk result (λ c. c.config ≡ config.now) }
+    ensures keeps { IfOk result (λ c. c.keeps ≡ keeps) }
+{
+    if keeps {
+        Channel::open(alloc, config, first_cycle)
+    } else {
+        Channel::open_without_trace(alloc, config, first_cycle)
     }
 }

@@ -1,5 +1,5 @@
 //! The core: its ports and channels, and one event after another.
-ghost use Rattle.std.specs.Prelude.{◌≡◌, ◌+◌, ◌<◌, ◌≤◌, ◌↔◌, length, map, replicate, List, [], ◌∷◌, ◌++◌, slice_get, All, IfErr, IfOk, IfSome, IsOk, IsTrue, Some};
+ghost use Rattle.std.specs.Prelude.{◌≡◌, ◌+◌, ◌<◌, ◌≤◌, ◌↔◌, true, false, length, map, replicate, List, [], ◌∷◌, ◌++◌, slice_get, All, IfErr, IfOk, IfSome, IsOk, IsTrue, Some};
 ghost use Rattle.std.specs.List.{list_any, range_with_len};
 ghost use Rattle.std.specs.Option.{option_copied, option_map};
 ghost use Rattle.ddr_timing.specs.declared.units.TheConstants.{CLOCK_STOP};
@@ -8,11 +8,11 @@ ghost use Rattle.ddr_ports.specs.Asked.{asked_of};
 ghost use Rattle.ddr_channel.specs.Kept as channel_kept;
 ghost use Rattle.ddr_channel.specs.Quiet as quiet;
 ghost use Rattle.ddr_world.specs.Answer.{IsAnswered};
-ghost use Rattle.ddr_world.specs.Close.{GaveAll, IsLeftOf, trace_of};
+ghost use Rattle.ddr_world.specs.Close.{GaveAll, IsLeftOf, kept_trace};
 ghost use Rattle.ddr_world.specs.Events as events;
 ghost use Rattle.ddr_world.specs.Events.{event_of};
 ghost use Rattle.ddr_world.specs.History.{Answered, Opening, front_of, served_of};
-ghost use Rattle.ddr_world.specs.Kept.{side_of, state_of};
+ghost use Rattle.ddr_world.specs.Kept.{opened_with, side_of, state_of};
 ghost use Rattle.ddr_world.specs.Quiet.{IsQuiet, IsQuietSide, cycles_made, passed, side_passed};
 ghost use Rattle.ddr_world.specs.Record.{IsNext, IsRightAt, RunsTo, StandsFor};
 ghost use Rattle.ddr_world.specs.Served.{TellsService, front_service, served_service_of};
@@ -44,6 +44,8 @@ pub const MOST_CHANNELS: usize = 4;
 #[derive(Drop)]
 pub struct World {
     config: Config,
+    // Whether each channel keeps its trace.
+    keeps: bool,
     ports: Vec<PortSide>,
     channels: Vec<ChannelSide>,
 }
@@ -87,7 +89,7 @@ pub struct Closed {
     pub accepted: ArrayVec<u64, MOST_PORTS>,
     /// How many replies each port gave up.
     pub taken: ArrayVec<u64, MOST_PORTS>,
-    /// The commands of each channel. Each is there: a trace has no blank, which the vector needs.
+    /// The commands of each channel. Each is there where the core was opened with traces, and none where it was opened without.
     pub traces: ArrayVec<Option<Trace>, MOST_CHANNELS>,
 }
 
@@ -103,9 +105,18 @@ impl World {
     /// A core before its first event, whose clocks and numbers begin at 0.
     pub fn open(alloc: Global, config: &Config) -> Result<World, AllocError>
         ensures state { IfOk result (λ w. state_of w ≡ opened config.now 0 0) }
-        ensures stands { IfOk result (λ w. StandsFor w (record { config = config.now; cycle = 0; number = 0 }) []) }
+        ensures stands { IfOk result (λ w. StandsFor w (record { config = config.now; keeps = true; cycle = 0; number = 0 }) []) }
     {
         World::open_at(alloc, config, 0, 0)
+    }
+
+    /// As `open`, but no channel keeps its trace, so that a run of any length takes no more memory than the rows that it writes. All
+    /// that is promised of a core is promised of this one; `close` has no traces to give then.
+    pub fn open_without_traces(alloc: Global, config: &Config) -> Result<World, AllocError>
+        ensures state { IfOk result (λ w. state_of w ≡ opened config.now 0 0) }
+        ensures stands { IfOk result (λ w. StandsFor w (record { config = config.now; keeps = false; cycle = 0; number = 0 }) []) }
+    {
+        World::open_as(alloc, config, 0, 0, false)
     }
 
     /// A core before its first event. Each channel's first cycle is `first_cycle`, and the first number of
@@ -119,12 +130,29 @@ impl World {
         requires cycle { first_cycle ≤ CLOCK_STOP }
         requires number { first_number ≤ CLOCK_STOP }
         ensures state { IfOk result (λ w. state_of w ≡ opened config.now first_cycle first_number) }
-        ensures stands { IfOk result (λ w. StandsFor w (record { config = config.now; cycle = first_cycle; number = first_number }) []) }
+        ensures stands { IfOk result (λ w. StandsFor w (record { config = config.now; keeps = true; cycle = first_cycle; number = first_number }) []) }
+    {
+        World::open_as(alloc, config, first_cycle, first_number, true)
+    }
+
+    /// As `open_at`, with the traces of the channels or, as `open_without_traces`, without them.
+    pub fn open_as(
+        alloc: Global,
+        config: &Config,
+        first_cycle: u64,
+        first_number: u64,
+        keeps: bool,
+    ) -> Result<World, AllocError>
+        requires cycle { first_cycle ≤ CLOCK_STOP }
+        requires number { first_number ≤ CLOCK_STOP }
+        ensures state { IfOk result (λ w. state_of w ≡ opened config.now first_cycle first_number) }
+        ensures stands { IfOk result (λ w. StandsFor w (record { config = config.now; keeps = keeps; cycle = first_cycle; number = first_number }) []) }
     {
         Ok(World {
             config: *config,
+            keeps,
             ports: open_ports(alloc, config, first_number)?,
-            channels: open_channels(alloc, config, first_cycle)?,
+            channels: open_channels(alloc, config, first_cycle, keeps)?,
         })
     }
 
@@ -343,6 +371,7 @@ impl World {
         requires { IsQuiet count (state_of self.old) }
         ensures state { state_of self.new ≡ passed count (state_of self.old) }
         ensures config { self.new.config ≡ self.old.config }
+        ensures keeps { self.new.keeps ≡ self.old.keeps }
         ensures stands { (opening : Opening) (earlier : List Answered) → StandsFor self.old opening earlier
             → StandsFor self.new opening (earlier ++ cycles_made count (length self.old.channels)) }
     {
@@ -391,11 +420,19 @@ impl World {
         })
     }
 
+    /// Whether each channel keeps its trace.
+    pub fn keeps_traces(&self) -> bool
+        ensures { result ≡ self.now.keeps }
+    {
+        self.keeps
+    }
+
     /// The channel of that number, if there is one.
     pub fn channel(&self, channel: u32) -> Option<&Channel>
         ensures value { option_copied result ≡ option_map (λ side. side.channel) (slice_get self.now.channels channel) }
         ensures within { IfSome result (λ there. channel < self.now.config.geometry.channels) }
         ensures config { IfSome result (λ there. there.now.config ≡ self.now.config) }
+        ensures keeps { IfSome result (λ there. there.now.keeps ≡ self.now.keeps) }
     {
         if !self.has_channel(channel) {
             return None;
@@ -423,7 +460,7 @@ impl World {
         self.channels.iter().all(|side| side.is_drained())
     }
 
-    /// Gives up the core where it is drained, and tells what each port did and the commands of each channel. Nothing
+    /// Gives up the core where it is drained, and tells what each port did and the commands of each channel, where they were kept. Nothing
     /// more could come of it: each further event would be refused, but for a cycle, which adds a refresh, a precharge of
     /// all banks or nothing to its channel's trace.
     pub fn close(self) -> Result<Closed, (World, NotDrained)>
@@ -437,6 +474,7 @@ impl World {
         }
         let World {
             config: _,
+            keeps: _,
             ports,
             channels,
         } = self;
@@ -461,14 +499,19 @@ fn open_ports(alloc: Global, config: &Config, first: u64) -> Result<Vec<PortSide
 }
 
 /// The channels of a core, in order.
-fn open_channels(alloc: Global, config: &Config, first: u64) -> Result<Vec<ChannelSide>, AllocError>
+fn open_channels(
+    alloc: Global,
+    config: &Config,
+    first: u64,
+    keeps: bool,
+) -> Result<Vec<ChannelSide>, AllocError>
     requires { first ≤ CLOCK_STOP }
     ensures state { IfOk result (λ v. map side_of v.items ≡ replicate config.now.geometry.channels (opened_channel config.now first)) }
-    ensures config { IfOk result (λ v. All (λ side. side.channel.config ≡ config.now) v.items) }
+    ensures opened { IfOk result (λ v. All (λ side. opened_with side ≡ (config.now, keeps)) v.items) }
 {
     let mut channels = Vec::new(alloc);
     for _ in 0..config.geometry.channels {
-        channels.push(ChannelSide::open(alloc, config, first)?)?;
+        channels.push(ChannelSide::open(alloc, config, first, keeps)?)?;
     }
     Ok(channels)
 }
@@ -491,7 +534,7 @@ fn still_of(channels: &[ChannelSide]) -> u64
 fn pass_all(channels: &mut [ChannelSide], count: u64)
     requires { All (λ side. quiet.IsQuiet count (channel_kept.state_of side.channel)) channels.old }
     ensures state { map side_of channels.new ≡ map (side_passed count) (map side_of channels.old) }
-    ensures config { map (λ side. side.channel.config) channels.new ≡ map (λ side. side.channel.config) channels.old }
+    ensures opened { map opened_with channels.new ≡ map opened_with channels.old }
 {
     for side in channels.iter_mut() {
         side.pass(count);
@@ -522,14 +565,14 @@ fn taken_by(ports: &[PortSide]) -> ArrayVec<u64, MOST_PORTS>
     counts
 }
 
-/// The commands of each channel. The channels are given up.
+/// The commands of each channel, where it keeps them. The channels are given up.
 fn traces_of(channels: Vec<ChannelSide>) -> ArrayVec<Option<Trace>, MOST_CHANNELS>
     requires { length channels.items ≤ MOST_CHANNELS }
-    ensures { result.items ≡ map (λ side. Some (trace_of side)) channels.items }
+    ensures { result.items ≡ map kept_trace channels.items }
 {
     let mut traces = ArrayVec::new();
     for side in channels {
-        traces.push(Some(side.into_trace()));
+        traces.push(side.into_trace());
     }
     traces
 }

@@ -2,7 +2,7 @@
 use Rattle.std.proofs.Common.{◌≡◌, [], ◌∷◌, ◌++◌, List, All, map, ap, ap₂, sym, subst, ◌∙◌}
 use Rattle.std.proofs.lemmas.List.{map-append, replicate-append-replicate}
 use Rattle.std.proofs.lemmas.List.Elements.{All-push}
-use Rattle.ddr_world.specs.Kept.{KeptSide, side_of}
+use Rattle.ddr_world.specs.Kept.{KeptSide, opened_with, side_of}
 use Rattle.ddr_world.specs.State.{ChannelSide, opened_channel}
 use Rattle.ddr_world.proofs.world.open_channels.Goals as goal
 
@@ -15,6 +15,6 @@ loop-preserved c =
       opened = ap (map side_of) c.in_ok-push.ensures.items ∙ map-append side_of xs (x ∷ [])
           ∙ ap₂ (λ (ys : List ChannelSide) (y : ChannelSide). ys ++ y ∷ []) c.loop.invariant.opened c.in_ok-open.ensures.state
           ∙ replicate-append-replicate c.loop.counter 1 o;
-      config = subst (All (λ (side : KeptSide). side.channel.config ≡ c.args.config.now)) (sym c.in_ok-push.ensures.items)
-          (All-push (λ (side : KeptSide). side.channel.config ≡ c.args.config.now) xs x c.loop.invariant.config c.in_ok-open.ensures.config);
+      as_opened = subst (All (λ (side : KeptSide). opened_with side ≡ (c.args.config.now, c.args.keeps))) (sym c.in_ok-push.ensures.items)
+          (All-push (λ (side : KeptSide). opened_with side ≡ (c.args.config.now, c.args.keeps)) xs x c.loop.invariant.as_opened c.in_ok-open.ensures.opened);
     }

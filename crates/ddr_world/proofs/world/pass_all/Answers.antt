@@ -2,7 +2,7 @@
 use Rattle.std.proofs.Common.{◌<◌, length, get_or, arith, ◌∙◌}
 use Rattle.std.proofs.lemmas.Option.{slice_get-get_or}
 use Rattle.std.proofs.Math.Seq.{map-set_same}
-use Rattle.ddr_world.specs.Kept.{KeptSide}
+use Rattle.ddr_world.specs.Kept.{opened_with}
 use Rattle.ddr_world.proofs.QuietLemmas.{next_passed, next_quiet}
 use Rattle.ddr_world.proofs.world.pass_all.Goals as goal
 
@@ -20,5 +20,5 @@ loop-side-preserved c =
     let within : i < length now = omega arith in
     record {
       passed = next_passed c.args.count i c.args.channels.now now (get_or now i c.side-item.result) c.pass.new.self c.loop-side.invariant.passed (slice_get-get_or now i c.side-item.result within) c.pass.ensures.state;
-      config = map-set_same (λ (side : KeptSide). side.channel.config) now i c.pass.new.self c.side-item.result c.pass.ensures.config ∙ c.loop-side.invariant.config;
+      as_opened = map-set_same opened_with now i c.pass.new.self c.side-item.result c.pass.ensures.opened ∙ c.loop-side.invariant.as_opened;
     }

@@ -1,5 +1,5 @@
 -- The channel takes what was popped.
-use Rattle.std.proofs.Common.{Bool, List, ap, sym, subst, ◌∙◌}
+use Rattle.std.proofs.Common.{Bool, List, sym, subst, ◌∙◌}
 use Rattle.std.proofs.lemmas.List.{with_items_is}
 use Rattle.ddr_world.specs.Items.{MayTake, Takes}
 use Rattle.ddr_workers.specs.WorkerView.{HasTried, IsWhole, state_of}

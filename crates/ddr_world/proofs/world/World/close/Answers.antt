@@ -12,7 +12,7 @@ returns-clause-whole c =
     let a = c.self.inside in
     let drained = subst (λ (k : Kept). IsDrained (state_of k)) (sym c.self.view_is) (c.is_drained.ensures.0 c.if-not-is_drained.false) in
     subst (λ (k : Kept). GaveAll k (record { accepted = c.accepted_by.result.items; taken = c.taken_by.result.items; traces = c.traces_of.result.items })) c.self.view_is
-    (closed_gave_all (kept_of a) (record { accepted = c.accepted_by.result.items; taken = c.taken_by.result.items; traces = c.traces_of.result.items }) drained
+    (closed_gave_all (kept_of a) (record { accepted = c.accepted_by.result.items; taken = c.taken_by.result.items; traces = c.traces_of.result.items }) c.self.invariant.channels_as_opened drained
     (c.accepted_by.ensures ∙ ap (map (λ (side : PortSide). side.accepted)) c.deref.ensures.value)
     (c.taken_by.ensures ∙ ap (map (λ (side : PortSide). side.taken)) c.deref-2.ensures.value)
     c.traces_of.ensures)

@@ -33,7 +33,7 @@ returns-then-not-has_channel-clause-stands c = λ opening earlier stands.
     stands_more c.args.self.now c.args.self.now opening earlier (Cycle c.args.channel) (Err NoSuch) stands
     (refused c.args.self.now c.args.self.now (Cycle c.args.channel) NoSuch
     (no_channel c.args.self.now c.args.channel (λ side. change_channel (state_of c.args.self.now) c.args.channel Cycled (cycled side))
-    (not_within c.has_channel.result c.args.channel (length c.args.self.now.channels) c.has_channel.ensures c.if-not-has_channel.true)) refl refl)
+    (not_within c.has_channel.result c.args.channel (length c.args.self.now.channels) c.has_channel.ensures c.if-not-has_channel.true)) refl refl refl)
 
 pub returns-in_err-issued-clause-answer : goal.returns-in_err-issued-clause-answer
 returns-in_err-issued-clause-answer c =
@@ -59,14 +59,14 @@ invariant_of-self c =
     let a = c.self.inside in
     let within = subst (λ (k : Kept). c.args.channel < length k.channels) (sym c.self.view_is) (c.has_channel.ensures.0 c.if-not-has_channel.false) in
     whole_channel a c.args.channel c.cycle.new.self c.self.invariant
-    (c.cycle.ensures.config ∙ old_channel a c.args.channel c.index_mut.result.now c.self.invariant within c.index_mut.ensures.value)
+    (c.cycle.ensures.opened ∙ old_channel a c.args.channel c.index_mut.result.now c.self.invariant within c.index_mut.ensures.value)
 
 pub invariant_of-self-2 : goal.invariant_of-self-2
 invariant_of-self-2 c =
     let a = c.self.inside in
     let within = subst (λ (k : Kept). c.args.channel < length k.channels) (sym c.self.view_is) (c.has_channel.ensures.0 c.if-not-has_channel.false) in
     whole_channel a c.args.channel c.cycle.new.self c.self.invariant
-    (c.cycle.ensures.config ∙ old_channel a c.args.channel c.index_mut.result.now c.self.invariant within c.index_mut.ensures.value)
+    (c.cycle.ensures.opened ∙ old_channel a c.args.channel c.index_mut.result.now c.self.invariant within c.index_mut.ensures.value)
 
 pub returns-clause-answer : goal.returns-clause-answer
 returns-clause-answer c =

@@ -81,7 +81,7 @@ invariant_of-self c =
     let of = old_port a c.in-Some.port c.index_mut-2.result.now c.self.invariant in_ports c.index_mut-2.ensures.value in
     whole_channel (record a { ports = with_item a.ports c.in-Some.port c.deliver.new.self }) c.args.channel c.pop_done.new.self
     (whole_port a c.in-Some.port c.deliver.new.self c.self.invariant (of_deliver a.config c.index_mut-2.result.now c.deliver.new.self c.unwrap-done.result of c.deliver.ensures))
-    (c.pop_done.ensures.config ∙ old_channel a c.args.channel c.index_mut.result.now c.self.invariant in_channels c.index_mut.ensures.value)
+    (c.pop_done.ensures.opened ∙ old_channel a c.args.channel c.index_mut.result.now c.self.invariant in_channels c.index_mut.ensures.value)
 
 pub returns : goal.returns
 returns c =

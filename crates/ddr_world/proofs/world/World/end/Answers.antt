@@ -1,5 +1,5 @@
 -- The port pushes its End on the queue of the channel.
-use Rattle.std.proofs.Common.{◌<◌, true, false, eqb, Ok, Err, length, refl, sym, ap, subst, ◌∙◌, arith}
+use Rattle.std.proofs.Common.{Bool, ◌<◌, true, false, eqb, Ok, Err, length, refl, sym, ap, subst, ◌∙◌, arith}
 use Rattle.std.specs.List.{slice_get, slice_set}
 use Rattle.std.specs.Option.{unwrap_or}
 use Rattle.std.specs.Vec.{with_item}
@@ -88,7 +88,7 @@ push-requires-clause-served c =
     let in_ports = subst (λ (k : Kept). c.args.port < length k.ports) (sym c.self.view_is) (c.has_port.ensures.0 c.if-not-has_port.false) in
     let in_channels = subst (λ (k : Kept). c.args.channel < length k.channels) (sym c.self.view_is) (c.has_channel.ensures.0 c.if-not-has_channel.false) in
     let config = old_channel a c.args.channel c.index_mut-2.result.now c.self.invariant in_channels c.index_mut-2.ensures.value in
-    omega (arith, in_ports, ap (λ (x : Config). x.limits.ports) config, c.self.invariant.ports_are)
+    omega (arith, in_ports, ap (λ (x : Config × Bool). x.0.limits.ports) config, c.self.invariant.ports_are)
 
 pub invariant_of-self : goal.invariant_of-self
 invariant_of-self c =
@@ -99,7 +99,7 @@ invariant_of-self c =
     let of = old_port a c.args.port old c.self.invariant in_ports c.index_mut.ensures.value in
     whole_channel (record a { ports = with_item a.ports c.args.port c.end.new.self }) c.args.channel c.push.new.self
     (whole_port a c.args.port c.end.new.self c.self.invariant (of_end a.config old c.end.new.self c.args.channel of c.end.ensures))
-    (c.push.ensures.config ∙ old_channel a c.args.channel c.index_mut-2.result.now c.self.invariant in_channels c.index_mut-2.ensures.value)
+    (c.push.ensures.opened ∙ old_channel a c.args.channel c.index_mut-2.result.now c.self.invariant in_channels c.index_mut-2.ensures.value)
 
 pub returns : goal.returns
 returns c =

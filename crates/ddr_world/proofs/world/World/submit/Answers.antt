@@ -1,5 +1,6 @@
 -- The port prepares a request and pushes it on the queue of its channel.
-use Rattle.std.proofs.Common.{◌≡◌, false, Some, Result, Ok, Err, sym, ap, subst, ◌∙◌, arith}
+use Rattle.std.proofs.Common.{Bool, ◌≡◌, false, Some, Result, Ok, Err, sym, ap, subst, ◌∙◌, arith}
+use Rattle.ddr_timing.specs.declared.config.Config.{Config}
 use Rattle.std.specs.List.{slice_set}
 use Rattle.std.specs.Vec.{with_item}
 use Rattle.ddr_address_map.specs.Requests.{Request}
@@ -97,7 +98,7 @@ push-requires-clause-served c =
     let port = has_port a c.args.port old c.self.invariant c.self.view_is (c.has_port.ensures.0 c.if-not-has_port.false) c.index_mut-side.ensures.value in
     let on_channel = has_channel_of a c.args.port old port c.made.view_is c.in_ok-made.ensures.placed in
     served_there a old c.index_mut.result.now c.in_ok-made.made.place port.of
-    (old_channel a c.made.inside.place.channel c.index_mut.result.now c.self.invariant on_channel c.index_mut.ensures.value) c.in_ok-made.ensures.placed
+    (ap (λ (x : Config × Bool). x.0) (old_channel a c.made.inside.place.channel c.index_mut.result.now c.self.invariant on_channel c.index_mut.ensures.value)) c.in_ok-made.ensures.placed
 
 pub invariant_of-self-2 : goal.invariant_of-self-2
 invariant_of-self-2 c =
@@ -107,7 +108,7 @@ invariant_of-self-2 c =
     let on_channel = has_channel_of a c.args.port old port c.made.view_is c.in_ok-made.ensures.placed in
     whole_channel (record a { ports = with_item a.ports c.args.port c.submit.new.self }) c.made.inside.place.channel c.push.new.self
     (whole_port a c.args.port c.submit.new.self c.self.invariant (of_submit a.config old c.submit.new.self (asked_of c.args.request) port.of c.in_ok-made.ensures.ok))
-    (c.push.ensures.config ∙ old_channel a c.made.inside.place.channel c.index_mut.result.now c.self.invariant on_channel c.index_mut.ensures.value)
+    (c.push.ensures.opened ∙ old_channel a c.made.inside.place.channel c.index_mut.result.now c.self.invariant on_channel c.index_mut.ensures.value)
 
 pub returns : goal.returns
 returns c =

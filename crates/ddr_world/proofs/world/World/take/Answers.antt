@@ -31,7 +31,7 @@ invariant_of-self-2 c =
     let a = c.self.inside in
     let within = subst (λ (k : Kept). c.args.channel < length k.channels) (sym c.self.view_is) (c.has_channel.ensures.0 c.if-not-has_channel.false) in
     whole_channel a c.args.channel c.take.new.self c.self.invariant
-    (c.take.ensures.config ∙ old_channel a c.args.channel c.index_mut.result.now c.self.invariant within c.index_mut.ensures.value)
+    (c.take.ensures.opened ∙ old_channel a c.args.channel c.index_mut.result.now c.self.invariant within c.index_mut.ensures.value)
 
 pub returns : goal.returns
 returns c =
