@@ -1,5 +1,5 @@
 -- What the parts of a round are made of, and where they stop.
-use Rattle.std.proofs.Common.{◌≡◌, ◌<◌, ◌-◌, ◌+◌, ℕ, zero, suc, true, List, Option, Some, None, Result, Ok, Err, IfErr, IfSome, OnOk, IsTrue, inl, inr, refl, sym, ap, subst, ◌∙◌, arith}
+use Rattle.std.proofs.Common.{◌≡◌, ◌<◌, ◌-◌, ◌+◌, ℕ, zero, suc, Option, Some, None, Result, Ok, Err, IfErr, IfSome, OnOk, IsTrue, inl, inr, refl, sym, ap, subst, ◌∙◌, arith}
 use Rattle.std.specs.List.{slice_get}
 use Rattle.std.specs.Option.{option_map, option_and_then}
 use Rattle.std.proofs.lemmas.Bool.{false≢true}
@@ -8,14 +8,13 @@ use Rattle.ddr_channel.specs.Room.{wants_memory}
 use Rattle.ddr_timing.specs.declared.config.Config.{Config}
 use Rattle.ddr_world.specs.declared.event.Outcome.{Outcome}
 use Rattle.ddr_world.specs.declared.event.Refusal.{Refusal}
-use Rattle.ddr_world.specs.declared.event.Refusal.TheVariants as refusal
 use Rattle.ddr_world.specs.Answer.{IsAnswered, Issues, MayWantMemory, WantsMemory}
 use Rattle.ddr_world.specs.Events.{Event, Take, Cycle, Deliver, Collect}
 use Rattle.ddr_world.specs.Kept.{Kept, KeptSide, side_of, state_of}
 use Rattle.ddr_world.specs.State.{ChannelSide, State}
 use Rattle.ddr_world.specs.Step.{IsRefusedFor, Step, made, step}
 use Rattle.ddr_rounds.specs.Rounds.{IsCycleRefused, IsPartRefused, IsStopped, channel_served, channels_served, is_popping, items_of, made_state, outstanding, ports_collected, round, until_refused}
-use Rattle.ddr_rounds.proofs.EventLemmas.{Stays, repeated_stays}
+use Rattle.ddr_rounds.proofs.EventLemmas.{repeated_stays}
 use Rattle.ddr_rounds.proofs.StepCounts.{cycled_numbers, popped_numbers}
 
 -- a channel's part of a round

@@ -1,5 +1,5 @@
 -- Rounds behind rounds, and that quiet ones only pass cycles.
-use Rattle.std.proofs.Common.{◌≡◌, ◌<◌, ◌≤◌, ◌+◌, ℕ, zero, suc, List, [], ◌∷◌, Option, Some, None, All, length, map, refl, sym, ap, subst, ◌∙◌, arith}
+use Rattle.std.proofs.Common.{◌≡◌, ◌<◌, ◌≤◌, ◌+◌, ℕ, zero, suc, List, [], ◌∷◌, Option, Some, None, All, length, map, refl, sym, ap, ◌∙◌, arith}
 use Rattle.std.specs.List.{slice_get, slice_set}
 use Rattle.std.specs.Option.{option_map, option_and_then, option_map_or}
 use Rattle.std.proofs.lemmas.List.{length-map, map-id}
@@ -8,12 +8,12 @@ use Rattle.std.proofs.lemmas.Option.{slice_get_within}
 use Rattle.ddr_channel.proofs.ListLemmas.{All-at}
 use Rattle.ddr_timing.specs.declared.config.Config.{Config}
 use Rattle.ddr_world.specs.declared.event.Refusal.{Refusal}
-use Rattle.ddr_world.specs.Events.{Event, Take, Cycle, Deliver, Collect}
+use Rattle.ddr_world.specs.Events.{Take, Cycle, Deliver, Collect}
 use Rattle.ddr_world.specs.Quiet.{IsQuiet, IsQuietFor, IsQuietSide, passed, side_passed}
 use Rattle.ddr_world.specs.State.{ChannelSide, PortSide, State}
 use Rattle.ddr_world.specs.Step.{Step, step, with_channel}
 use Rattle.ddr_world.proofs.QuietLemmas.{fewer_of_side, first_all, first_at, first_more, first_passed, side_quiet_on, some_side, step_cycle}
-use Rattle.ddr_rounds.specs.Rounds.{IsStopped, channel_served, channels_served, items_of, made_state, ports_collected, round, rounds, until_refused}
+use Rattle.ddr_rounds.specs.Rounds.{IsStopped, channel_served, channels_served, made_state, ports_collected, round, rounds, until_refused}
 use Rattle.ddr_rounds.proofs.EventLemmas.{nothing_popped}
 use Rattle.ddr_rounds.proofs.PartLemmas.{stopped_on}
 

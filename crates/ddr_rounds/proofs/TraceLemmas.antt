@@ -1,5 +1,5 @@
 -- What was told of the channels' parts of a round is what their traces have more.
-use Rattle.std.proofs.Common.{◌≡◌, ◌≢◌, ℕ, zero, suc, Bool, true, false, cond, List, [], ◌∷◌, ◌++◌, Option, Some, None, Result, Ok, Err, IsTrue, refl, sym, ap, ap₂, subst, ◌∙◌, append_assoc, inl, inr, arith}
+use Rattle.std.proofs.Common.{◌≡◌, ◌≢◌, ℕ, zero, suc, Bool, true, false, cond, List, [], ◌∷◌, ◌++◌, Option, Some, None, Result, Ok, Err, IsTrue, refl, sym, ap, subst, ◌∙◌, append_assoc, inl, inr, arith}
 use Rattle.std.specs.List.{fold, slice_get, slice_set}
 use Rattle.std.specs.Option.{option_map, option_and_then, option_map_or}
 use Rattle.std.specs.Prelude.{◌==◌, ◌||◌, ◌⊎◌}
@@ -13,7 +13,6 @@ use Rattle.ddr_address_map.specs.Requests.{Completion}
 use Rattle.ddr_address_map.specs.declared.request.Kind.TheVariants.{Read, Write}
 use Rattle.ddr_channel.specs.declared.issued.Issued.{Issued}
 use Rattle.ddr_channel.specs.Cycle.{after_cycle}
-use Rattle.ddr_channel.specs.Kept as channel_kept
 use Rattle.ddr_channel.specs.Quiet as quiet
 use Rattle.ddr_channel.specs.State as channel_state
 use Rattle.ddr_channel.specs.State.{is_queue_full}
@@ -37,7 +36,7 @@ use Rattle.ddr_world.specs.Events.{Event, Submit, Take, Cycle, Deliver, Collect,
 use Rattle.ddr_world.specs.Kept.{Kept, KeptSide, side_of, state_of}
 use Rattle.ddr_world.specs.Promise.{trace_at}
 use Rattle.ddr_world.specs.Quiet.{IsQuiet, IsQuietFor, IsQuietSide, passed, side_passed}
-use Rattle.ddr_world.specs.State.{ChannelSide, PortSide, State, is_busy, is_completion_queue_full}
+use Rattle.ddr_world.specs.State.{ChannelSide, State, is_busy, is_completion_queue_full}
 use Rattle.ddr_world.specs.Step.{Step, made, with_port, with_channel, change_channel, taken, cycled, after_take, sent, after_deliver, deliver_to, push_completion, deliver_by, deliver, after_collect, collect_by, collect, queued, after_submit, push_on, push_request, submit_by, submit, after_release, release_by, release, step}
 use Rattle.ddr_world.specs.Told.{TellsOf}
 use Rattle.ddr_rounds.specs.declared.told.Told.{Told}
@@ -306,6 +305,10 @@ none_of_release d p (Err cause) = refl
 
 with_none : (xs ys zs : List Entry) → xs ≡ ys → zs ≡ [] → xs ≡ ys ++ zs
 with_none xs ys zs same none = same ∙ sym (append-nil ys) ∙ ap (λ es. ys ++ es) (sym none)
+
+-- a request that a port is asked for issues nothing
+pub submit_traces : (d : ℕ) (k next : Kept) (p : ℕ) (asked : Asked) (r : Result Outcome Refusal) → IsAnswered k next (Submit p asked) r → trace_at (state_of next) d ≡ trace_at (state_of k) d
+submit_traces d k next p asked r a = answered_still d k next (Submit p asked) r (submit_still d (state_of k) p asked) a
 
 pub submit_heard : {W : Type 0} (hears : W → Told → W) (before after : W) (k next : Kept) (p : ℕ) (asked : Asked) (r : Result Outcome Refusal) → IsAnswered k next (Submit p asked) r → after ≡ fold hears before (submit_told p r) → IsHeard hears before after (state_of k) (state_of next)
 submit_heard hears before after k next p asked r a heard = record {

@@ -32,6 +32,7 @@ pub fn serve_channels<W: Watcher>(
     ensures heard { IsHeard W.hears watcher.old watcher.new (state_of world.old) (state_of world.new) }
     ensures outstanding { outstanding (state_of world.new) ≡ outstanding (state_of world.old) }
     ensures config { world.new.config ≡ world.old.config }
+    ensures keeps { world.new.keeps ≡ world.old.keeps }
     ensures continues { Continues world.old world.new }
 {
     for channel in 0..channels {
@@ -54,6 +55,7 @@ fn serve_channel<W: Watcher>(
     ensures heard { IsHeard W.hears watcher.old watcher.new (state_of world.old) (state_of world.new) }
     ensures outstanding { outstanding (state_of world.new) ≡ outstanding (state_of world.old) }
     ensures config { world.new.config ≡ world.old.config }
+    ensures keeps { world.new.keeps ≡ world.old.keeps }
     ensures continues { Continues world.old world.new }
 {
     let _ = repeat(world, Event::Take(channel));

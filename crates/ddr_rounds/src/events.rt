@@ -19,6 +19,7 @@ pub(crate) fn repeat(world: &mut World, event: Event<'_>) -> bool
     ensures some { result ≡ is_ok (step (state_of world.old) (event_of event.entry)) }
     ensures outstanding { outstanding (state_of world.new) ≡ outstanding (state_of world.old) }
     ensures config { world.new.config ≡ world.old.config }
+    ensures keeps { world.new.keeps ≡ world.old.keeps }
     ensures continues { Continues world.old world.new }
 {
     let mut some = false;

@@ -29,6 +29,7 @@ pub fn collect(world: &mut World, port: u32) -> bool
     ensures outstanding { outstanding (state_of world.new) ≡ outstanding (state_of world.old) }
     ensures traces { (c : ℕ) → trace_at (state_of world.new) c ≡ trace_at (state_of world.old) c }
     ensures config { world.new.config ≡ world.old.config }
+    ensures keeps { world.new.keeps ≡ world.old.keeps }
     ensures continues { Continues world.old world.new }
 {
     repeat(world, Event::Collect(port))
@@ -41,6 +42,7 @@ pub fn collect_ports(world: &mut World, ports: u32)
     ensures outstanding { outstanding (state_of world.new) ≡ outstanding (state_of world.old) }
     ensures traces { (c : ℕ) → trace_at (state_of world.new) c ≡ trace_at (state_of world.old) c }
     ensures config { world.new.config ≡ world.old.config }
+    ensures keeps { world.new.keeps ≡ world.old.keeps }
     ensures continues { Continues world.old world.new }
 {
     for port in 0..ports {

@@ -44,6 +44,7 @@ pub fn make_rounds<W: Watcher>(
     ensures heard { IsHeard W.hears watcher.old watcher.new (state_of world.old) (state_of world.new) }
     ensures drains { AreRaised channels (drained world.old.config result.made (state_of world.old)) drains.old drains.new }
     ensures config { world.new.config ≡ world.old.config }
+    ensures keeps { world.new.keeps ≡ world.old.keeps }
     ensures continues { Continues world.old world.new }
 {
     let mut made = 0u64;
@@ -85,6 +86,7 @@ fn advance<W: Watcher>(
     ensures refused { IfErr result (λ cause. IsRoundRefused cause world.old.config (state_of world.old) (state_of world.new)) }
     ensures heard { IsHeard W.hears watcher.old watcher.new (state_of world.old) (state_of world.new) }
     ensures config { world.new.config ≡ world.old.config }
+    ensures keeps { world.new.keeps ≡ world.old.keeps }
     ensures continues { Continues world.old world.new }
 {
     let quiet = world.still().min(most);
@@ -110,6 +112,7 @@ pub fn make_round<W: Watcher>(
     ensures refused { IfErr result (λ cause. IsRoundRefused cause world.old.config (state_of world.old) (state_of world.new)) }
     ensures heard { IsHeard W.hears watcher.old watcher.new (state_of world.old) (state_of world.new) }
     ensures config { world.new.config ≡ world.old.config }
+    ensures keeps { world.new.keeps ≡ world.old.keeps }
     ensures continues { Continues world.old world.new }
 {
     serve_channels(world, channels, watcher)?;
@@ -125,6 +128,7 @@ pub fn pass<W: Watcher>(world: &mut World, count: u64, watcher: &mut W)
     ensures told { watcher.new ≡ W.hears watcher.old (Told.Passed count) }
     ensures heard { IsHeard W.hears watcher.old watcher.new (state_of world.old) (state_of world.new) }
     ensures config { world.new.config ≡ world.old.config }
+    ensures keeps { world.new.keeps ≡ world.old.keeps }
     ensures continues { Continues world.old world.new }
 {
     world.pass(count);

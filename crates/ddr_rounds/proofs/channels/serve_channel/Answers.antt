@@ -10,7 +10,7 @@ use Rattle.ddr_world.specs.Told.{cycle_answer}
 use Rattle.ddr_rounds.specs.declared.told.Told.{Told}
 use Rattle.ddr_rounds.specs.Rounds.{outstanding}
 use Rattle.ddr_rounds.proofs.ContinueLemmas.{continues_by, continues_then}
-use Rattle.ddr_rounds.proofs.PartLemmas.{channel_alike, cycle_refused, refused_alike, served_by, stopped_by}
+use Rattle.ddr_rounds.proofs.PartLemmas.{channel_alike, cycle_refused, served_by, stopped_by}
 use Rattle.ddr_rounds.proofs.TraceLemmas.{channel_heard, channel_told_by, heard_nothing, popped_still}
 use Rattle.ddr_rounds.proofs.channels.serve_channel.Goals as goal
 

@@ -16,6 +16,7 @@ loop-channel-init g c = record {
   heard = heard_nothing g.W.Watcher.hears c.args.watcher.now (state_of c.args.world.now) (state_of c.args.world.now) (λ d. refl);
   outstanding = refl;
   config = refl;
+  keeps = refl;
   continues = continues_still c.args.world.now;
 }
 
@@ -34,6 +35,7 @@ loop-channel-preserved g c =
       heard = heard_then g.W.Watcher.hears c.args.watcher.now c.loop-channel.watcher c.serve_channel.new.watcher (state_of before) (state_of now) (state_of next) kept.heard c.serve_channel.ensures.heard;
       outstanding = c.serve_channel.ensures.outstanding ∙ kept.outstanding;
       config = c.serve_channel.ensures.config ∙ kept.config;
+      keeps = c.serve_channel.ensures.keeps ∙ kept.keeps;
       continues = continues_then before now next kept.continues c.serve_channel.ensures.continues;
     }
 

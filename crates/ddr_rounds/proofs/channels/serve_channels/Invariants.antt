@@ -14,5 +14,6 @@ invariant-loop-channel g l = record {
   heard : IsHeard g.W.Watcher.hears l.fn.watcher l.watcher (state_of l.fn.world) (state_of l.world);
   outstanding : outstanding (state_of l.world) ≡ outstanding (state_of l.fn.world);
   config : l.world.config ≡ l.fn.world.config;
+  keeps : l.world.keeps ≡ l.fn.world.keeps;
   continues : Continues l.fn.world l.world;
 }

@@ -1,5 +1,5 @@
 -- One channel more was counted, or has nothing to count.
-use Rattle.std.proofs.Common.{◌≡◌, ◌+◌, Bool, if◌then◌else◌, sym, ap, subst, ◌∙◌}
+use Rattle.std.proofs.Common.{◌+◌, Bool, if◌then◌else◌, sym, ap, subst, ◌∙◌}
 use Rattle.ddr_world.specs.Kept.{state_of}
 use Rattle.ddr_rounds.specs.Drains.{counted_in}
 use Rattle.ddr_rounds.proofs.DrainLemmas.{AreRaisedBelow, none_below, not_raised_here, raised_here}

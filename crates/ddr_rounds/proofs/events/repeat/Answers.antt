@@ -1,10 +1,10 @@
 -- One item after another is popped.
-use Rattle.std.proofs.Common.{arith, refl, sym, ap, ◌∙◌}
+use Rattle.std.proofs.Common.{arith, sym, ap, ◌∙◌}
 use Rattle.ddr_world.specs.Events.{event_of}
 use Rattle.ddr_world.specs.Kept.{state_of}
 use Rattle.ddr_world.specs.State.{State}
 use Rattle.ddr_rounds.specs.Rounds.{items_of, outstanding}
-use Rattle.ddr_rounds.proofs.ContinueLemmas.{continues_by, continues_still, continues_then}
+use Rattle.ddr_rounds.proofs.ContinueLemmas.{continues_by, continues_then}
 use Rattle.ddr_rounds.proofs.EventLemmas.{answered_err, answered_ok, made_at_all, made_first}
 use Rattle.ddr_rounds.proofs.PartLemmas.{popped_alike}
 use Rattle.ddr_rounds.proofs.StepCounts.{made_pops, repeated_end, repeated_more}
@@ -28,6 +28,7 @@ items-preserved c =
       made = λ _. made_first c.items.some (state_of c.args.world.now) (state_of before) (state_of after) event ok.0 kept.made kept.none ok.1;
       none = λ is. absurd (let impossible = is in cc);
       config = c.step.ensures.answer.config ∙ kept.config;
+      keeps = c.step.ensures.answer.keeps ∙ kept.keeps;
       continues = continues_then c.args.world.now before after kept.continues (continues_by before after event c.step.result c.step.ensures.stands);
     }
 
@@ -45,5 +46,6 @@ returns c =
       some = made_at_all c.items.some (state_of start) (state_of now) event err.0 kept.made kept.none err.1;
       outstanding = ap (λ (s : State). outstanding s) state ∙ popped_alike event (state_of start) c.requires;
       config = c.step.ensures.answer.config ∙ kept.config;
+      keeps = c.step.ensures.answer.keeps ∙ kept.keeps;
       continues = continues_then start now after kept.continues (continues_by now after event c.step.result c.step.ensures.stands);
     }

@@ -12,6 +12,7 @@ invariant-items l = record {
   made : l.some ≡ true → is_ok (step (state_of l.fn.world) (event_of l.event)) ≡ true;
   none : l.some ≡ false → state_of l.world ≡ state_of l.fn.world;
   config : l.world.config ≡ l.fn.world.config;
+  keeps : l.world.keeps ≡ l.fn.world.keeps;
   continues : Continues l.fn.world l.world;
 }
 

@@ -6,7 +6,7 @@ use Rattle.ddr_rounds.proofs.PartLemmas.{ports_more}
 use Rattle.ddr_rounds.proofs.ports.collect_ports.Goals as goal
 
 pub loop-port-init : goal.loop-port-init
-loop-port-init c = record { state = refl; outstanding = refl; traces = λ d. refl; config = refl; continues = continues_still c.args.world.now }
+loop-port-init c = record { state = refl; outstanding = refl; traces = λ d. refl; config = refl; keeps = refl; continues = continues_still c.args.world.now }
 
 pub loop-port-preserved : goal.loop-port-preserved
 loop-port-preserved c =
@@ -17,5 +17,6 @@ loop-port-preserved c =
       outstanding = collect.outstanding ∙ kept.outstanding;
       traces = λ d. collect.traces d ∙ kept.traces d;
       config = collect.config ∙ kept.config;
+      keeps = collect.keeps ∙ kept.keeps;
       continues = continues_then c.args.world.now c.loop-port.world c.collect.new.world kept.continues collect.continues;
     }

@@ -11,5 +11,6 @@ invariant-loop-port l = record {
   outstanding : outstanding (state_of l.world) ≡ outstanding (state_of l.fn.world);
   traces : (c : ℕ) → trace_at (state_of l.world) c ≡ trace_at (state_of l.fn.world) c;
   config : l.world.config ≡ l.fn.world.config;
+  keeps : l.world.keeps ≡ l.fn.world.keeps;
   continues : Continues l.fn.world l.world;
 }

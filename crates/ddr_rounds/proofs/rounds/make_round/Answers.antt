@@ -1,5 +1,5 @@
 -- All channels were served, and then the ports; or a channel's cycle was refused.
-use Rattle.std.proofs.Common.{◌≡◌, ℕ, Some, sym, subst, ◌∙◌}
+use Rattle.std.proofs.Common.{◌≡◌, ℕ, Some, subst}
 use Rattle.std.proofs.lemmas.Result.{err_from_is_err_and}
 use Rattle.ddr_world.specs.Kept.{state_of}
 use Rattle.ddr_rounds.specs.Rounds.{IsPartRefused, IsStopped, channels_served, ports_collected}

@@ -17,6 +17,7 @@ rounds-init g c = record {
   heard = heard_nothing g.W.Watcher.hears c.args.watcher.now (state_of c.args.world.now) (state_of c.args.world.now) (λ d. refl);
   drains = raised_nothing c.args.channels (drained c.args.world.now.config 0 (state_of c.args.world.now)) c.args.drains.now (λ d. refl);
   config = refl;
+  keeps = refl;
   continues = continues_still c.args.world.now;
 }
 
@@ -44,6 +45,7 @@ rounds-preserved g c =
           ∙ ap (λ n. drained before.config c.rounds.made (state_of before) d + n) (subst (λ (k : Config). drained k more (state_of now) d ≡ counted_in more (state_of next) d) kept.config (c.in-Ok.ensures.steady d)))
           kept.drains c.count_drains.ensures;
       config = c.advance.ensures.config ∙ kept.config;
+      keeps = c.advance.ensures.keeps ∙ kept.keeps;
       continues = continues_then before now next kept.continues c.advance.ensures.continues;
     }
 

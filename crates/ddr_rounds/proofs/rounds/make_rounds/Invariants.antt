@@ -13,6 +13,7 @@ invariant-rounds g l = record {
   heard : IsHeard g.W.Watcher.hears l.fn.watcher l.watcher (state_of l.fn.world) (state_of l.world);
   drains : AreRaised l.channels (drained l.fn.world.config l.made (state_of l.fn.world)) l.fn.drains l.drains;
   config : l.world.config ≡ l.fn.world.config;
+  keeps : l.world.keeps ≡ l.fn.world.keeps;
   continues : Continues l.fn.world l.world;
 }
 
