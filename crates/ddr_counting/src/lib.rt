@@ -1,7 +1,7 @@
-//! The statistics of a channel that still runs: what a question finds was counted once, however often it is asked.
+//! The statistics of the channels of a core, counted as their commands are issued.
 //!
-//! Below stand the statistics of a trace (`ddr_statistics`) and the channel (`ddr_channel`); above, `ddr_replay` and `ddr_c`. `counting`
-//! counts the commands of a channel that came since the question before.
+//! Below stand the statistics of a trace (`ddr_statistics`), the core (`ddr_world`) and its rounds (`ddr_rounds`); above, `ddr_replay` and
+//! `ddr_c`. `noting` watches rounds and counts what it is told, so that no command has to be kept for it.
 #![tactic(auto)]
 
-pub mod counting;
+pub mod noting;

@@ -17,7 +17,7 @@ use Rattle.ddr_statistics.specs.declared.statistics.TheConstants.{MOST_RANKS}
 use Rattle.ddr_statistics.specs.declared.turns.Turns.{Turns}
 use Rattle.ddr_statistics.specs.Counts.{count_behind, counts_of, is_any, is_of_one, is_of_one_bank, is_of_rank, kind_count}
 use Rattle.ddr_statistics.specs.Noted.{bank_closed, bank_noted, banks_noted, counts_noted, debt_noted, found_in, new_bank, new_rank, one_noted, no_counts, no_debt, no_turns, rank_noted, turns_noted}
-use Rattle.ddr_statistics.specs.Stands.{KeepsRank, StandsFor, bank_of_history, counted, debt_at, debt_behind, owed, rank_at}
+use Rattle.ddr_statistics.specs.Stands.{KeepsRank, StandsFor, bank_of_history, counted, debt_at, debt_behind, noted, owed, rank_at}
 use Rattle.ddr_statistics.specs.Tally.{Tally}
 use Rattle.ddr_statistics.specs.Turns.{last_column}
 use Rattle.ddr_statistics.specs.Visits.{finding, is_at, visit_after, visit_behind}
@@ -212,6 +212,18 @@ finding_told tally history c place found d is_place is_found stands rank group b
     let old : slice_index_or tally.ranks place d ≡ rank_at tally (rank_of c) =
     ap (λ n. slice_index_or tally.ranks n d) is_place ∙ get_or_default tally.ranks (rank_of c) d new_rank within in
     is_found ∙ ap (λ (r : Rank). found_in r c) old ∙ found_is history c (rank_at tally (rank_of c)) (stands.ranks (rank_of c) rank) group bank
+
+pub finding_kept : (tally : Tally) (c : Command) (place : ℕ) (found : Option Finding) (d : Rank) → place ≡ rank_of c → place < length tally.ranks → found ≡ found_in (slice_index_or tally.ranks place d) c
+    → found ≡ found_in (rank_at tally (rank_of c)) c
+finding_kept tally c place found d is_place within is_found =
+    is_found ∙ ap (λ (r : Rank). found_in r c) (get_or_default tally.ranks place d new_rank within ∙ ap (λ n. slice_index_or tally.ranks n new_rank) is_place)
+
+-- the statistics of a history, behind the next command
+pub stands_noted : (tally : Tally) (history : List Entry) (e : Entry) → StandsFor tally history → length history + 1 < CLOCK_STOP → rank_of e.command < MOST_RANKS → group_of e.command < MOST_GROUPS → bank_of e.command < GROUP_BANKS
+    → StandsFor (noted e tally) (history ++ e ∷ [])
+stands_noted tally history e stands short rank group bank =
+    stands_after tally (noted e tally) history e (found_in (rank_at tally (rank_of e.command)) e.command) refl
+    (found_is history e.command (rank_at tally (rank_of e.command)) (stands.ranks (rank_of e.command) rank) group bank) stands short rank group bank
 
 pub counted_is : (tally : Tally) (c : Command) (place : ℕ) (found : Option Finding) (total : Counts) (own d : Rank) (turns : Turns)
     → place ≡ rank_of c → place < length tally.ranks

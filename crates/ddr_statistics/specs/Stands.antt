@@ -12,7 +12,7 @@ use Rattle.ddr_statistics.specs.declared.rank.TheConstants.{MOST_BANKS}
 use Rattle.ddr_statistics.specs.declared.statistics.TheConstants.{MOST_RANKS}
 use Rattle.ddr_statistics.specs.declared.turns.Turns.{Turns}
 use Rattle.ddr_statistics.specs.Counts.{counts_of, is_any, is_of_one, is_of_rank}
-use Rattle.ddr_statistics.specs.Noted.{bank_at, counts_noted, debt_noted, new_rank, no_debt, rank_noted, turns_noted}
+use Rattle.ddr_statistics.specs.Noted.{bank_at, counts_noted, debt_noted, found_in, new_rank, no_debt, rank_noted, turns_noted}
 use Rattle.ddr_statistics.specs.Tally.{Tally}
 use Rattle.ddr_statistics.specs.Turns.{last_column, rank_switches, turn_rounds}
 use Rattle.ddr_statistics.specs.Visits.{visit_behind}
@@ -56,6 +56,10 @@ abbrev pub owed : Entry → Tally → Tally
 owed e tally = record tally {
   debts = slice_set tally.debts (rank_of e.command) (debt_noted tally.timing.refi tally.start e (debt_at tally (rank_of e.command)));
 }
+
+-- the statistics after the next command
+abbrev pub noted : Entry → Tally → Tally
+noted e tally = owed e (counted e.command (found_in (rank_at tally (rank_of e.command)) e.command) tally)
 
 pub record StandsFor (tally : Tally) (history : List Entry) : Type 0 where
   pub total : tally.total ≡ counts_of is_any history

@@ -4,11 +4,12 @@
 ghost use Rattle.std.specs.Prelude.{◌≡◌, ◌+◌, ◌-◌, ◌<◌, ◌∷◌, ◌++◌, [], length, List, IsTrue};
 ghost use Rattle.ddr_timing.specs.declared.units.TheConstants.{CLOCK_STOP, GROUP_BANKS};
 ghost use Rattle.ddr_trace.specs.declared.command.Entry.{Entry};
+ghost use Rattle.ddr_trace.specs.Commands.{rank_of};
 ghost use Rattle.ddr_trace.specs.Rules.{is_in};
 ghost use Rattle.ddr_statistics.specs.Counts.{counts_of, is_any, is_of_one, is_of_rank};
 ghost use Rattle.ddr_statistics.specs.Debts.{IsInOrder, debt_most, debts_most};
-ghost use Rattle.ddr_statistics.specs.Noted.{bank_at};
-ghost use Rattle.ddr_statistics.specs.Stands.{StandsFor, counted, owed, rank_at};
+ghost use Rattle.ddr_statistics.specs.Noted.{bank_at, found_in};
+ghost use Rattle.ddr_statistics.specs.Stands.{StandsFor, counted, noted, owed, rank_at};
 ghost use Rattle.ddr_statistics.specs.Turns.{rank_switches, turn_rounds};
 ghost use Rattle.ddr_statistics.specs.Visits.{finding};
 
@@ -76,6 +77,7 @@ impl Statistics {
         ensures geometry { self.new.geometry ≡ self.old.geometry }
         ensures timing { self.new.timing ≡ self.old.timing }
         ensures start { self.new.start ≡ self.old.start }
+        ensures noted { self.new ≡ noted entry.now self.old }
         ensures stands { (history : List Entry) → StandsFor self.old history → length history + 1 < CLOCK_STOP
             → StandsFor self.new (history ++ entry.now ∷ []) }
     {
@@ -105,7 +107,8 @@ impl Statistics {
     /// How the next command of the trace finds its bank; `None` where it is no read or write.
     pub fn finding(&self, command: &Command) -> Option<Finding>
         requires { IsTrue (is_in self.now.geometry command.now) }
-        ensures { (history : List Entry) → StandsFor self.entry.now history → result ≡ finding history command.now }
+        ensures kept { result ≡ found_in (rank_at self.entry.now (rank_of command.now)) command.now }
+        ensures counted { (history : List Entry) → StandsFor self.entry.now history → result ≡ finding history command.now }
     {
         self.ranks[command.rank() as usize].finding(command)
     }
