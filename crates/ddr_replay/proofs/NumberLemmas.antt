@@ -1,5 +1,5 @@
 -- The numbers of channels and ports, one after another.
-use Rattle.std.proofs.Common.{◌≡◌, ℕ, zero, suc, ◌+◌, ◌<◌, Bool, true, false, List, Option, None, Some, Err, refl, sym, ap, subst, ◌∙◌, arith}
+use Rattle.std.proofs.Common.{◌≡◌, ◌≢◌, ℕ, zero, suc, ◌+◌, ◌<◌, Bool, true, false, List, [], Option, None, Some, Result, Ok, Err, IfOk, IfErr, refl, sym, ap, subst, ◌∙◌, ne_eqb, arith}
 use Rattle.std.specs.Prelude.{◌==◌, ◌||◌}
 use Rattle.std.specs.List.{list_any, range_with_len, slice_get}
 use Rattle.std.specs.Option.{option_map, option_map_or}
@@ -11,6 +11,7 @@ use Rattle.ddr_world.specs.State.{ChannelSide, State}
 use Rattle.ddr_replay.specs.declared.numbers.Numbers.{Numbers}
 use Rattle.ddr_rounds.specs.Drains.{is_draining}
 use Rattle.ddr_replay.specs.Numbers.{IsCounted, is_spent, no_numbers, numbers_at, numbers_in}
+use Rattle.ddr_replay.specs.Places.{channel_places, places_at}
 use Rattle.ddr_text.specs.declared.fault.Fault.{Fault}
 use Rattle.ddr_text.specs.declared.fault.Fault.TheVariants.{ClockSpent}
 
@@ -33,6 +34,11 @@ spent_there w c k is =
     ap (λ o. option_map_or (λ (side : ChannelSide). side.channel.now == CLOCK_STOP) o false) (slice_get-map side_of w.channels c)
     ∙ over (λ (side : ChannelSide). side.channel.now == CLOCK_STOP) c k false (slice_get w.channels c) (λ (x : channel_kept.Kept). x.now == CLOCK_STOP) (λ side. refl) is
 
+pub places_there : (w : Kept) (c : ℕ) (k : channel_kept.Kept) → Some k ≡ option_map (λ (side : KeptSide). side.channel) (slice_get w.channels c) → places_at (state_of w) c ≡ channel_places k.config c k.now k.trace
+places_there w c k is =
+    ap (λ o. option_map_or (λ (side : ChannelSide). channel_places side.channel.config c side.channel.now side.channel.trace) o []) (slice_get-map side_of w.channels c)
+    ∙ over (λ (side : ChannelSide). channel_places side.channel.config c side.channel.now side.channel.trace) c k [] (slice_get w.channels c) (λ (x : channel_kept.Kept). channel_places x.config c x.now x.trace) (λ side. refl) is
+
 pub draining_there : (w : Kept) (c : ℕ) (k : channel_kept.Kept) → Some k ≡ option_map (λ (side : KeptSide). side.channel) (slice_get w.channels c) → is_draining (state_of w) c ≡ k.drain
 draining_there w c k is =
     ap (λ o. option_map_or (λ (side : ChannelSide). side.channel.drain) o false) (slice_get-map side_of w.channels c)
@@ -51,6 +57,11 @@ numbers_absent w c is =
 pub spent_absent : (w : Kept) (c : ℕ) → None ≡ option_map (λ (side : KeptSide). side.channel) (slice_get w.channels c) → is_spent (state_of w) c ≡ false
 spent_absent w c is =
     ap (λ o. option_map_or (λ (side : ChannelSide). side.channel.now == CLOCK_STOP) o false) (slice_get-map side_of w.channels c) ∙ beside (λ (side : ChannelSide). side.channel.now == CLOCK_STOP) false (slice_get w.channels c) is
+
+pub places_absent : (w : Kept) (c : ℕ) → None ≡ option_map (λ (side : KeptSide). side.channel) (slice_get w.channels c) → places_at (state_of w) c ≡ []
+places_absent w c is =
+    ap (λ o. option_map_or (λ (side : ChannelSide). channel_places side.channel.config c side.channel.now side.channel.trace) o []) (slice_get-map side_of w.channels c)
+    ∙ beside (λ (side : ChannelSide). channel_places side.channel.config c side.channel.now side.channel.trace) [] (slice_get w.channels c) is
 
 pub draining_absent : (w : Kept) (c : ℕ) → None ≡ option_map (λ (side : KeptSide). side.channel) (slice_get w.channels c) → is_draining (state_of w) c ≡ false
 draining_absent w c is =
@@ -100,3 +111,13 @@ none_at f n k within none = go (f k) refl
     go : (b : Bool) → f k ≡ b → f k ≡ false
     go false is = is
     go true is = absurd (let impossible : true ≡ false = sym (some_of f n k within is) ∙ none in cc)
+
+-- its clock runs, or has come to its end
+
+pub running_told : (r : Result Numbers Fault) (now : ℕ) (spent : Bool) → spent ≡ (now == CLOCK_STOP) → IfOk r (λ n. now ≢ CLOCK_STOP) → IfOk r (λ n. spent ≡ false)
+running_told (Ok n) now spent is runs = is ∙ ne_eqb now CLOCK_STOP runs
+running_told (Err fault) now spent is runs = tt
+
+pub end_told : (r : Result Numbers Fault) (now : ℕ) (spent : Bool) → spent ≡ (now == CLOCK_STOP) → IfErr r (λ fault. (fault ≡ ClockSpent) × (now ≡ CLOCK_STOP)) → IfErr r (λ fault. (fault ≡ ClockSpent) × (spent ≡ true))
+end_told (Ok n) now spent is ends = tt
+end_told (Err fault) now spent is ends = (ends.0, is ∙ ap (λ m. m == CLOCK_STOP) ends.1)

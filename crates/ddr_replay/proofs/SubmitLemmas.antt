@@ -1,10 +1,11 @@
 -- One request after another is submitted, until one has to wait.
-use Rattle.std.proofs.Common.{◌≡◌, ◌≢◌, ◌<◌, ◌≤◌, ◌+◌, ℕ, zero, suc, Bool, true, false, cond, List, [], ◌∷◌, Option, None, Some, Ok, Err, length, drop, refl, sym, ap, subst, ◌∙◌, arith}
+use Rattle.std.proofs.Common.{◌≡◌, ◌≢◌, ◌<◌, ◌≤◌, ◌+◌, ℕ, zero, suc, Bool, true, false, cond, List, [], ◌∷◌, Option, None, Some, Ok, Err, length, drop, get_or, set, refl, sym, ap, subst, ◌∙◌, arith}
 use Rattle.std.specs.Prelude.{nat_lt}
 use Rattle.std.specs.Option.{option_map_or}
-use Rattle.std.specs.List.{slice_get, slice_set}
+use Rattle.std.specs.List.{slice_get, slice_set, sum_by}
 use Rattle.std.proofs.lemmas.Bool.{lt-ltb, le-ltb}
 use Rattle.std.proofs.lemmas.List.{length-drop}
+use Rattle.std.proofs.lemmas.List.Sums.{sum_by-set}
 use Rattle.ddr_address_map.specs.Requests.{Request}
 use Rattle.ddr_ports.specs.Asked.{Asked}
 use Rattle.ddr_ports.specs.State.{refusal_of, request_at}
@@ -178,3 +179,9 @@ submitted_keeps p round (ask ∷ more) s ledger q other =
 
 pub others_kept : (p round : ℕ) (queue : List Ask) (s : State) (ledger : Ledger) (q : ℕ) → q ≢ p → slice_get (submitted p round queue s ledger).state.ports q ≡ slice_get s.ports q
 others_kept p round queue s ledger q other = submitted_keeps p round queue s ledger q other
+
+-- what is left to be submitted of a port, and what is outstanding, are as many as before
+pub counted_on : (left : ℕ) (queues : List (List Ask)) (p : ℕ) (old new : List Ask) (before after : ℕ) → left ≡ sum_by length queues + before → p < length queues → old ≡ get_or queues p old
+    → length new + after ≡ length old + before → left ≡ sum_by length (set queues p new) + after
+counted_on left queues p old new before after is within there count =
+    omega (arith, is, count, sum_by-set length queues p new old within, ap (λ (q : List Ask). length q) there)

@@ -81,6 +81,11 @@ keeps_served (told.Numbers skip clock) = true
 keeps_served (told.Intervals skip every) = true
 keeps_served _ = false
 
+-- the traces are kept for all but the statistics
+abbrev pub keeps_traces : Wanted → Bool
+keeps_traces told.Statistics = false
+keeps_traces _ = true
+
 -- the commands are asked for of a channel that isn't there
 abbrev pub names_no_channel : Config → Wanted → Bool
 names_no_channel config (told.Trace channel) = nat_le config.geometry.channels channel

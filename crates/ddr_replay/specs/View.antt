@@ -1,6 +1,7 @@
 -- What contracts see of a replay.
 use Rattle.std.specs.Prelude.{◌≡◌, ℕ, Bool, true, false, length, Option, Some, None, Result, Err}
 use Rattle.ddr_timing.specs.declared.config.Config.{Config}
+use Rattle.ddr_counting.specs.Noting.{AreNoted}
 use Rattle.ddr_world.specs.Kept.{Kept, state_of}
 use Rattle.ddr_world.specs.Served.{front_service}
 use Rattle.ddr_world.specs.State.{State}
@@ -33,6 +34,8 @@ pub record IsWhole (a : Inside) : Type 0 where
   pub config : a.world.config ≡ a.config
   pub ports : length a.queues.items ≡ a.config.limits.ports
   pub counted : a.unserved ≡ unserved (run_of (replay_of a))
+  -- the statistics are those of all commands
+  pub noted : AreNoted a.config (state_of a.world) a.noting
 
 -- all but the core is as it was
 pub record IsSame (old new : Replay) : Type 0 where
@@ -40,6 +43,7 @@ pub record IsSame (old new : Replay) : Type 0 where
   pub queues : new.queues ≡ old.queues
   pub ledger : new.ledger ≡ old.ledger
   pub round : new.round ≡ old.round
+  pub traces : new.world.keeps ≡ old.world.keeps
 
 -- all but the ledger is as it was
 pub record IsButLedger (old new : Replay) : Type 0 where

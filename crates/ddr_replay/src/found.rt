@@ -1,7 +1,7 @@
 //! How the reads and writes of each channel found their banks, by their cycles.
 //!
 //! `numbers`, `ddr_statistics` and `ddr_world` stand below, and `served` and `telling` above.
-ghost use Rattle.std.specs.Prelude.{◌≡◌, ◌≢◌, ◌<◌, ℕ, All, None, false, IfOk, IsTrue, OnOk, length};
+ghost use Rattle.std.specs.Prelude.{◌≡◌, ◌≢◌, ◌<◌, ℕ, All, None, false, true, IfOk, IsTrue, OnOk, length};
 ghost use Rattle.ddr_timing.specs.declared.units.TheConstants.{CLOCK_STOP};
 ghost use Rattle.ddr_trace.specs.Rules.{is_in};
 ghost use Rattle.ddr_world.specs.Kept.{state_of};
@@ -51,9 +51,10 @@ impl Findings {
     }
 }
 
-/// Those of each channel.
+/// Those of each channel of a core that keeps traces.
 pub fn findings_of(alloc: Global, world: &World, channels: u32) -> Result<Vec<Findings>, AllocError>
-    requires { is_any_spent (state_of world.now) channels ≡ false }
+    requires running { is_any_spent (state_of world.now) channels ≡ false }
+    requires kept { world.now.keeps ≡ true }
     ensures { IfOk result (λ v. all_found_in v.items ≡ findings_of (state_of world.now) channels) }
 {
     let mut all = Vec::new(alloc);
@@ -65,7 +66,8 @@ pub fn findings_of(alloc: Global, world: &World, channels: u32) -> Result<Vec<Fi
 
 /// Those of the channel of that number.
 fn findings_at(alloc: Global, world: &World, number: u32) -> Result<Findings, AllocError>
-    requires { is_spent (state_of world.now) number ≡ false }
+    requires running { is_spent (state_of world.now) number ≡ false }
+    requires kept { world.now.keeps ≡ true }
     ensures { IfOk result (λ findings. found_in findings ≡ findings_at (state_of world.now) number) }
 {
     match world.channel(number) {
@@ -74,9 +76,10 @@ fn findings_at(alloc: Global, world: &World, number: u32) -> Result<Findings, Al
     }
 }
 
-/// Those of a channel.
+/// Those of a channel that keeps its trace.
 fn findings_in(alloc: Global, channel: &Channel) -> Result<Findings, AllocError>
-    requires { channel.now.now ≢ CLOCK_STOP }
+    requires running { channel.now.now ≢ CLOCK_STOP }
+    requires kept { channel.now.keeps ≡ true }
     ensures { IfOk result (λ findings. found_in findings ≡ found_at channel.now.trace) }
 {
     findings_by(alloc, channel.config(), channel.trace())

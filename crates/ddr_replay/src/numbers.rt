@@ -1,17 +1,16 @@
 //! What a replay comes to: of each channel the numbers of its commands, and of each port its requests.
 //!
 //! `ddr_stream`, `ddr_world`, `ddr_counting` and `ddr_statistics` stand below, and `report`, `places` and `telling` above.
-ghost use Rattle.std.specs.Prelude.{◌≡◌, ◌≢◌, true, false, ◌+◌, ◌<◌, ◌≤◌, ◌==◌, IfErr, IfOk, length, map};
+ghost use Rattle.std.specs.Prelude.{◌≡◌, ◌≢◌, true, false, ◌+◌, ◌≤◌, ◌==◌, IfErr, IfOk, map};
 ghost use Rattle.std.specs.List.{range_with_len};
 ghost use Rattle.ddr_timing.specs.declared.units.TheConstants.{CLOCK_STOP};
-ghost use Rattle.ddr_statistics.specs.Debts.{IsInOrder};
-ghost use Rattle.ddr_statistics.specs.Stands.{StandsFor};
+ghost use Rattle.ddr_counting.specs.Noting.{AreNoted, IsNotedOf};
 ghost use Rattle.ddr_world.specs.Kept.{state_of};
 ghost use Rattle.ddr_replay.specs.Numbers.{IsCounted, added, both, is_any_spent, is_kind, is_spent, many, numbers_at, numbers_in, of_kind, requests_in, together};
 
 use ddr_address_map::request::Kind;
 use ddr_channel::channel::Channel;
-use ddr_counting::counting::Counting;
+use ddr_counting::noting::{Noting, all_are_counted};
 use ddr_statistics::counts::Counts;
 use ddr_statistics::statistics::Statistics;
 use ddr_stream::ask::Ask;
@@ -108,31 +107,40 @@ fn both(a: &Requests, b: &Requests) -> Requests
     }
 }
 
-/// The numbers of each channel. Fails as `ClockSpent` where a channel's clock has come to its end.
-pub fn numbers_of(alloc: Global, world: &World, channels: u32) -> Result<Vec<Numbers>, Fault>
+/// The numbers of each channel, of whose commands these are the statistics. Fails as `ClockSpent` where a channel's clock has come to
+/// its end.
+pub fn numbers_of(
+    alloc: Global,
+    world: &World,
+    noting: &Noting,
+    channels: u32,
+) -> Result<Vec<Numbers>, Fault>
+    requires { AreNoted world.now.config (state_of world.now) noting.now }
     ensures { IsCounted (λ v. v.items) result (state_of world.now) channels }
 {
     let mut all = Vec::new(alloc);
     for channel in 0..channels {
-        all.push(numbers_at(world, channel)?)?;
+        all.push(numbers_at(world, noting, channel)?)?;
     }
     Ok(all)
 }
 
 /// The numbers of the channel of that number.
-fn numbers_at(world: &World, channel: u32) -> Result<Numbers, Fault>
-    ensures counted { IfOk result (λ n. n ≡ numbers_at (state_of world.now) channel) }
-    ensures running { IfOk result (λ n. is_spent (state_of world.now) channel ≡ false) }
-    ensures spent { IfErr result (λ fault. (fault ≡ Fault.ClockSpent) × (is_spent (state_of world.now) channel ≡ true)) }
+fn numbers_at(world: &World, noting: &Noting, number: u32) -> Result<Numbers, Fault>
+    requires { AreNoted world.now.config (state_of world.now) noting.now }
+    ensures counted { IfOk result (λ n. n ≡ numbers_at (state_of world.now) number) }
+    ensures running { IfOk result (λ n. is_spent (state_of world.now) number ≡ false) }
+    ensures spent { IfErr result (λ fault. (fault ≡ Fault.ClockSpent) × (is_spent (state_of world.now) number ≡ true)) }
 {
-    match world.channel(channel) {
-        Some(channel) => numbers_in(channel),
+    match world.channel(number) {
+        Some(channel) => numbers_in(channel, noting.at(number)),
         None => Ok(Numbers::NONE),
     }
 }
 
-/// The numbers of a channel.
-fn numbers_in(channel: &Channel) -> Result<Numbers, Fault>
+/// The numbers of a channel, of whose commands these are the statistics.
+fn numbers_in(channel: &Channel, statistics: &Statistics) -> Result<Numbers, Fault>
+    requires { IsNotedOf channel.now.config channel.now.trace statistics.now }
     ensures counted { IfOk result (λ n. n ≡ numbers_in channel.now.config channel.now.now channel.now.trace) }
     ensures running { IfOk result (λ n. channel.now.now ≢ CLOCK_STOP) }
     ensures spent { IfErr result (λ fault. (fault ≡ Fault.ClockSpent) × (channel.now.now ≡ CLOCK_STOP)) }
@@ -140,7 +148,7 @@ fn numbers_in(channel: &Channel) -> Result<Numbers, Fault>
     if channel.now() == CLOCK_STOP {
         return Err(Fault::ClockSpent);
     }
-    let statistics = statistics_in(channel);
+    all_are_counted(channel, statistics);
     Ok(Numbers {
         turn_rounds: statistics.turn_rounds(),
         rank_switches: statistics.rank_switches(),
@@ -169,21 +177,6 @@ fn is_spent(world: &World, channel: u32) -> bool
         Some(channel) => channel.now() == CLOCK_STOP,
         None => false,
     }
-}
-
-/// The statistics of a channel whose clock has not come to its end. A replay's channels begin in cycle 0.
-pub fn statistics_in(channel: &Channel) -> Statistics
-    requires { channel.now.now ≢ CLOCK_STOP }
-    ensures stands { StandsFor result channel.now.trace }
-    ensures geometry { result.geometry ≡ channel.now.config.geometry }
-    ensures timing { result.timing ≡ channel.now.config.timing }
-    ensures start { result.start ≡ 0 }
-    ensures few { length channel.now.trace < CLOCK_STOP }
-    ensures order { IsInOrder channel.now.now channel.now.trace }
-{
-    let mut counting = Counting::open(channel.config());
-    counting.catch_up(channel);
-    counting.statistics
 }
 
 /// The numbers of several channels together.

@@ -1,15 +1,17 @@
 //! The numbers of each rank and of each bank, as text.
 //!
-//! `numbers` and `ddr_statistics` stand below, and `telling` above. `specs/Places.antt` has the text, byte for byte.
+//! `ddr_counting` and `ddr_statistics` stand below, and `telling` above. `specs/Places.antt` has the text, byte for byte.
 ghost use Rattle.std.specs.Prelude.{◌≡◌, ◌≢◌, false, IfOk, string_bytes};
 ghost use Rattle.ddr_timing.specs.declared.units.TheConstants.{CLOCK_STOP};
+ghost use Rattle.ddr_counting.specs.Noting.{AreNoted, IsNotedOf};
 ghost use Rattle.ddr_world.specs.Kept.{state_of};
 ghost use Rattle.ddr_replay.specs.Numbers.{is_any_spent, is_spent};
 ghost use Rattle.ddr_replay.specs.Places.{bank_head, bank_table, bank_title, banks_tables, channel_places, debt_line, places_at, places_tables, rank_table, rank_title, ranks_tables};
 
-use crate::numbers::statistics_in;
 use ddr_channel::channel::Channel;
+use ddr_counting::noting::{Noting, all_are_counted};
 use ddr_statistics::counts::Counts;
+use ddr_statistics::statistics::Statistics;
 use ddr_statistics::text::{counts_text, is_unused};
 use ddr_timing::bank::BankId;
 use ddr_timing::units::GROUP_BANKS;
@@ -19,48 +21,72 @@ use std::alloc::{AllocError, Global};
 /// A table `channel.C.rank.R` of each rank of each channel, with the key `refresh_debt_most` before those of its commands, and behind those of a channel a table `channel.C.bank.R.G.B` of each
 /// bank that had a command of its own.
 #[tactic(auto, unfolding(crate::specs::Places::places_tables))]
-pub fn places_tables(alloc: Global, world: &World, channels: u32) -> Result<String, AllocError>
-    requires { is_any_spent (state_of world.now) channels ≡ false }
+pub fn places_tables(
+    alloc: Global,
+    world: &World,
+    noting: &Noting,
+    channels: u32,
+) -> Result<String, AllocError>
+    requires running { is_any_spent (state_of world.now) channels ≡ false }
+    requires noted { AreNoted world.now.config (state_of world.now) noting.now }
     ensures { IfOk result (λ text. string_bytes text ≡ places_tables (state_of world.now) channels) }
 {
     let mut text = String::new(alloc);
     for channel in 0..channels {
-        let tables = places_at(alloc, world, channel)?;
+        let tables = places_at(alloc, world, noting, channel)?;
         text.push_str(tables.as_str())?;
     }
     Ok(text)
 }
 
 /// The tables of the channel of that number.
-fn places_at(alloc: Global, world: &World, number: u32) -> Result<String, AllocError>
-    requires { is_spent (state_of world.now) number ≡ false }
+fn places_at(
+    alloc: Global,
+    world: &World,
+    noting: &Noting,
+    number: u32,
+) -> Result<String, AllocError>
+    requires running { is_spent (state_of world.now) number ≡ false }
+    requires noted { AreNoted world.now.config (state_of world.now) noting.now }
     ensures { IfOk result (λ text. string_bytes text ≡ places_at (state_of world.now) number) }
 {
     match world.channel(number) {
-        Some(channel) => channel_places(alloc, number, channel),
+        Some(channel) => channel_places(alloc, number, channel, noting.at(number)),
         None => Ok(String::new(alloc)),
     }
 }
 
 /// The tables of a channel's ranks and banks.
 #[tactic(auto, unfolding(crate::specs::Places::channel_places))]
-fn channel_places(alloc: Global, number: u32, channel: &Channel) -> Result<String, AllocError>
-    requires { channel.now.now ≢ CLOCK_STOP }
+fn channel_places(
+    alloc: Global,
+    number: u32,
+    channel: &Channel,
+    statistics: &Statistics,
+) -> Result<String, AllocError>
+    requires running { channel.now.now ≢ CLOCK_STOP }
+    requires noted { IsNotedOf channel.now.config channel.now.trace statistics.now }
     ensures { IfOk result (λ text. string_bytes text ≡ channel_places channel.now.config number channel.now.now channel.now.trace) }
 {
-    let mut text = ranks_tables(alloc, number, channel)?;
-    let banks = banks_tables(alloc, number, channel)?;
+    let mut text = ranks_tables(alloc, number, channel, statistics)?;
+    let banks = banks_tables(alloc, number, channel, statistics)?;
     text.push_str(banks.as_str())?;
     Ok(text)
 }
 
 /// The tables of a channel's ranks.
 #[tactic(auto, unfolding(crate::specs::Places::ranks_tables))]
-fn ranks_tables(alloc: Global, number: u32, channel: &Channel) -> Result<String, AllocError>
-    requires { channel.now.now ≢ CLOCK_STOP }
+fn ranks_tables(
+    alloc: Global,
+    number: u32,
+    channel: &Channel,
+    statistics: &Statistics,
+) -> Result<String, AllocError>
+    requires running { channel.now.now ≢ CLOCK_STOP }
+    requires noted { IsNotedOf channel.now.config channel.now.trace statistics.now }
     ensures { IfOk result (λ text. string_bytes text ≡ ranks_tables channel.now.config number channel.now.now channel.now.trace) }
 {
-    let statistics = statistics_in(channel);
+    all_are_counted(channel, statistics);
     let mut text = String::new(alloc);
     for rank in 0..statistics.geometry().ranks {
         let most = statistics.refresh_debt_most(rank, channel.now());
@@ -106,11 +132,17 @@ fn rank_title(alloc: Global, channel: u32, rank: u32) -> Result<String, AllocErr
 
 /// The tables of a channel's banks that had a command.
 #[tactic(auto, unfolding(crate::specs::Places::banks_tables))]
-fn banks_tables(alloc: Global, number: u32, channel: &Channel) -> Result<String, AllocError>
-    requires { channel.now.now ≢ CLOCK_STOP }
+fn banks_tables(
+    alloc: Global,
+    number: u32,
+    channel: &Channel,
+    statistics: &Statistics,
+) -> Result<String, AllocError>
+    requires running { channel.now.now ≢ CLOCK_STOP }
+    requires noted { IsNotedOf channel.now.config channel.now.trace statistics.now }
     ensures { IfOk result (λ text. string_bytes text ≡ banks_tables channel.now.config number channel.now.trace) }
 {
-    let statistics = statistics_in(channel);
+    all_are_counted(channel, statistics);
     let rank_banks = statistics.geometry().groups * GROUP_BANKS;
     let mut text = String::new(alloc);
     for place in 0..statistics.geometry().ranks * rank_banks {

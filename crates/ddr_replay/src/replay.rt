@@ -3,7 +3,7 @@
 //! `ddr_stream`, `replaying`, `watch`, `telling` and `ddr_text` stand below, and `ddr_tool` above.
 ghost use Rattle.std.specs.Prelude.{◌≡◌, ◌≤◌, ◌⊎◌, IfErr, IfOk, IfSome, IsErrOf, IsTrue, OnOk, length};
 ghost use Rattle.ddr_text.specs.Fault.{is_before_output};
-ghost use Rattle.ddr_replay.specs.Replays.{HasReplayFault, IsNoStream, IsReplayed, IsReported, IsStream, keeps_served, names_no_channel};
+ghost use Rattle.ddr_replay.specs.Replays.{HasReplayFault, IsNoStream, IsReplayed, IsReported, IsStream, keeps_served, keeps_traces, names_no_channel};
 
 use crate::numbers::requests_of;
 use crate::replaying::Replaying;
@@ -92,7 +92,8 @@ fn report_of<V: Watch>(
     }
     let queues = taken_of(alloc, config, taking, body)?;
     let requests = requests_of(alloc, queues.as_slice())?;
-    let mut replaying = Replaying::open(alloc, config, keeps_served(told), queues)?;
+    let (served, traces) = (keeps_served(told), keeps_traces(told));
+    let mut replaying = Replaying::open(alloc, config, served, traces, queues)?;
     replaying.run(watch)?;
     told_of(alloc, config, told, requests.as_slice(), &replaying)
 }
@@ -116,5 +117,15 @@ fn keeps_served(told: Wanted) -> bool
     match told {
         Wanted::Requests | Wanted::Numbers { .. } | Wanted::Intervals { .. } => true,
         _ => false,
+    }
+}
+
+/// Whether the channels are to keep their traces: all but the statistics is told by them.
+fn keeps_traces(told: Wanted) -> bool
+    ensures { result ≡ keeps_traces told }
+{
+    match told {
+        Wanted::Statistics => false,
+        _ => true,
     }
 }

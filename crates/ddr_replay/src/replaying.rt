@@ -2,6 +2,7 @@
 //!
 //! `submitting`, `ddr_stream`, `ledger`, `watch`, `ddr_rounds` and `ddr_world` stand below, and `replay` above.
 ghost use Rattle.std.specs.Prelude.{◌≡◌, ◌==◌, ℕ, ◌+◌, ◌-◌, ◌<◌, ◌≤◌, false, true, IfErr, IfOk, IfSome, OnOk, Some, Ok, length};
+ghost use Rattle.ddr_counting.specs.Noting.{AreNoted};
 ghost use Rattle.ddr_rounds.specs.Rounds.{channels_served, items_of, outstanding, until_refused};
 ghost use Rattle.ddr_world.specs.Events.{Collect, Release};
 ghost use Rattle.ddr_world.specs.Kept.{state_of};
@@ -16,10 +17,12 @@ ghost use Rattle.ddr_replay.specs.Waits.{AreQuiet, AreWaiting, IsWaitingIn, all_
 use crate::ledger::Ledger;
 use crate::submitting::submit_from;
 use crate::watch::Watch;
+use ddr_counting::noting::Noting;
 use ddr_latency::clocks::leaves_time;
 use ddr_reorder::reply::{Reply, Service};
 use ddr_rounds::channels::serve_channels;
 use ddr_rounds::ports::{collect, has_front, release};
+use ddr_rounds::rounds::pass;
 use ddr_stream::queue::Queue;
 use ddr_stream::stream::count_all;
 use ddr_text::fault::Fault;
@@ -43,6 +46,8 @@ const TOLD_EVERY: u32 = 4096;
 pub struct Replaying {
     config: Config,
     world: World,
+    /// What the channels' commands come to.
+    noting: Noting,
     /// Of each port, what it has still to submit.
     queues: Vec<Queue>,
     /// When requests were accepted, and how long they took.
@@ -70,22 +75,26 @@ impl Model for Replaying {
 }
 
 impl Replaying {
-    /// A replay before its first round. `keeps` says whether the requests that were served are kept.
+    /// A replay before its first round. `keeps` says whether the requests that were served are kept, and `traces` whether the channels'
+    /// traces are.
     pub fn open(
         alloc: Global,
         config: &Config,
         keeps: bool,
+        traces: bool,
         queues: Vec<Queue>,
     ) -> Result<Replaying, AllocError>
         requires { length queues.items ≡ config.now.limits.ports }
         ensures begun { IfOk result (λ replay. run_of replay ≡ begun config.now keeps queues.items) }
         ensures config { IfOk result (λ replay. replay.config ≡ config.now) }
+        ensures traces { IfOk result (λ replay. replay.world.keeps ≡ traces) }
     {
         let unserved = count_all(queues.as_slice());
         let ledger = Ledger::open(alloc, config.geometry.channels, config.limits.ports, keeps)?;
         Ok(Replaying {
             config: *config,
-            world: World::open(alloc, config)?,
+            world: World::open_as(alloc, config, 0, 0, traces)?,
+            noting: Noting::open(alloc, config)?,
             queues,
             ledger,
             round: 0,
@@ -104,6 +113,7 @@ impl Replaying {
         ensures ok { OnOk result (replayed self.old.config (MOST_ROUNDS - self.old.round) (run_of self.old) ≡ Ok (run_of self.new)) }
         ensures fault { IfErr result (λ fault. IsRunFault self.old.config fault (replayed self.old.config (MOST_ROUNDS - self.old.round) (run_of self.old))) }
         ensures config { self.new.config ≡ self.old.config }
+        ensures traces { self.new.world.keeps ≡ self.old.world.keeps }
     {
         let mut turns: u32 = 0;
         'rounds: while !self.is_over() {
@@ -165,6 +175,7 @@ impl Replaying {
         ensures within { self.new.round ≤ MOST_ROUNDS }
         ensures fault { IfErr result (λ fault. IsRunFault self.old.config fault (replayed self.old.config (MOST_ROUNDS - self.old.round) (run_of self.old))) }
         ensures config { self.new.config ≡ self.old.config }
+        ensures traces { self.new.world.keeps ≡ self.old.world.keeps }
     {
         if self.round == MOST_ROUNDS {
             return Err(Fault::ReplayLimit);
@@ -183,6 +194,7 @@ impl Replaying {
         ensures run { OnOk result (run_of self.new ≡ ports_submitted self.old.config.limits.ports (run_of self.old)) }
         ensures waits { IfOk result (λ until. AreWaiting self.old.config.limits.ports until (run_of self.new)) }
         ensures config { self.new.config ≡ self.old.config }
+        ensures traces { self.new.world.keeps ≡ self.old.world.keeps }
         ensures round { self.new.round ≡ self.old.round }
         ensures count { unserved (run_of self.new) ≡ unserved (run_of self.old) }
     {
@@ -199,6 +211,7 @@ impl Replaying {
         ensures run { OnOk result (run_of self.new ≡ port_submitted port (run_of self.old)) }
         ensures waits { IfOk result (λ until. IsWaitingIn port until (run_of self.new)) }
         ensures config { self.new.config ≡ self.old.config }
+        ensures traces { self.new.world.keeps ≡ self.old.world.keeps }
         ensures round { self.new.round ≡ self.old.round }
         ensures count { unserved (run_of self.new) ≡ unserved (run_of self.old) }
     {
@@ -236,9 +249,10 @@ impl Replaying {
         ensures queues { self.new.queues ≡ self.old.queues }
         ensures ledger { self.new.ledger ≡ all_drained count (is_draining (state_of self.new.world)) self.old.config.geometry.channels (all_full (count - 1) (come_of self.old.round self.old.queues) self.old.config.limits.ports self.old.ledger) }
         ensures config { self.new.config ≡ self.old.config }
+        ensures traces { self.new.world.keeps ≡ self.old.world.keeps }
     {
         self.fill_all(u64::from(count.saturating_sub(1)));
-        self.world.pass(u64::from(count));
+        pass(&mut self.world, u64::from(count), &mut self.noting);
         self.drain_all(u64::from(count));
         self.round += count;
     }
@@ -311,6 +325,7 @@ impl Replaying {
         ensures made { OnOk result (round_made self.old.config (run_of self.old) ≡ Some (run_of self.new)) }
         ensures fault { IfErr result (λ fault. IsCycleFault fault (channels_served self.old.config.geometry.channels (state_of self.old.world))) }
         ensures config { self.new.config ≡ self.old.config }
+        ensures traces { self.new.world.keeps ≡ self.old.world.keeps }
         ensures round { OnOk result (self.new.round ≡ self.old.round + 1) }
         ensures within { self.new.round ≤ MOST_ROUNDS }
     {
@@ -328,7 +343,7 @@ impl Replaying {
         ensures same { IsSame self.old self.new }
     {
         let channels = self.config.geometry.channels;
-        match serve_channels(&mut self.world, channels, &mut ()) {
+        match serve_channels(&mut self.world, channels, &mut self.noting) {
             Ok(()) => Ok(()),
             Err(Refusal::OutOfMemory) => Err(Fault::OutOfMemory),
             Err(_) => Err(Fault::ClockSpent),
@@ -339,6 +354,7 @@ impl Replaying {
     fn serve_ports(&mut self) -> Result<(), AllocError>
         ensures run { OnOk result (run_of self.new ≡ ports_served self.old.config.limits.ports (run_of self.old)) }
         ensures config { self.new.config ≡ self.old.config }
+        ensures traces { self.new.world.keeps ≡ self.old.world.keeps }
         ensures round { self.new.round ≡ self.old.round }
     {
         for port in 0..self.config.limits.ports {
@@ -351,6 +367,7 @@ impl Replaying {
     fn serve_port(&mut self, port: u32) -> Result<(), AllocError>
         ensures run { OnOk result (run_of self.new ≡ port_served port (run_of self.old)) }
         ensures config { self.new.config ≡ self.old.config }
+        ensures traces { self.new.world.keeps ≡ self.old.world.keeps }
         ensures round { self.new.round ≡ self.old.round }
     {
         self.collect(port);
@@ -371,6 +388,7 @@ impl Replaying {
         ensures released { IfOk result (λ more. IsFrontReleased port (run_of self.old) (run_of self.new) more) }
         ensures fewer { IfOk result (λ more. more ≡ true → items_of (state_of self.old.world) (Release port) ≡ items_of (state_of self.new.world) (Release port) + 1) }
         ensures config { self.new.config ≡ self.old.config }
+        ensures traces { self.new.world.keeps ≡ self.old.world.keeps }
         ensures round { self.new.round ≡ self.old.round }
     {
         let Some(reply) = self.world.front(port) else {
@@ -379,7 +397,7 @@ impl Replaying {
         let Reply { issued, due, .. } = reply;
         self.ledger
             .release(port, Service { issued, due }, self.round)?;
-        let _ = release(&mut self.world, port, &mut ());
+        let _ = release(&mut self.world, port, &mut self.noting);
         self.unserved -= 1;
         Ok(true)
     }
@@ -396,6 +414,13 @@ impl Replaying {
         ensures { result.now ≡ self.now.ledger }
     {
         &self.ledger
+    }
+
+    /// What the channels' commands come to.
+    pub fn noting(&self) -> &Noting
+        ensures { AreNoted self.entry.now.world.config (state_of self.entry.now.world) result.now }
+    {
+        &self.noting
     }
 
     /// The core.

@@ -1,9 +1,10 @@
 //! What a port submits before a round.
 //!
 //! `ddr_stream`, `ledger` and `ddr_world` stand below, and `replaying` above.
-ghost use Rattle.std.specs.Prelude.{◌≡◌, ◌+◌, OnOk, IfOk, length};
+ghost use Rattle.std.specs.Prelude.{◌≡◌, ◌+◌, ℕ, OnOk, IfOk, length};
 ghost use Rattle.ddr_rounds.specs.Rounds.{outstanding};
 ghost use Rattle.ddr_world.specs.Kept.{state_of};
+ghost use Rattle.ddr_world.specs.Promise.{trace_at};
 ghost use Rattle.ddr_replay.specs.Runs.{submitted};
 ghost use Rattle.ddr_replay.specs.Waits.{IsWaiting};
 
@@ -28,6 +29,8 @@ pub fn submit_from(
     ensures submitted { OnOk result (submitted port round queue.old (state_of world.old) ledger.old ≡ record { state = state_of world.new; ledger = ledger.new; rest = queue.new }) }
     ensures waits { IfOk result (λ until. IsWaiting port until round queue.new (state_of world.new)) }
     ensures config { world.new.config ≡ world.old.config }
+    ensures keeps { world.new.keeps ≡ world.old.keeps }
+    ensures traces { (c : ℕ) → trace_at (state_of world.new) c ≡ trace_at (state_of world.old) c }
     ensures count { length queue.new + outstanding (state_of world.new) ≡ length queue.old + outstanding (state_of world.old) }
 {
     'asks: while let Some(ask) = queue.first() {

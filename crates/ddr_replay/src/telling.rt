@@ -1,11 +1,11 @@
 //! What is told of a replay that has come to its end.
 //!
 //! `wanted`, `replaying`, `report`, `places`, `served`, `found`, `measured` and `drampower` stand below, and `replay` above.
-ghost use Rattle.std.specs.Prelude.{◌≡◌, IfErr, IfOk};
+ghost use Rattle.std.specs.Prelude.{◌≡◌, true, IfErr, IfOk};
 ghost use Rattle.ddr_trace.specs.Text.{trace_text};
 ghost use Rattle.ddr_world.specs.Kept.{state_of};
 ghost use Rattle.ddr_replay.specs.Drampower.{drampower_text};
-ghost use Rattle.ddr_replay.specs.Replays.{IsCounted, IsSaid, channel_commands, channel_text, listed, measured, reported, requests_behind, series, told_of};
+ghost use Rattle.ddr_replay.specs.Replays.{IsCounted, IsSaid, channel_commands, channel_text, keeps_traces, listed, measured, reported, requests_behind, series, told_of};
 ghost use Rattle.ddr_replay.specs.View.{run_of};
 
 use crate::drampower::drampower_text;
@@ -28,7 +28,7 @@ use ddr_trace::text::write_trace;
 use ddr_world::world::World;
 use std::alloc::Global;
 
-/// What is to be told of a replay of these requests.
+/// What is to be told of a replay of these requests, whose core keeps traces where that wants them.
 pub fn told_of(
     alloc: Global,
     config: &Config,
@@ -36,6 +36,7 @@ pub fn told_of(
     requests: &[Requests],
     replaying: &Replaying,
 ) -> Result<Vec<u8>, Fault>
+    requires { keeps_traces wanted ≡ true → replaying.now.world.keeps ≡ true }
     ensures { IsSaid (λ v. v.items) result (told_of config.now wanted requests.now (run_of replaying.now)) }
 {
     match wanted {
@@ -50,6 +51,7 @@ pub fn told_of(
 
 /// The requests. Fails as `ClockSpent` where a channel's clock has come to its end.
 fn listed(alloc: Global, config: &Config, replaying: &Replaying) -> Result<Vec<u8>, Fault>
+    requires { replaying.now.world.keeps ≡ true }
     ensures { IsSaid (λ v. v.items) result (listed config.now (run_of replaying.now)) }
 {
     let world = replaying.world();
@@ -76,6 +78,7 @@ fn measured(
     clock: Option<u32>,
     replaying: &Replaying,
 ) -> Result<Vec<u8>, Fault>
+    requires { replaying.now.world.keeps ≡ true }
     ensures { IsSaid (λ v. v.items) result (measured config.now skip clock (run_of replaying.now)) }
 {
     let requests = requests_behind(alloc, config, skip, replaying)?;
@@ -93,6 +96,7 @@ fn series(
     every: u32,
     replaying: &Replaying,
 ) -> Result<Vec<u8>, Fault>
+    requires { replaying.now.world.keeps ≡ true }
     ensures { IsSaid (λ v. v.items) result (series config.now skip every (run_of replaying.now)) }
 {
     let requests = requests_behind(alloc, config, skip, replaying)?;
@@ -108,6 +112,7 @@ fn requests_behind(
     skip: u32,
     replaying: &Replaying,
 ) -> Result<Vec<Timed>, Fault>
+    requires { replaying.now.world.keeps ≡ true }
     ensures { IsCounted (λ v. v.items) result (requests_behind config.now skip (run_of replaying.now)) }
 {
     let world = replaying.world();
@@ -131,7 +136,10 @@ fn reported(
 ) -> Result<Vec<u8>, Fault>
     ensures { IsSaid (λ v. v.items) result (reported config.now requests.now (run_of replaying.now)) }
 {
-    let numbers = numbers_of(alloc, replaying.world(), config.geometry.channels)?;
+    let world = replaying.world();
+    let noting = replaying.noting();
+    let channels = config.geometry.channels;
+    let numbers = numbers_of(alloc, world, noting, channels)?;
     let mut report = report_lines(
         alloc,
         config,
@@ -140,13 +148,14 @@ fn reported(
         replaying.ledger(),
         replaying.round(),
     )?;
-    let places = places_tables(alloc, replaying.world(), config.geometry.channels)?;
+    let places = places_tables(alloc, world, noting, channels)?;
     report.push_str(places.as_str())?;
     Ok(report.into_bytes())
 }
 
 /// The trace of a channel as a text, empty where there is no such channel.
 fn channel_text(alloc: Global, world: &World, channel: u32) -> Result<Vec<u8>, Fault>
+    requires { world.now.keeps ≡ true }
     ensures text { IfOk result (λ v. v.items ≡ channel_text (state_of world.now) channel) }
     ensures refused { IfErr result (λ fault. fault ≡ Fault.OutOfMemory) }
 {
@@ -158,6 +167,7 @@ fn channel_text(alloc: Global, world: &World, channel: u32) -> Result<Vec<u8>, F
 
 /// The text of a channel's trace.
 fn trace_text(alloc: Global, channel: &Channel) -> Result<Vec<u8>, Fault>
+    requires { channel.now.keeps ≡ true }
     ensures text { IfOk result (λ v. v.items ≡ trace_text channel.now.trace channel.now.now) }
     ensures refused { IfErr result (λ fault. fault ≡ Fault.OutOfMemory) }
 {
@@ -170,6 +180,7 @@ fn trace_text(alloc: Global, channel: &Channel) -> Result<Vec<u8>, Fault>
 
 /// The commands of a channel in DRAMPower's form, an empty text where there is no such channel.
 fn channel_commands(alloc: Global, world: &World, channel: u32) -> Result<Vec<u8>, Fault>
+    requires { world.now.keeps ≡ true }
     ensures text { IfOk result (λ v. v.items ≡ channel_commands (state_of world.now) channel) }
     ensures refused { IfErr result (λ fault. fault ≡ Fault.OutOfMemory) }
 {
@@ -181,6 +192,7 @@ fn channel_commands(alloc: Global, world: &World, channel: u32) -> Result<Vec<u8
 
 /// The text of a channel's commands in DRAMPower's form.
 fn commands_text(alloc: Global, channel: &Channel) -> Result<Vec<u8>, Fault>
+    requires { channel.now.keeps ≡ true }
     ensures text { IfOk result (λ v. v.items ≡ drampower_text channel.now.trace channel.now.now) }
     ensures refused { IfErr result (λ fault. fault ≡ Fault.OutOfMemory) }
 {

@@ -173,7 +173,7 @@ step_stays config s (End p c) other is = absurd other
 -- what a record of events makes of the core of a run
 
 abbrev pub opening_of : Config → Opening
-opening_of config = record { config = config; cycle = 0; number = 0 }
+opening_of config = record { config = config; keeps = true; cycle = 0; number = 0 }
 
 pub record IsReached (config : Config) (s : State) : Type 0 where
   pub events : List Answered

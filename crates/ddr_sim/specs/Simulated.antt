@@ -28,6 +28,8 @@ simulated a = record { config = a.config; world = a.world; left = a.left; waitin
 pub record IsWhole (a : Inside) : Type 0 where
   pub config : a.world.config ≡ a.config
   pub counted : a.waiting ≡ outstanding (state_of a.world)
+  -- traces are kept where one is to be printed in place of replies
+  pub keeps : a.world.keeps ≡ a.silent
 
 -- the run that a simulation has come to, where this text was to be printed
 abbrev pub run_at : Simulated → List ℕ → Run

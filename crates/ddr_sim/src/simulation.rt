@@ -1,7 +1,7 @@
 //! A run of a script over the core: its instructions, its rounds and its Ends.
 //!
 //! `line`, `refusal`, `trace`, `ddr_text`, `ddr_rounds` and `ddr_world` stand below, and `sim` above.
-ghost use Rattle.std.specs.Prelude.{◌≡◌, ◌==◌, ◌+◌, ◌-◌, ◌<◌, ◌≤◌, ◌^◌, ◌⊎◌, [], IfErr, IfOk, IsErrOf, IsTrue, OnOk, Ok, Err, Some, map};
+ghost use Rattle.std.specs.Prelude.{◌≡◌, ◌==◌, ◌+◌, ◌-◌, ◌<◌, ◌≤◌, ◌^◌, ◌⊎◌, true, [], IfErr, IfOk, IsErrOf, IsTrue, OnOk, Ok, Err, Some, map};
 ghost use Rattle.std.specs.Io.KnownBytes.{Appends};
 ghost use Rattle.ddr_ports.specs.Asked.{asked_of};
 ghost use Rattle.ddr_reorder.specs.Replies.{said};
@@ -49,7 +49,7 @@ pub struct Simulation {
     left: u32,
     /// How many requests were accepted whose replies were not released.
     waiting: u64,
-    /// Neither replies nor refusals are printed.
+    /// Neither replies nor refusals are printed, and the channels keep their traces.
     silent: bool,
 }
 
@@ -66,7 +66,8 @@ impl Model for Simulation {
 }
 
 impl Simulation {
-    /// A run before its first instruction. Where it is silent, neither replies nor refusals are printed.
+    /// A run before its first instruction. Where it is silent, neither replies nor refusals are printed, and the traces are kept, of
+    /// which `write_trace` writes one.
     pub fn open(alloc: Global, config: &Config, silent: bool) -> Result<Simulation, AllocError>
         ensures begun { IfOk result (λ sim. run_at sim [] ≡ begun config.now) }
         ensures config { IfOk result (λ sim. sim.config ≡ config.now) }
@@ -75,7 +76,7 @@ impl Simulation {
     {
         Ok(Simulation {
             config: *config,
-            world: World::open(alloc, config)?,
+            world: World::open_as(alloc, config, 0, 0, silent)?,
             left: MOST_ROUNDS,
             waiting: 0,
             silent,
@@ -387,13 +388,14 @@ impl Simulation {
         Ok(outcome)
     }
 
-    /// Writes the trace of a channel, and flushes. Where memory runs out nothing is written.
+    /// Writes the trace of a channel, and flushes. Where memory runs out nothing is written. The run was a silent one.
     pub fn write_trace<W: Sink>(
         &self,
         alloc: Global,
         channel: u32,
         writer: &mut W,
     ) -> Result<(), Fault>
+        requires { self.now.silent ≡ true }
         ensures written { OnOk result (Appends (W.contents writer.old) (W.contents writer.new) (channel_text (state_of self.now.world) channel)) }
         ensures taken { IsErrOf result Fault.Write → IsTrue W.may_fail }
         ensures spared { IfErr result (λ fault. fault ≡ Fault.OutOfMemory → W.contents writer.new ≡ W.contents writer.old) }

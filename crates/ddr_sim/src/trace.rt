@@ -1,7 +1,7 @@
 //! The trace of a channel as a text.
 //!
 //! `ddr_channel` and `ddr_trace` stand below, and `simulation` above.
-ghost use Rattle.std.specs.Prelude.{◌≡◌, IfErr, IfOk};
+ghost use Rattle.std.specs.Prelude.{◌≡◌, true, IfErr, IfOk};
 ghost use Rattle.ddr_trace.specs.Text.{trace_text};
 
 use ddr_channel::channel::Channel;
@@ -9,8 +9,9 @@ use ddr_text::fault::Fault;
 use ddr_trace::text::write_trace;
 use std::alloc::Global;
 
-/// The text of a channel's trace.
+/// The text of the trace of a channel that keeps it.
 pub fn text_of(alloc: Global, channel: &Channel) -> Result<Vec<u8>, Fault>
+    requires { channel.now.keeps ≡ true }
     ensures text { IfOk result (λ v. v.items ≡ trace_text channel.now.trace channel.now.now) }
     ensures refused { IfErr result (λ fault. fault ≡ Fault.OutOfMemory) }
 {

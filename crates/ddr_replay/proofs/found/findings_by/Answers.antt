@@ -18,7 +18,7 @@ loop-entry-preserved c =
           (c.note-in-loop-entry.ensures.stands (take i trace) kept.stands (omega (arith, length-take-le i trace, c.loop-entry-test.true, c.requires.few)));
       found = λ cycle.
           ap (λ k. found_from cycle k (take (i + 1) trace) (drop (i + 1) trace)) (c.in_ok-note.ensures cycle)
-          ∙ found_more trace i _ cycle c.finding.result (found_in c.loop-entry.findings) c.loop-entry-test.true (c.finding.ensures (take i trace) kept.stands) (kept.found cycle);
+          ∙ found_more trace i _ cycle c.finding.result (found_in c.loop-entry.findings) c.loop-entry-test.true (c.finding.ensures.counted (take i trace) kept.stands) (kept.found cycle);
     }
 
 pub returns : goal.returns

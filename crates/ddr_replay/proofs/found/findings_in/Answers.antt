@@ -8,4 +8,4 @@ use Rattle.ddr_replay.proofs.found.findings_in.Goals as goal
 pub findings_by-requires-clause-placed : goal.findings_by-requires-clause-placed
 findings_by-requires-clause-placed c =
     subst (λ (k : Config). All (λ e. IsTrue (is_in k.geometry e.command)) c.trace.result.now) (sym c.config.ensures)
-    (all_placed c.args.channel.now.config c.args.channel.now.start c.args.channel.now.now c.trace.result.now c.trace.ensures.legal)
+    (all_placed c.args.channel.now.config c.args.channel.now.start c.args.channel.now.now c.trace.result.now (c.trace.ensures.legal c.requires.kept))

@@ -9,8 +9,8 @@ use Rattle.ddr_replay.specs.Numbers.{is_spent}
 use Rattle.ddr_replay.proofs.NumberLemmas.{none_at}
 use Rattle.ddr_replay.proofs.found.findings_of.Goals as goal
 
-pub findings_at-requires : goal.findings_at-requires
-findings_at-requires c = none_at (is_spent (state_of c.args.world.now)) c.args.channels c.loop-channel.channel c.loop-channel-test.true c.requires
+pub findings_at-requires-clause-running : goal.findings_at-requires-clause-running
+findings_at-requires-clause-running c = none_at (is_spent (state_of c.args.world.now)) c.args.channels c.loop-channel.channel c.loop-channel-test.true c.requires.running
 
 pub loop-channel-preserved : goal.loop-channel-preserved
 loop-channel-preserved c =

@@ -15,8 +15,8 @@ returns-clause-counted c =
     let channel = c.args.channel.now in
     let trace = channel.trace in
     let end = channel.now in
-    let made = c.statistics_in-statistics.ensures in
-    let s = c.statistics_in-statistics.result in
+    let made = c.all_are_counted.ensures in
+    let s = c.args.statistics.now in
     let numbers : ℕ → ℕ → ℕ → Counts → Numbers = λ a b m d. record { turn_rounds = a; rank_switches = b; refresh_debt_most = m; counts = d } in
     let most =
     c.refresh_debts_most.ensures.counted trace made.stands made.few (subst (λ n. IsInOrder n trace) (sym c.now-2.ensures.value) made.order)

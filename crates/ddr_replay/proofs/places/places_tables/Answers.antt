@@ -7,8 +7,8 @@ use Rattle.ddr_replay.specs.Places.{places_at}
 use Rattle.ddr_replay.proofs.NumberLemmas.{none_at}
 use Rattle.ddr_replay.proofs.places.places_tables.Goals as goal
 
-pub places_at-requires : goal.places_at-requires
-places_at-requires c = none_at (is_spent (state_of c.args.world.now)) c.args.channels c.loop-channel.channel c.loop-channel-test.true c.requires
+pub places_at-requires-clause-running : goal.places_at-requires-clause-running
+places_at-requires-clause-running c = none_at (is_spent (state_of c.args.world.now)) c.args.channels c.loop-channel.channel c.loop-channel-test.true c.requires.running
 
 pub loop-channel-preserved : goal.loop-channel-preserved
 loop-channel-preserved c = grind (arith, common_steps, next_text (places_at (state_of c.args.world.now)) c.loop-channel.channel)

@@ -11,8 +11,8 @@ loop-rank-preserved c =
     let channel = c.args.channel.now in
     let trace = channel.trace in
     let rank = c.loop-rank.rank in
-    let made = c.statistics_in-statistics.ensures in
-    let s = c.statistics_in-statistics.result in
+    let made = c.all_are_counted.ensures in
+    let s = c.args.statistics.now in
     let order = subst (λ n. IsInOrder n trace) (sym c.now.ensures.value) made.order in
     let most =
     c.refresh_debt_most-most.ensures.counted trace made.stands made.few order

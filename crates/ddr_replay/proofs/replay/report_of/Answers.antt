@@ -28,7 +28,7 @@ returns-in_err-run g c =
     let queues = c.in_ok-queues.queues.items in
     let fault = c.in_err-run.field-0.0 in
     let some = sym c.names_no_channel.ensures ∙ c.if-names_no_channel.false in
-    let begun_is = c.in_ok-replaying.ensures.begun ∙ ap (λ k. begun config k queues) c.keeps_served.ensures in
+    let begun_is = c.in_ok-replaying.ensures.begun ∙ ap (λ k. begun config k queues) c.keeps_served-served.ensures in
     let p = err_from_is_err_and c.from_residual-in_err-run.result c.from_residual-in_err-run.ensures.1 in
     rw (p.1, p.2) (run_said {Y = Vec ℕ Global} (λ v. v.items) config c.args.taking told c.args.body.now queues fault some c.in_ok-queues.ensures.said
     (at_begun (λ (k : Config) (r : Result Run Fault). IsRunFault k fault r) config (keeps_served told) queues c.in_ok-replaying.replaying begun_is c.in_ok-replaying.ensures.config c.in_err-run.ensures.fault))
@@ -40,7 +40,7 @@ returns g c =
     let queues = c.in_ok-queues.queues.items in
     let last = run_of c.run.new.self in
     let some = sym c.names_no_channel.ensures ∙ c.if-names_no_channel.false in
-    let begun_is = c.in_ok-replaying.ensures.begun ∙ ap (λ k. begun config k queues) c.keeps_served.ensures in
+    let begun_is = c.in_ok-replaying.ensures.begun ∙ ap (λ k. begun config k queues) c.keeps_served-served.ensures in
     let came = at_begun (λ (k : Config) (r : Result Run Fault). r ≡ Ok last) config (keeps_served told) queues c.in_ok-replaying.replaying begun_is c.in_ok-replaying.ensures.config c.in_ok-run.ensures.ok in
     let requests = c.as_slice-2.ensures.value ∙ c.in_ok-requests.ensures ∙ ap (λ (qs : Queues). map requests_in qs) c.as_slice.ensures.value in
     let said = told_said config c.args.taking told c.args.body.now queues last some c.in_ok-queues.ensures.said came in

@@ -13,6 +13,7 @@ use Rattle.ddr_replay.specs.Ledgers.{Ledger, with_wait}
 use Rattle.ddr_replay.specs.Runs.{submitted}
 use Rattle.ddr_replay.specs.Waits.{IsFull}
 use Rattle.ddr_replay.proofs.SubmitLemmas.{full_of, one_more, some_left, submitted_later, submitted_more, submitted_none, submitted_refused}
+use Rattle.ddr_rounds.proofs.TraceLemmas.{submit_traces}
 use Rattle.ddr_replay.proofs.submitting.submit_from.Goals as goal
 
 pub returns-then-ask-from-clause-submitted : goal.returns-then-ask-from-clause-submitted
@@ -31,6 +32,8 @@ asks-preserved c =
       submitted = ap₂ (λ (q : List Ask) (ledger : Ledger). submitted c.args.port c.args.round q next ledger) c.pop.ensures c.in_ok-accept-in-Ok.ensures
           ∙ submitted_more c.args.port c.args.round c.asks.queue ask s next c.asks.ledger o c.in-Some.ensures (omega (arith, c.if-ask-from.false, c.from.ensures)) accepted ∙ kept.submitted;
       config = c.in-Ok.ensures.answer.config ∙ kept.config;
+      keeps = c.in-Ok.ensures.answer.keeps ∙ kept.keeps;
+      traces = λ d. submit_traces d c.asks.world c.step.new.self c.args.port _ _ c.in-Ok.ensures.answer ∙ kept.traces d;
       count = omega (arith, kept.count, one_more s next c.args.port (asked_by ask) o accepted, some_left c.asks.queue ask c.in-Some.ensures, ap (λ (q : List Ask). length q) c.pop.ensures);
     }
 
@@ -42,6 +45,10 @@ returns-in_err-accept-in-Ok-clause-count c =
     let o = c.in-Ok.field-0 in
     let accepted = ap (λ (a : Asked). step s (Submit c.args.port a)) (sym c.request.ensures) ∙ c.in-Ok.ensures.answer.ok in
     omega (arith, c.asks.invariant.count, one_more s next c.args.port (asked_by ask) o accepted, some_left c.asks.queue ask c.in-Some.ensures, ap (λ (q : List Ask). length q) c.pop.ensures)
+
+pub returns-in_err-accept-in-Ok-clause-traces : goal.returns-in_err-accept-in-Ok-clause-traces
+returns-in_err-accept-in-Ok-clause-traces c = λ d.
+    submit_traces d c.asks.world c.step.new.self c.args.port _ _ c.in-Ok.ensures.answer ∙ c.asks.invariant.traces d
 
 pub returns-in-Err-WindowFull-clause-submitted : goal.returns-in-Err-WindowFull-clause-submitted
 returns-in-Err-WindowFull-clause-submitted c =
@@ -78,6 +85,8 @@ returns-in-Err c =
           ∙ ap₂ (λ (t : State) (l : Ledger). record { state = t; ledger = l; rest = c.asks.queue }) (sym answer.err) (sym c.wait-in-Err.ensures);
       waits = λ ahead. absurd (omega (arith, ahead));
       config = answer.config ∙ kept.config;
+      keeps = answer.keeps ∙ kept.keeps;
+      traces = λ d. submit_traces d c.asks.world c.step.new.self c.args.port _ _ answer ∙ kept.traces d;
       count = ap (λ (t : State). length c.asks.queue + outstanding t) answer.err ∙ kept.count;
     }
 

@@ -1,5 +1,5 @@
 -- The requests that are counted are those of the run.
-use Rattle.std.proofs.Common.{◌≡◌, ℕ, Bool, false, List, drop, map, Option, Ok, ap, sym, ◌∙◌}
+use Rattle.std.proofs.Common.{◌≡◌, ℕ, false, List, drop, map, Option, Ok, ap, sym, ◌∙◌}
 use Rattle.ddr_timing.specs.declared.config.Config.{Config}
 use Rattle.ddr_timing.specs.declared.geometry.Geometry.{Geometry}
 use Rattle.ddr_statistics.specs.declared.counts.Finding.{Finding}

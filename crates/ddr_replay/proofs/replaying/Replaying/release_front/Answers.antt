@@ -9,6 +9,7 @@ use Rattle.ddr_rounds.proofs.EventLemmas.{front_answered, front_fewer}
 use Rattle.ddr_replay.specs.Runs.{released_by}
 use Rattle.ddr_replay.specs.View.{Replay, replay_of, run_of}
 use Rattle.ddr_replay.proofs.ReleaseLemmas.{front_taken, one_fewer}
+use Rattle.ddr_counting.proofs.NotingLemmas.{noted_heard}
 use Rattle.ddr_replay.proofs.replaying.Replaying.release_front.Goals as goal
 
 pub overflow_sub-self : goal.overflow_sub-self
@@ -20,6 +21,7 @@ invariant_of-self-2 c = record {
   config = c.release-2.ensures.answer.config ∙ c.self.invariant.config;
   ports = c.self.invariant.ports;
   counted = omega (arith, c.self.invariant.counted, one_fewer c.self.inside.world c.release-2.new.world c.args.port c.release-2.result (said c.in-Some.reply) (sym c.in-Some.ensures.front) c.release-2.ensures.answer);
+  noted = noted_heard c.self.inside.config (state_of c.self.inside.world) (state_of c.release-2.new.world) c.self.inside.noting c.release-2.new.watcher c.self.invariant.noted c.release-2.ensures.heard;
 }
 
 pub returns-clause-released : goal.returns-clause-released

@@ -7,6 +7,7 @@ abbrev pub invariant-rounds : goal.invariant-rounds
 invariant-rounds g l = record {
   leads : replayed l.fn.self.config (4294967295 - l.fn.self.round) (run_of l.fn.self) ≡ replayed l.fn.self.config (4294967295 - l.self.round) (run_of l.self);
   config : l.self.config ≡ l.fn.self.config;
+  traces : l.self.world.keeps ≡ l.fn.self.world.keeps;
 }
 
 abbrev pub decreases-rounds : goal.decreases-rounds

@@ -15,6 +15,7 @@ replies-preserved c =
     record {
       run = released_more c.args.port now next there.0 there.1 there.2 (released.fewer c.if-branch.true) ∙ kept.run;
       config = c.release_front.ensures.config ∙ kept.config;
+      traces = c.release_front.ensures.traces ∙ kept.traces;
       round = c.release_front.ensures.round ∙ kept.round;
     }
 
@@ -33,6 +34,9 @@ returns-clause-run c =
 
 pub returns-clause-config : goal.returns-clause-config
 returns-clause-config c = c.release_front.ensures.config ∙ c.replies.invariant.config ∙ c.collect.ensures.same.config
+
+pub returns-clause-traces : goal.returns-clause-traces
+returns-clause-traces c = c.release_front.ensures.traces ∙ c.replies.invariant.traces ∙ c.collect.ensures.same.traces
 
 pub returns-clause-round : goal.returns-clause-round
 returns-clause-round c = c.release_front.ensures.round ∙ c.replies.invariant.round ∙ c.collect.ensures.same.round

@@ -10,6 +10,7 @@ abbrev pub invariant-replies : goal.invariant-replies
 invariant-replies l = record {
   run : released (items_of (state_of l.self.world) (Release l.port)) l.port (run_of l.self) ≡ released (items_of (state_of l.initial.self.world) (Release l.port)) l.port (run_of l.initial.self);
   config : l.self.config ≡ l.initial.self.config;
+  traces : l.self.world.keeps ≡ l.initial.self.world.keeps;
   round : l.self.round ≡ l.initial.self.round;
 }
 

@@ -7,5 +7,6 @@ abbrev pub invariant-loop-port : goal.invariant-loop-port
 invariant-loop-port l = record {
   run : run_of l.self ≡ ports_served l.port (run_of l.fn.self);
   config : l.self.config ≡ l.fn.self.config;
+  traces : l.self.world.keeps ≡ l.fn.self.world.keeps;
   round : l.self.round ≡ l.fn.self.round;
 }

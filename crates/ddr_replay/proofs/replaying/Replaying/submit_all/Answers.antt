@@ -23,6 +23,7 @@ loop-port-preserved c =
           subst (λ (r : Run). IsWaitingIn q less r) (sym c.in_ok-submit.ensures.run) (waits_beside until less port q now other (omega (arith, c.min-until.ensures)) (kept.waits q below)))
           (waits_less c.in_ok-submit.field-0 less port next.round (queue_at next.queues port) next.state (omega (arith, c.min-until.ensures)) c.in_ok-submit.ensures.waits);
       config = c.submit.ensures.config ∙ kept.config;
+      traces = c.submit.ensures.traces ∙ kept.traces;
       round = c.submit.ensures.round ∙ kept.round;
       count = c.submit.ensures.count ∙ kept.count;
     }

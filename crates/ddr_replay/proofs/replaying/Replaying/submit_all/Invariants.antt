@@ -9,6 +9,7 @@ invariant-loop-port l = record {
   run : run_of l.self ≡ ports_submitted l.port (run_of l.fn.self);
   waits : AreWaiting l.port l.until (run_of l.self);
   config : l.self.config ≡ l.fn.self.config;
+  traces : l.self.world.keeps ≡ l.fn.self.world.keeps;
   round : l.self.round ≡ l.fn.self.round;
   count : unserved (run_of l.self) ≡ unserved (run_of l.fn.self);
 }

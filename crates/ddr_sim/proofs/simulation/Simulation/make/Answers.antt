@@ -15,6 +15,7 @@ invariant_of-self-in-Accepted c =
     let counted = made_counts (state_of a.world) (state_of c.step.new.self) (event_of c.args.event) c.in_ok-outcome.outcome c.in_ok-outcome.ensures.answer.ok in
     record {
       config = c.in_ok-outcome.ensures.answer.config ∙ c.self.invariant.config;
+      keeps = c.in_ok-outcome.ensures.answer.keeps ∙ c.self.invariant.keeps;
       counted = omega (arith, c.self.invariant.counted, (subst (λ (o : Outcome). Counted (event_of c.args.event) n o m) c.in-Accepted.is counted).0);
     }
 
@@ -34,6 +35,7 @@ invariant_of-self-in-Released c =
     let counted = made_counts (state_of a.world) (state_of c.step.new.self) (event_of c.args.event) c.in_ok-outcome.outcome c.in_ok-outcome.ensures.answer.ok in
     record {
       config = c.in_ok-outcome.ensures.answer.config ∙ c.self.invariant.config;
+      keeps = c.in_ok-outcome.ensures.answer.keeps ∙ c.self.invariant.keeps;
       counted = omega (arith, c.self.invariant.counted, subst (λ (o : Outcome). Counted (event_of c.args.event) n o m) c.in-Released.is counted);
     }
 
@@ -43,6 +45,7 @@ invariant_of-self-in_default c =
     let counted = made_counts (state_of a.world) (state_of c.step.new.self) (event_of c.args.event) c.in_ok-outcome.outcome c.in_ok-outcome.ensures.answer.ok in
     record {
       config = c.in_ok-outcome.ensures.answer.config ∙ c.self.invariant.config;
+      keeps = c.in_ok-outcome.ensures.answer.keeps ∙ c.self.invariant.keeps;
       counted = c.self.invariant.counted ∙ sym (as_many (event_of c.args.event) (outstanding (state_of a.world)) (outstanding (state_of c.step.new.self)) c.in_ok-outcome.outcome counted c.in_default.not-Accepted c.in_default.not-Released);
     }
 

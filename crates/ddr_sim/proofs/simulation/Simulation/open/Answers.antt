@@ -7,6 +7,7 @@ use Rattle.ddr_sim.proofs.simulation.Simulation.open.Goals as goal
 
 pub invariant_of-result : goal.invariant_of-result
 invariant_of-result c = record {
-  config = (c.in_ok-open.ensures.stands).config;
-  counted = sym (ap (λ (s : State). outstanding s) c.in_ok-open.ensures.state ∙ none_opened c.args.config.now 0 0 c.args.config.now.limits.ports);
+  config = (c.in_ok-open_as.ensures.stands).config;
+  counted = sym (ap (λ (s : State). outstanding s) c.in_ok-open_as.ensures.state ∙ none_opened c.args.config.now 0 0 c.args.config.now.limits.ports);
+  keeps = (c.in_ok-open_as.ensures.stands).keeps;
 }

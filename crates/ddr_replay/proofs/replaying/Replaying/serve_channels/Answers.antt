@@ -1,0 +1,11 @@
+-- Each command that was issued was noted.
+use Rattle.std.proofs.Common.{rules}
+use Rattle.ddr_counting.proofs.NotingLemmas.{noted_heard}
+use Rattle.ddr_world.specs.Kept.{state_of}
+use Rattle.ddr_replay.proofs.replaying.Replaying.serve_channels.Goals as goal
+
+pub invariant_of-self : goal.invariant_of-self
+invariant_of-self c =
+    let a = c.self.inside in
+    let noted = noted_heard a.config (state_of a.world) (state_of c.serve_channels.new.world) a.noting c.serve_channels.new.watcher c.self.invariant.noted c.serve_channels.ensures.heard in
+    search (rules, noted)
