@@ -51,7 +51,8 @@ enum ddr_code {
     DDR_CLOCK_SPENT = 17,  /* a channel's clock has come to 2^62 */
     DDR_NOT_EMPTY = 18,    /* no call of this library answers it */
     DDR_ILLEGAL = 19,      /* a rule is broken (ddr_judge.h) */
-    DDR_NOT_JUDGED = 20    /* the rules do not speak of such a command (ddr_judge.h) */
+    DDR_NOT_JUDGED = 20,   /* the rules do not speak of such a command (ddr_judge.h) */
+    DDR_NO_TRACE = 21      /* the core was opened without traces */
 };
 
 /* A reply's head: the request's number at its port, its first address, how many bytes were copied (for a write none), the
@@ -187,6 +188,7 @@ typedef struct ddr_port_statistics {
 
 /* The library's own names, whose pointers must not be null. The calls below test that first. */
 int32_t ddr_c_open(ddr_core *core, const uint8_t *text, size_t length, uint8_t *message, size_t room, uint64_t *whole);
+int32_t ddr_c_open_without_traces(ddr_core *core, const uint8_t *text, size_t length, uint8_t *message, size_t room, uint64_t *whole);
 int32_t ddr_c_read(ddr_core *core, uint32_t port, uint64_t addr, uint32_t length, uint64_t *number);
 int32_t ddr_c_write(ddr_core *core, uint32_t port, uint64_t addr, const uint8_t *bytes, size_t length, uint64_t *number);
 int32_t ddr_c_masked_write(ddr_core *core, uint32_t port, uint64_t addr, const uint8_t *line, size_t length, uint64_t enable, uint64_t *number);
@@ -210,6 +212,14 @@ static inline int32_t ddr_open(ddr_core *core, const void *text, size_t length, 
     uint8_t none = 0;
     if (core == NULL || whole == NULL || (text == NULL && length != 0) || (message == NULL && room != 0)) return DDR_NULL;
     return ddr_c_open(core, text == NULL ? &none : (const uint8_t *)text, length, message == NULL ? &none : (uint8_t *)message, room, whole);
+}
+
+/* Opens a core as ddr_open does, but its channels keep no trace: a command that was issued takes no memory, so that a run of any length
+ * takes no more than its rows do, of which one is kept once bytes are written to it. Replies, cycles and statistics are those of a core with traces. */
+static inline int32_t ddr_open_without_traces(ddr_core *core, const void *text, size_t length, char *message, size_t room, uint64_t *whole) {
+    uint8_t none = 0;
+    if (core == NULL || whole == NULL || (text == NULL && length != 0) || (message == NULL && room != 0)) return DDR_NULL;
+    return ddr_c_open_without_traces(core, text == NULL ? &none : (const uint8_t *)text, length, message == NULL ? &none : (uint8_t *)message, room, whole);
 }
 
 /* Asks a port to read `length` bytes from an address on, all in one 64-byte line, and writes the request's number, which
@@ -281,7 +291,8 @@ static inline int32_t ddr_cycle(ddr_core *core, uint32_t channel, uint64_t *cycl
 }
 
 /* Copies commands of a channel in the order of their cycles, from the one of number `first` on, counted from 0, to the
- * `room` places at `commands`, and writes how many: 0 where there is none of that number. */
+ * `room` places at `commands`, and writes how many: 0 where there is none of that number. DDR_NO_TRACE where the core was opened without
+ * traces. */
 static inline int32_t ddr_trace(ddr_core *core, uint32_t channel, uint64_t first, ddr_command *commands, size_t room, uint64_t *count) {
     ddr_command none = {0, 0, 0, 0, 0, 0, 0};
     if (core == NULL || count == NULL || (commands == NULL && room != 0)) return DDR_NULL;
@@ -294,8 +305,8 @@ static inline int32_t ddr_shape(ddr_core *core, ddr_memory_shape *shape) {
     return ddr_c_shape(core, shape);
 }
 
-/* Writes what a channel did so far. Each command is counted once, at the first such call behind it, so that the call may be made at any time and
- * often. The cycles in which writes were drained are those of whole rounds. Also DDR_CLOCK_SPENT where the channel's clock has come to 2^62. */
+/* Writes what a channel did so far. Each command is counted as it is issued, so that the call may be made at any time and often, and also where no
+ * trace is kept. The cycles in which writes were drained are those of whole rounds. Also DDR_CLOCK_SPENT where the channel's clock has come to 2^62. */
 static inline int32_t ddr_statistics_of_channel(ddr_core *core, uint32_t channel, ddr_channel_statistics *statistics) {
     if (core == NULL || statistics == NULL) return DDR_NULL;
     return ddr_c_channel_numbers(core, channel, statistics);
@@ -311,7 +322,7 @@ static inline int32_t ddr_statistics_of_port(ddr_core *core, uint32_t port, ddr_
 static inline const char *ddr_code_name(int32_t code) {
     static const char *const names[] = {"OK", "NULL", "CLOSED", "ALREADY_OPEN", "CONFIG", "NO_MEMORY", "NO_SUCH", "NOTHING", "TOO_SHORT", "FINISHED",
                                         "OUT_OF_RANGE", "EMPTY_LENGTH", "CROSSES_LINE", "SPENT", "WINDOW_FULL", "BUSY", "QUEUE_FULL", "CLOCK_SPENT",
-                                        "NOT_EMPTY", "ILLEGAL", "NOT_JUDGED"};
+                                        "NOT_EMPTY", "ILLEGAL", "NOT_JUDGED", "NO_TRACE"};
     return code >= 0 && (size_t)code < sizeof names / sizeof *names ? names[code] : "";
 }
 

@@ -33,10 +33,11 @@ struct Reply {
 // It is neither copied nor moved, as the core that it holds.
 class Core {
 public:
-    explicit Core(std::string_view config) {
+    // Without traces, `trace` throws `Error` with DDR_NO_TRACE, and a run of any length takes no more memory than the rows that it writes.
+    explicit Core(std::string_view config, bool traces = true) {
         char text[128];
         std::uint64_t whole = 0;
-        const std::int32_t code = ddr_open(&core, config.data(), config.size(), text, sizeof text, &whole);
+        const std::int32_t code = (traces ? ddr_open : ddr_open_without_traces)(&core, config.data(), config.size(), text, sizeof text, &whole);
         if (code == DDR_CONFIG) throw Error(code, std::string(text, whole < sizeof text ? whole : sizeof text));
         check(code, "ddr_open");
     }
@@ -138,9 +139,9 @@ public:
     using ReadDone = std::function<void(const Reply &)>;
     using WriteDone = std::function<void(std::uint64_t addr)>;
 
-    // The two ports differ, and the configuration has both, else `Error` with DDR_NO_SUCH.
-    Memory(std::string_view config, ReadDone read_done, WriteDone write_done, std::uint32_t read_port = 0, std::uint32_t write_port = 1)
-        : core(config), read_done(std::move(read_done)), write_done(std::move(write_done)), read_port(read_port), write_port(write_port) {
+    // The two ports differ, and the configuration has both, else `Error` with DDR_NO_SUCH. Traces are kept where they are asked for.
+    Memory(std::string_view config, ReadDone read_done, WriteDone write_done, std::uint32_t read_port = 0, std::uint32_t write_port = 1, bool traces = true)
+        : core(config, traces), read_done(std::move(read_done)), write_done(std::move(write_done)), read_port(read_port), write_port(write_port) {
         const std::uint32_t ports = core.ports();
         if (read_port >= ports || write_port >= ports || read_port == write_port) throw Error(DDR_NO_SUCH, "a port for reads and another for writes");
     }
@@ -261,8 +262,8 @@ public:
     using Line = std::array<std::uint8_t, 64>;
     using Done = std::function<void(const Reply &)>;
 
-    OrderedMemory(std::string_view config, Done read_done, Done write_done, std::uint32_t port = 0)
-        : core(config), read_done(std::move(read_done)), write_done(std::move(write_done)), port(port) {}
+    OrderedMemory(std::string_view config, Done read_done, Done write_done, std::uint32_t port = 0, bool traces = true)
+        : core(config, traces), read_done(std::move(read_done)), write_done(std::move(write_done)), port(port) {}
 
     // Whether `Add` takes a request now: none waits for the port.
     bool WillAccept(std::uint64_t, bool) const { return !waiting; }

@@ -82,7 +82,7 @@ public:
 
     // A configuration that is refused, and a port that it doesn't have, throw `Error`; a period of 0 throws `std::invalid_argument`.
     Target(sc_core::sc_module_name name, std::string_view config, const sc_core::sc_time &period, std::uint32_t port = 0)
-        : sc_module(name), socket("socket"), core(config), capacity(core.capacity()), period(period), port(port) {
+        : sc_module(name), socket("socket"), core(config, false), capacity(core.capacity()), period(period), port(port) {
         if (period == sc_core::SC_ZERO_TIME) throw std::invalid_argument("ddr::Target: the period is 0");
         if (port >= core.ports()) throw Error(DDR_NO_SUCH, "ddr::Target: the configuration has no port " + std::to_string(port));
         socket.bind(*this);

@@ -6,9 +6,10 @@
 // it writes there what it did: `requests`, each with the cycle in which its port took it, as `./ddr replay` takes them, and
 // `statistics`, which have to be what `./ddr replay` prints of them. Of no more than 10,000 requests, as many as `./ddr sim`
 // takes, also `script`, the requests and cycles, `replies`, and `trace-N` of each channel N, which have to be what
-// `./ddr sim` prints of the script.
+// `./ddr sim` prints of the script. Of more requests no trace is kept, so that a run of any length takes the same memory.
 #include "ddr.hpp"
 
+#include <algorithm>
 #include <cinttypes>
 #include <cstdio>
 #include <fstream>
@@ -214,6 +215,22 @@ bool is_told(const ddr_spread &told, const Latency &latency) {
     return told.count == latency.count && told.clocks == latency.sum && told.most == latency.most;
 }
 
+// The numbers of a channel's commands, as the library tells them.
+Numbers told_of(ddr::Core &core, std::uint32_t channel) {
+    const ddr_channel_statistics told = core.channel_statistics(channel);
+    Numbers numbers;
+    numbers.turn_rounds = told.turn_rounds;
+    numbers.rank_switches = told.rank_switches;
+    numbers.drain_cycles = told.drain_cycles;
+    numbers.refresh_debt_most = told.refresh_debt_most;
+    numbers.row_hits = told.row_hits;
+    numbers.row_misses = told.row_misses;
+    numbers.row_conflicts = told.row_conflicts;
+    const std::uint64_t commands[8] = {told.activates, told.reads, told.writes, told.reads_auto, told.writes_auto, told.precharges, told.precharges_all, told.refreshes};
+    std::copy(commands, commands + 8, numbers.commands);
+    return numbers;
+}
+
 // The numbers of a channel's commands, which are written as the program writes a trace where they are wanted.
 Numbers traced(ddr::Core &core, const std::string &config, std::uint32_t channel, std::ostream *text) {
     Counter counter(number_of(config, "refi", 1), number_of(config, "ranks", 1));
@@ -265,7 +282,7 @@ void run(const std::string &config, std::uint64_t requests, const std::string &f
     Latency reads, writes;
     ddr::OrderedMemory memory(
         config, [&](const ddr::Reply &reply) { reads.note(reply.head), record.reply(reply); },
-        [&](const ddr::Reply &reply) { writes.note(reply.head), record.reply(reply); });
+        [&](const ddr::Reply &reply) { writes.note(reply.head), record.reply(reply); }, 0, requests <= SCRIPT_REQUESTS);
 
     std::uint64_t added = 0;
     std::uint64_t cycles = 0;
@@ -294,7 +311,8 @@ void run(const std::string &config, std::uint64_t requests, const std::string &f
     for (std::uint32_t channel = 0; channel < memory.Under().channels(); channel++) {
         std::ofstream trace;
         if (record.wanted) trace.open(folder + "/trace-" + std::to_string(channel));
-        channels.push_back(traced(memory.Under(), config, channel, record.wanted ? &trace : nullptr));
+        if (requests <= SCRIPT_REQUESTS) channels.push_back(traced(memory.Under(), config, channel, record.wanted ? &trace : nullptr));
+        else channels.push_back(told_of(memory.Under(), channel));
         total.add(channels.back());
     }
     if (!folder.empty()) {

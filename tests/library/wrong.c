@@ -28,6 +28,8 @@ static void nulls(void) {
     wants("open, no text", ddr_open(&core, NULL, length, NULL, 0, &n), DDR_NULL);
     wants("open, no message", ddr_open(&core, text, length, NULL, 1, &n), DDR_NULL);
     wants("open, no length", ddr_open(&core, text, length, NULL, 0, NULL), DDR_NULL);
+    wants("open without traces, no core", ddr_open_without_traces(NULL, text, length, NULL, 0, &n), DDR_NULL);
+    wants("open without traces, no text", ddr_open_without_traces(&core, NULL, length, NULL, 0, &n), DDR_NULL);
     wants("read, no core", ddr_submit_read(NULL, 0, 0, 1, &n), DDR_NULL);
     wants("read, no number", ddr_submit_read(&core, 0, 0, 1, NULL), DDR_NULL);
     wants("write, no core", ddr_submit_write(NULL, 0, 0, bytes, 1, &n), DDR_NULL);
@@ -112,6 +114,7 @@ static void ranges(ddr_core *core) {
     uint8_t bytes[64] = {0};
     uint64_t n = 7;
     wants("open again", ddr_open(core, text, length, NULL, 0, &n), DDR_ALREADY_OPEN);
+    wants("open again without traces", ddr_open_without_traces(core, text, length, NULL, 0, &n), DDR_ALREADY_OPEN);
     wants("port", ddr_submit_read(core, 99, 0, 1, &n), DDR_NO_SUCH);
     wants("address", ddr_submit_read(core, 0, UINT64_MAX, 1, &n), DDR_OUT_OF_RANGE);
     wants("length", ddr_submit_read(core, 0, 0, 0, &n), DDR_EMPTY_LENGTH);
@@ -155,7 +158,8 @@ static void named(void) {
     wants("name of OK", strcmp(ddr_code_name(DDR_OK), "OK"), 0);
     wants("name of BUSY", strcmp(ddr_code_name(DDR_BUSY), "BUSY"), 0);
     wants("name of NOT_JUDGED", strcmp(ddr_code_name(DDR_NOT_JUDGED), "NOT_JUDGED"), 0);
-    wants("name of none", strcmp(ddr_code_name(DDR_NOT_JUDGED + 1), ""), 0);
+    wants("name of NO_TRACE", strcmp(ddr_code_name(DDR_NO_TRACE), "NO_TRACE"), 0);
+    wants("name of none", strcmp(ddr_code_name(DDR_NO_TRACE + 1), ""), 0);
     wants("name of less than none", strcmp(ddr_code_name(-1), ""), 0);
 }
 
@@ -252,6 +256,16 @@ static void traced(ddr_core *core) {
     wants("first", count > 0 && all[0].kind == DDR_ACT && all[0].column == DDR_NONE, 1);
 }
 
+/* A core that was opened without traces has none to copy, of whatever channel. */
+static void untraced(ddr_core *core) {
+    ddr_command one = {.row = 7};
+    uint64_t n = 7;
+    wants("no trace", ddr_trace(core, 0, 0, &one, 1, &n), DDR_NO_TRACE);
+    wants("no trace of none", ddr_trace(core, 99, 0, &one, 1, &n), DDR_NO_TRACE);
+    wants("no command", one.row, 7);
+    wants("no count", (int64_t)n, 7);
+}
+
 static void spreads(const char *what, const ddr_spread *spread, int64_t clocks, int64_t bound) {
     wants(what, (int64_t)spread->count, 1);
     wants(what, (int64_t)spread->clocks, clocks);
@@ -319,6 +333,17 @@ int main(int argc, char **argv) {
     counted(&core, 1, 500, 0, 2);
     counted(&core, 0, 500, 1, 2);
     traced(&core);
+    asked(&core);
+    wants("close", ddr_close(&core), DDR_OK);
+    closed(&core);
+    wants("open without traces", ddr_open_without_traces(&core, text, length, NULL, 0, &whole), DDR_OK);
+    counted(&core, 0, 0, 0, 0);
+    untraced(&core);
+    shaped(&core);
+    masked(&core);
+    counted(&core, 0, 500, 1, 2);
+    counted(&core, 1, 500, 0, 2);
+    untraced(&core);
     asked(&core);
     wants("close", ddr_close(&core), DDR_OK);
     closed(&core);

@@ -1,4 +1,3 @@
-pub mod FollowLemmas
 pub mod HandleLemmas
 pub mod OpenLemmas
 pub mod ReplyLemmas

@@ -1,5 +1,5 @@
 -- What a call finds in its slot, and what it leaves there.
-use Rattle.std.specs.Prelude.{◌≡◌, ◌+◌, ◌<◌, ◌-◌, ℕ, ℤ, Bool, List, if◌then◌else◌, is_some, drop, length, min, slice_get, IfSome, Option, Some, None, Result, Ok, Err}
+use Rattle.std.specs.Prelude.{◌≡◌, ◌+◌, ◌<◌, ◌-◌, ℕ, ℤ, Bool, true, false, List, if◌then◌else◌, is_some, drop, length, min, slice_get, IfSome, Option, Some, None, Result, Ok, Err}
 use Rattle.std.specs.Option.{option_map}
 use Rattle.ddr_ports.specs.Asked.{Asked}
 use Rattle.ddr_trace.specs.declared.command.Entry.{Entry}
@@ -119,28 +119,25 @@ cycle_in core channel = option_map (λ side. side.channel.now) (slice_get core.w
 abbrev pub trace_in : Core → ℕ → Option (List Entry)
 trace_in core channel = option_map (λ side. side.channel.trace) (slice_get core.world.channels channel)
 
--- entries from the one of this number on were copied, if there are any, and counted
-abbrev pub IsCopied : Option (List Entry) → ℕ → List BusCommand → List BusCommand → Option ℕ → Type 0
-IsCopied None first old new count = (count ≡ None) × (new ≡ old)
-IsCopied (Some entries) first old new count = (count ≡ Some (min (length entries - first) (length old))) × (new ≡ traced (drop first entries) old)
-
 -- entries from the one of this number on were copied, as far as there are places
 abbrev pub IsListed : Option (List Entry) → ℕ → List BusCommand → List BusCommand → ℕ → ℕ → ℤ → Type 0
 IsListed None first old new count count_new told = (told ≡ code.NO_SUCH) × (new ≡ old) × (count_new ≡ count)
 IsListed (Some entries) first old new count count_new told = (told ≡ code.OK) × (new ≡ traced (drop first entries) old) × (count_new ≡ min (length entries - first) (length old))
+
+-- so it is where traces are kept; else nothing is copied
+pub record IsTraced (core : Core) (channel first : ℕ) (old new : List BusCommand) (count count_new : ℕ) (told : ℤ) : Type 0 where
+  pub kept : core.world.keeps ≡ true → IsListed (trace_in core channel) first old new count count_new told
+  pub unkept : core.world.keeps ≡ false → (told ≡ code.NO_TRACE) × (new ≡ old) × (count_new ≡ count)
 
 -- a channel's numbers are told, or why not
 abbrev pub IsChannelTold : Result ChannelNumbers Refusal → ChannelNumbers → ChannelNumbers → ℤ → Type 0
 IsChannelTold (Ok numbers) old new told = (told ≡ code.OK) × (new ≡ numbers)
 IsChannelTold (Err cause) old new told = (told ≡ code_of cause) × (new ≡ old)
 
--- those of the channel of this number; what was counted is noted, and all else is as it was
-pub record IsNumbered (channel : ℕ) (old new : ChannelNumbers) (told : ℤ) (before after : Core) : Type 0 where
-  pub numbers : IsChannelTold (numbers_told (option_map (λ side. side.channel) (slice_get before.world.channels channel)) (drains_at before.drains.items channel)) old new told
-  pub world : after.world ≡ before.world
-  pub drains : after.drains ≡ before.drains
-  pub stamps : after.stamps ≡ before.stamps
-  pub traffic : after.traffic ≡ before.traffic
+-- those of the channel of this number
+abbrev pub IsNumbered : ℕ → ChannelNumbers → ChannelNumbers → ℤ → Core → Type 0
+IsNumbered channel old new told core =
+    IsChannelTold (numbers_told (option_map (λ side. side.channel) (slice_get core.world.channels channel)) (drains_at core.drains.items channel)) old new told
 
 -- a port's numbers are told where there is one
 abbrev pub IsPortTold : Option PortNumbers → PortNumbers → PortNumbers → ℤ → Type 0

@@ -21,6 +21,9 @@ pub(crate) const NOTHING: i32 = 7;
 /// The caller's buffer is too short.
 pub(crate) const TOO_SHORT: i32 = 8;
 
+/// The core was opened without traces.
+pub(crate) const NO_TRACE: i32 = 21;
+
 const FINISHED: i32 = 9;
 
 const OUT_OF_RANGE: i32 = 10;

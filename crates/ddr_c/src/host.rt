@@ -3,6 +3,7 @@
 //! `ddr_world` and `stamps` stand below, and `lib` above, whose exports call this.
 ghost use Rattle.std.specs.Prelude.{◌≡◌, ◌+◌, ◌<◌, ◌≤◌, [], ◌∷◌, ◌++◌, List, true, false, IfNone, IfOk, IfSome, None, Ok, Some, length, replicate, slice_get};
 ghost use Rattle.std.specs.Option.{option_copied, option_map};
+ghost use Rattle.ddr_counting.specs.Noting.{AreNoted};
 ghost use Rattle.ddr_ports.specs.Asked.{asked_of};
 ghost use Rattle.ddr_world.specs.Answer.{IsAnswered};
 ghost use Rattle.ddr_world.specs.Events.{Submit};
@@ -16,7 +17,6 @@ ghost use Rattle.ddr_world.specs.Told.{counts_of};
 ghost use Rattle.ddr_rounds.specs.Continues.{Continues};
 ghost use Rattle.ddr_rounds.specs.Drains.{AreRaised, drained};
 ghost use Rattle.ddr_rounds.specs.Rounds.{IsRefusedBehind, IsStopped, rounds};
-ghost use Rattle.ddr_c.specs.Follow.{AreFresh, Follows};
 ghost use Rattle.ddr_c.specs.Front.{IsNextOf, IsSeen, front_at};
 ghost use Rattle.ddr_c.specs.Numbers.{drains_at, numbers_told};
 ghost use Rattle.ddr_c.specs.Stamps.{clock_of, stamped};
@@ -26,7 +26,7 @@ use crate::numbers::{ChannelNumbers, PortNumbers, numbers_of, port_numbers};
 use crate::stamps::Stamps;
 use crate::traffic::{Traffic, no_traffic, refuse, take};
 use ddr_address_map::request::Echo;
-use ddr_counting::counting::Counting;
+use ddr_counting::noting::{Noting, all_are_counted};
 use ddr_ports::request::Request;
 use ddr_reorder::reply::{Reply, Service};
 use ddr_rounds::ports::{release, submit};
@@ -47,13 +47,13 @@ pub(crate) struct Core {
     ports: u32,
     channels: u32,
     pub(crate) stamps: Stamps,
-    /// Of each channel what was counted of its commands, which are counted when they are asked for.
-    counting: Vec<Counting>,
+    /// Of each channel what its commands come to.
+    noting: Noting,
     /// Of each channel in how many cycles writes were drained.
     pub(crate) drains: Vec<u64>,
     /// Of each port.
     pub(crate) traffic: Vec<Traffic>,
-    ghost follows: { Follows world.config (state_of world) counting.items },
+    ghost follows: { AreNoted world.config (state_of world) noting },
     ghost config_is: { config ≡ world.config },
     ghost ports_are: { ports ≡ world.config.limits.ports },
     ghost channels_are: { channels ≡ world.config.geometry.channels },
@@ -84,21 +84,21 @@ pub(crate) enum Next {
 }
 
 impl Core {
-    /// A core before its first event.
-    pub(crate) fn open(alloc: Global, config: &Config) -> Result<Core, AllocError>
+    /// A core before its first event, whose channels keep their traces, where `traces` says so.
+    pub(crate) fn open(alloc: Global, config: &Config, traces: bool) -> Result<Core, AllocError>
         ensures config { IfOk result (λ core. core.world.config ≡ config.now) }
         ensures state { IfOk result (λ core. state_of core.world ≡ opened config.now 0 0) }
-        ensures stands { IfOk result (λ core. StandsFor core.world (record { config = config.now; cycle = 0; number = 0 }) []) }
+        ensures stands { IfOk result (λ core. StandsFor core.world (record { config = config.now; keeps = traces; cycle = 0; number = 0 }) []) }
         ensures drains { IfOk result (λ core. core.drains.items ≡ replicate config.now.geometry.channels 0) }
         ensures traffic { IfOk result (λ core. core.traffic.items ≡ replicate config.now.limits.ports no_traffic) }
     {
         Ok(Core {
-            world: World::open(alloc, config)?,
+            world: World::open_as(alloc, config, 0, 0, traces)?,
             config: *config,
             ports: config.limits.ports,
             channels: config.geometry.channels,
             stamps: Stamps::open(alloc, config.limits.ports)?,
-            counting: none_counted(alloc, config)?,
+            noting: Noting::open(alloc, config)?,
             drains: vec![in alloc; 0; config.geometry.channels as usize]?,
             traffic: no_traffic(alloc, config.limits.ports)?,
         })
@@ -113,7 +113,7 @@ impl Core {
         ensures continues { Continues self.old.world self.new.world }
     {
         let clock = self.clock();
-        let answer = submit(&mut self.world, port, request, &mut ());
+        let answer = submit(&mut self.world, port, request, &mut self.noting);
         match answer {
             Ok(Outcome::Accepted { number }) => self.stamps.accept(port, number, clock),
             Ok(_) => {}
@@ -163,7 +163,8 @@ impl Core {
     {
         let drains = self.drains.as_mut_slice();
         let (ports, channels) = (self.ports, self.channels);
-        make_rounds(&mut self.world, ports, channels, count, &mut (), drains)
+        let noting = &mut self.noting;
+        make_rounds(&mut self.world, ports, channels, count, noting, drains)
     }
 
     /// Copies the bytes of the port's oldest reply, where it is ready and the buffer has room, and gives it up.
@@ -185,7 +186,7 @@ impl Core {
             return Next::TooShort(front);
         }
         buffer[..length].copy_from_slice(reply.bytes);
-        let _ = release(&mut self.world, port, &mut ());
+        let _ = release(&mut self.world, port, &mut self.noting);
         take(self.traffic.as_mut_slice(), port, &front, clock);
         Next::Given(front)
     }
@@ -218,12 +219,8 @@ impl Core {
 
     /// The numbers of a channel's commands so far. Fails as `NoSuch` where there is no such channel, and as `ClockSpent` where its clock has
     /// come to its end.
-    pub(crate) fn channel_numbers(&mut self, channel: u32) -> Result<ChannelNumbers, Refusal>
-        ensures told { result ≡ numbers_told (option_map (λ side. side.channel) (slice_get self.old.world.channels channel)) (drains_at self.old.drains.items channel) }
-        ensures world { self.new.world ≡ self.old.world }
-        ensures drains { self.new.drains ≡ self.old.drains }
-        ensures stamps { self.new.stamps ≡ self.old.stamps }
-        ensures traffic { self.new.traffic ≡ self.old.traffic }
+    pub(crate) fn channel_numbers(&self, channel: u32) -> Result<ChannelNumbers, Refusal>
+        ensures { result ≡ numbers_told (option_map (λ side. side.channel) (slice_get self.now.world.channels channel)) (drains_at self.now.drains.items channel) }
     {
         let Some(side) = self.world.channel(channel) else {
             return Err(Refusal::NoSuch);
@@ -232,10 +229,9 @@ impl Core {
         if end == CLOCK_STOP {
             return Err(Refusal::ClockSpent);
         }
-        let counting = &mut self.counting[channel as usize];
-        counting.catch_up(side);
-        let drains = drains_at(&self.drains, channel);
-        Ok(numbers_of(counting, side.config(), side.trace(), end, drains))
+        let statistics = self.noting.at(channel);
+        all_are_counted(side, statistics);
+        Ok(numbers_of(statistics, end, drains_at(&self.drains, channel)))
     }
 
     /// The numbers of a port's requests so far, if there is such a port.
@@ -249,8 +245,16 @@ impl Core {
         Some(port_numbers(counts, &Traffic::NONE))
     }
 
-    /// The commands of a channel so far, if there is such a channel.
+    /// Whether the channels keep their traces.
+    pub(crate) fn keeps_traces(&self) -> bool
+        ensures { result ≡ self.now.world.keeps }
+    {
+        self.world.keeps_traces()
+    }
+
+    /// The commands of a channel so far, if there is such a channel. The traces are kept.
     pub(crate) fn commands(&self, channel: u32) -> Option<&[Entry]>
+        requires { self.now.world.keeps ≡ true }
         ensures { option_copied result ≡ option_map (λ side. side.channel.trace) (slice_get self.now.world.channels channel) }
     {
         let channel = self.world.channel(channel)?;
@@ -282,15 +286,4 @@ fn front_of(stamps: &Stamps, port: u32, reply: &Reply<'_>) -> Front
             due: reply.due,
         },
     }
-}
-
-/// That of each channel, of which no command was counted.
-fn none_counted(alloc: Global, config: &Config) -> Result<Vec<Counting>, AllocError>
-    ensures { IfOk result (λ all. AreFresh config.now all.items) }
-{
-    let mut all = Vec::new(alloc);
-    for _ in 0..config.geometry.channels {
-        all.push(Counting::open(config))?;
-    }
-    Ok(all)
 }

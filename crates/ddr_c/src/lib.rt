@@ -6,11 +6,11 @@
 //! the words of the core's own, and which code it answers.
 #![tactic(auto)]
 
-ghost use Rattle.std.specs.Prelude.{◌≡◌, ◌≢◌, ◌-◌, IfNone, IfSome, None, Some, drop, if◌then◌else◌, is_some, length, min, slice_get};
+ghost use Rattle.std.specs.Prelude.{◌≡◌, ◌≢◌, ◌-◌, true, false, IfNone, IfSome, None, Some, drop, if◌then◌else◌, is_some, length, min, slice_get};
 ghost use Rattle.ddr_ports.specs.Asked.{Asked, Masked, Read, Write, asked_of};
 ghost use Rattle.ddr_world.specs.Kept.{state_of};
 ghost use Rattle.ddr_world.specs.Quiet.{IsQuiet};
-ghost use Rattle.ddr_c.specs.Calls.{Calls, IsAdvanced, IsCopied, IsCountedOf, IsListed, IsNumbered, IsPortTold, IsServed, IsSubmitted, IsTaken, Tells, cycle_in, held_in, head_after, port_numbers_in, reply_code, trace_in};
+ghost use Rattle.ddr_c.specs.Calls.{Calls, IsAdvanced, IsCountedOf, IsNumbered, IsPortTold, IsServed, IsSubmitted, IsTaken, IsTraced, Tells, cycle_in, held_in, head_after, port_numbers_in, reply_code};
 ghost use Rattle.ddr_c.specs.Codes.{answer_code, number_told};
 ghost use Rattle.ddr_c.specs.Opens.{IsOpening, IsShown};
 ghost use Rattle.ddr_c.specs.Shapes.{shape_of};
@@ -28,7 +28,7 @@ mod stamps;
 mod trace;
 mod traffic;
 
-use codes::{ALREADY_OPEN, CLOSED, NO_SUCH, NOTHING, OK, TOO_SHORT, code_of};
+use codes::{ALREADY_OPEN, CLOSED, NO_SUCH, NO_TRACE, NOTHING, OK, TOO_SHORT, code_of};
 use ddr_address_map::request::Line;
 use ddr_bus::bus::BusCommand;
 use ddr_ports::request::Request;
@@ -55,13 +55,33 @@ pub extern "C" fn ddr_c_open(
     length: &mut u64,
 ) -> i32
     ensures open { IfSome (held_in slot.old) (λ core. (result ≡ ALREADY_OPEN) × (held_in slot.new ≡ Some core)) }
-    ensures closed { IfNone (held_in slot.old) (IsOpening text.now result (held_in slot.new)) }
+    ensures closed { IfNone (held_in slot.old) (IsOpening true text.now result (held_in slot.new)) }
     ensures shown { IsShown result message.old message.new length.old length.new }
 {
     if slot.is_open() {
         return ALREADY_OPEN;
     }
-    open(alloc, slot, text, message, length)
+    open(alloc, slot, true, text, message, length)
+}
+
+/// Opens a core as `ddr_c_open` does, but its channels keep no trace, so that a run of any length takes no more memory than the rows that
+/// it writes.
+#[unsafe(no_mangle)]
+pub extern "C" fn ddr_c_open_without_traces(
+    alloc: Global,
+    slot: &mut Slot,
+    text: &[u8],
+    message: &mut [u8],
+    length: &mut u64,
+) -> i32
+    ensures open { IfSome (held_in slot.old) (λ core. (result ≡ ALREADY_OPEN) × (held_in slot.new ≡ Some core)) }
+    ensures closed { IfNone (held_in slot.old) (IsOpening false text.now result (held_in slot.new)) }
+    ensures shown { IsShown result message.old message.new length.old length.new }
+{
+    if slot.is_open() {
+        return ALREADY_OPEN;
+    }
+    open(alloc, slot, false, text, message, length)
 }
 
 /// Asks a port to read bytes.
@@ -319,7 +339,7 @@ pub extern "C" fn ddr_c_cycle(alloc: Global, slot: &mut Slot, channel: u32, cycl
     }
 }
 
-/// Copies commands of a channel, from the one of this number on, and tells how many.
+/// Copies commands of a channel, from the one of this number on, and tells how many. A core that was opened without traces has none.
 #[unsafe(no_mangle)]
 pub extern "C" fn ddr_c_trace(
     alloc: Global,
@@ -330,28 +350,28 @@ pub extern "C" fn ddr_c_trace(
     count: &mut u64,
 ) -> i32
     ensures same { held_in slot.new ≡ held_in slot.old }
-    ensures told { Calls (held_in slot.old) (held_in slot.new) ((result ≡ CLOSED) × (commands.new ≡ commands.old) × (count.new ≡ count.old)) (λ core after. IsListed (trace_in core channel) first commands.old commands.new count.old count.new result) }
+    ensures told { Calls (held_in slot.old) (held_in slot.new) ((result ≡ CLOSED) × (commands.new ≡ commands.old) × (count.new ≡ count.old)) (λ core after. IsTraced core channel first commands.old commands.new count.old count.new result) }
 {
     let Some(core) = slot.take(alloc) else {
         return CLOSED;
     };
-    let copied = list(&core, channel, first, commands);
+    let code = list(&core, channel, first, commands, count);
     slot.put(core);
-    match copied {
-        Some(copied) => {
-            *count = copied;
-            OK
-        }
-        None => NO_SUCH,
-    }
+    code
 }
 
-/// Copies commands of a channel, from the one of this number on, if there is such a channel.
-fn list(core: &Core, channel: u32, first: u64, commands: &mut [BusCommand]) -> Option<u64>
-    ensures copied { IsCopied (trace_in core.now channel) first commands.old commands.new result }
+/// Copies commands of a channel, from the one of this number on, where traces are kept and there is such a channel, and tells how many.
+fn list(core: &Core, channel: u32, first: u64, commands: &mut [BusCommand], count: &mut u64) -> i32
+    ensures { IsTraced core.now channel first commands.old commands.new count.old count.new result }
 {
-    let entries = core.commands(channel)?;
-    Some(copy_from(entries, first, commands))
+    if !core.keeps_traces() {
+        return NO_TRACE;
+    }
+    let Some(entries) = core.commands(channel) else {
+        return NO_SUCH;
+    };
+    *count = copy_from(entries, first, commands);
+    OK
 }
 
 /// Tells the numbers of a channel's commands so far.
@@ -362,9 +382,10 @@ pub extern "C" fn ddr_c_channel_numbers(
     channel: u32,
     numbers: &mut ChannelNumbers,
 ) -> i32
-    ensures { Calls (held_in slot.old) (held_in slot.new) ((result ≡ CLOSED) × (numbers.new ≡ numbers.old)) (IsNumbered channel numbers.old numbers.new result) }
+    ensures same { held_in slot.new ≡ held_in slot.old }
+    ensures told { Calls (held_in slot.old) (held_in slot.new) ((result ≡ CLOSED) × (numbers.new ≡ numbers.old)) (λ core after. IsNumbered channel numbers.old numbers.new result core) }
 {
-    let Some(mut core) = slot.take(alloc) else {
+    let Some(core) = slot.take(alloc) else {
         return CLOSED;
     };
     let answer = core.channel_numbers(channel);

@@ -1,16 +1,16 @@
 //! The numbers of a channel and of a port in C's form.
 //!
 //! `traffic`, `ddr_counting` and `ddr_measure` stand below, and `host` and `lib` above.
-ghost use Rattle.std.specs.Prelude.{◌≡◌};
-ghost use Rattle.ddr_counting.specs.Counting.{AreCounted};
+ghost use Rattle.std.specs.Prelude.{◌≡◌, List};
+ghost use Rattle.ddr_timing.specs.declared.config.Config.{Config};
+ghost use Rattle.ddr_trace.specs.declared.command.Entry.{Entry};
+ghost use Rattle.ddr_counting.specs.Noting.{AreCounted};
 ghost use Rattle.ddr_c.specs.Numbers.{numbers_of};
 ghost use Rattle.ddr_c.specs.Traffic.{port_numbers, requests_of, spread_of};
 
 use crate::traffic::{Took, Traffic};
-use ddr_counting::counting::Counting;
 use ddr_measure::distribution::Distribution;
-use ddr_timing::config::Config;
-use ddr_trace::command::Entry;
+use ddr_statistics::statistics::Statistics;
 use ddr_world::world::Counts;
 
 /// The numbers of a channel's commands. `cycles`, `busy_clocks` and `drain_cycles` are clock cycles, `refresh_debt_most` REFs that a rank
@@ -75,18 +75,10 @@ pub struct PortNumbers {
     pub writes: RequestNumbers,
 }
 
-/// Those of a trace that ends before this cycle, once all of it was counted. In so many cycles writes were drained.
-pub(crate) fn numbers_of(
-    counting: &Counting,
-    config: &Config,
-    trace: &[Entry],
-    end: u64,
-    drains: u64,
-) -> ChannelNumbers
-    requires { AreCounted config.now end trace.now counting.now }
-    ensures { result ≡ numbers_of config.now end trace.now drains }
+/// Those of a trace that ends before this cycle, of which these are the statistics. In so many cycles writes were drained.
+pub(crate) fn numbers_of(statistics: &Statistics, end: u64, drains: u64) -> ChannelNumbers
+    ensures { (config : Config) (trace : List Entry) → AreCounted config end trace statistics.now → result ≡ numbers_of config end trace drains }
 {
-    let statistics = &counting.statistics;
     let counts = statistics.total();
     ChannelNumbers {
         cycles: end,

@@ -12,31 +12,32 @@ use ddr_loose::text::{Unread, read_config};
 use ddr_timing::config::Config;
 use std::alloc::Global;
 
-/// Opens a core in a closed slot. A refusal's text is copied as far as it fits, and its whole length told.
+/// Opens a core in a closed slot, with or without the traces of its channels. A refusal's text is copied as far as it fits, and its whole length told.
 pub(crate) fn open(
     alloc: Global,
     slot: &mut Slot,
+    traces: bool,
     text: &[u8],
     message: &mut [u8],
     length: &mut u64,
 ) -> i32
     requires { held_in slot.old ≡ None }
-    ensures opened { IsOpening text.now result (held_in slot.new) }
+    ensures opened { IsOpening traces text.now result (held_in slot.new) }
     ensures shown { IsShown result message.old message.new length.old length.new }
 {
     match read_config(alloc, text, message, length) {
-        Ok(config) => opened(alloc, slot, &config),
+        Ok(config) => opened(alloc, slot, &config, traces),
         Err(Unread::Refused) => CONFIG,
         Err(Unread::OutOfMemory) => NO_MEMORY,
     }
 }
 
 /// Opens a core of a configuration.
-fn opened(alloc: Global, slot: &mut Slot, config: &Config) -> i32
+fn opened(alloc: Global, slot: &mut Slot, config: &Config, traces: bool) -> i32
     requires { held_in slot.old ≡ None }
-    ensures { IsOpened config.now result (held_in slot.new) }
+    ensures { IsOpened traces config.now result (held_in slot.new) }
 {
-    let Ok(core) = Core::open(alloc, config) else {
+    let Ok(core) = Core::open(alloc, config, traces) else {
         return NO_MEMORY;
     };
     match Box::new(alloc, core) {

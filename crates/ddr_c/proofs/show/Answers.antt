@@ -1,5 +1,5 @@
 -- The code and the head are those of what became of the reply.
-use Rattle.std.proofs.Common.{◌≡◌, Bool, ℕ, w32, rules, ap, sym, ◌∙◌}
+use Rattle.std.proofs.Common.{◌≡◌, Bool, ℕ, w32, rules, ap, ◌∙◌}
 use Rattle.std.specs.Option.{is_some}
 use Rattle.std.specs.List.{slice_get}
 use Rattle.std.proofs.lemmas.Int.{to_z-of_z}

@@ -1,20 +1,8 @@
--- More of the channel's commands were counted.
-use Rattle.std.proofs.Common.{◌≡◌, Some, sym, subst, ap, ◌∙◌}
-use Rattle.ddr_world.specs.Kept.{state_of}
-use Rattle.ddr_c.proofs.FollowLemmas.{counted_at, follows_more, one_of}
+-- The statistics are those of the channel's commands.
+use Rattle.ddr_counting.proofs.NotingLemmas.{noted_of}
 use Rattle.ddr_c.proofs.host.Core.channel_numbers.Goals as goal
 
-pub catch_up-requires-clause-counted : goal.catch_up-requires-clause-counted
-catch_up-requires-clause-counted c =
+pub all_are_counted-requires-clause-noted : goal.all_are_counted-requires-clause-noted
+all_are_counted-requires-clause-noted c =
     let core = c.args.self.now in
-    let world = core.world in
-    let there = one_of world.config (state_of world) core.counting.items c.args.channel c.index_mut-counting.result.now core.follows c.in-Some.ensures.within c.index_mut-counting.ensures.value in
-    counted_at world core.counting.items c.args.channel c.in-Some.side.now c.index_mut-counting.result.now core.follows there c.in-Some.ensures.value c.in-Some.ensures.config
-
-pub invariant_of-self-2-clause-follows : goal.invariant_of-self-2-clause-follows
-invariant_of-self-2-clause-follows c =
-    let core = c.args.self.now in
-    let world = core.world in
-    let there = one_of world.config (state_of world) core.counting.items c.args.channel c.index_mut-counting.result.now core.follows c.in-Some.ensures.within c.index_mut-counting.ensures.value in
-    follows_more world core.counting.items c.args.channel c.in-Some.side.now c.index_mut-counting.result.now c.catch_up.new.self core.follows there c.in-Some.ensures.value c.in-Some.ensures.config
-    c.catch_up.ensures.counted
+    noted_of core.world core.noting c.args.channel c.in-Some.side.now c.at-statistics.result.now core.follows c.at-statistics.ensures c.in-Some.ensures.value c.in-Some.ensures.config

@@ -1,7 +1,12 @@
--- What was counted stands for the beginning of each trace.
-use Rattle.ddr_c.proofs.FollowLemmas.{follows_heard}
+-- Each command that was issued was noted.
+use Rattle.std.proofs.Common.{sym, subst}
+use Rattle.ddr_timing.specs.declared.config.Config.{Config}
+use Rattle.ddr_counting.specs.Noting.{AreNoted}
+use Rattle.ddr_counting.proofs.NotingLemmas.{noted_heard}
+use Rattle.ddr_world.specs.Kept.{state_of}
 use Rattle.ddr_c.proofs.host.Core.rounds.Goals as goal
 
 pub invariant_of-self-clause-follows : goal.invariant_of-self-clause-follows
 invariant_of-self-clause-follows c =
-    follows_heard _ _ c.make_rounds.new.watcher c.args.self.now.world c.make_rounds.new.world c.args.self.now.counting.items c.args.self.now.follows c.make_rounds.ensures.heard c.make_rounds.ensures.config
+    subst (λ (k : Config). AreNoted k (state_of c.make_rounds.new.world) c.make_rounds.new.watcher) (sym c.make_rounds.ensures.config)
+    (noted_heard c.args.self.now.world.config (state_of c.args.self.now.world) (state_of c.make_rounds.new.world) c.args.self.now.noting c.make_rounds.new.watcher c.args.self.now.follows c.make_rounds.ensures.heard)
