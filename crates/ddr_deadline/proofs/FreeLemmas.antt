@@ -29,7 +29,7 @@ use Rattle.ddr_channel.proofs.PromptLemmas.{IsFree, after, free_after}
 abbrev pub AreFree : Bus → Type 0
 AreFree b = (rank : ℕ) → IsFree b rank
 
-bus_after : (s : State) → bus_of (after_cycle s) ≡ after (command_of (at_choice s).pending (choice_of (at_choice s))) (bus_of s)
+pub bus_after : (s : State) → bus_of (after_cycle s) ≡ after (command_of (at_choice s).pending (choice_of (at_choice s))) (bus_of s)
 bus_after s =
     let c = choice_of (at_choice s) in
     served_alike {X = Bus} (λ t. bus_of (ticked t)) (λ t place r. refl) c (recorded (command_of (at_choice s).pending c) (at_choice s)) ∙ same (command_of (at_choice s).pending c)

@@ -21,7 +21,7 @@ use Rattle.ddr_deadline.proofs.LegalLemmas.{most_of_seven}
 
 -- a command that isn't an earlier one of the rule moves nothing
 
-still : (test : Command → Bool) (distance : Command → ℕ) (history : List Entry) (x : Entry) → test x.command ≡ false → behind test distance (history ++ x ∷ []) ≡ behind test distance history
+pub still : (test : Command → Bool) (distance : Command → ℕ) (history : List Entry) (x : Entry) → test x.command ≡ false → behind test distance (history ++ x ∷ []) ≡ behind test distance history
 still test distance history x no_test =
     behind_append test distance history x ∙ ap (λ w. max (behind test distance history) (cond w (x.cycle + distance x.command) 0)) no_test ∙ none (behind test distance history)
   where
@@ -31,7 +31,7 @@ still test distance history x no_test =
 not_earlier : (a b c : Bool) → a ≡ false → (a && b && c) ≡ false
 not_earlier a b c is = rw is refl
 
-spaced_still : (s : Spacing) (command : Command) (history : List Entry) (x : Entry) → s.earlier x.command ≡ false → spaced_from s command (history ++ x ∷ []) ≡ spaced_from s command history
+pub spaced_still : (s : Spacing) (command : Command) (history : List Entry) (x : Entry) → s.earlier x.command ≡ false → spaced_from s command (history ++ x ∷ []) ≡ spaced_from s command history
 spaced_still s command history x is = still (λ a. speaks_of s a command) (λ _. s.at_least) history x (not_earlier (s.earlier x.command) (s.later command) (s.pairs x.command command) is)
 
 -- and one that is moves it by its distance at most
@@ -45,11 +45,11 @@ spaced_more s command history x =
     by_test true = omega arith
     by_test false = omega arith
 
-switched_still : (t : Timing) (command : Command) (history : List Entry) (x : Entry) → is_column x.command ≡ false → switched_from t command (history ++ x ∷ []) ≡ switched_from t command history
+pub switched_still : (t : Timing) (command : Command) (history : List Entry) (x : Entry) → is_column x.command ≡ false → switched_from t command (history ++ x ∷ []) ≡ switched_from t command history
 switched_still t command history x is =
     still (λ a. is_column a && is_column command && not (is_same_rank a command)) (λ a. rank_switch t a command) history x (not_earlier (is_column x.command) (is_column command) (not (is_same_rank x.command command)) is)
 
-four_still : (t : Timing) (command : Command) (history : List Entry) (x : Entry) → is_activate x.command ≡ false → four_from t command (history ++ x ∷ []) ≡ four_from t command history
+pub four_still : (t : Timing) (command : Command) (history : List Entry) (x : Entry) → is_activate x.command ≡ false → four_from t command (history ++ x ∷ []) ≡ four_from t command history
 four_still t command [] x is = rw is refl
 four_still t command (a ∷ between) x is = rw (counts, four_still t command between x is) refl
   where
@@ -61,7 +61,7 @@ four_still t command (a ∷ between) x is = rw (counts, four_still t command bet
 
 -- the cycle of a read or write isn't moved by an ACT or a PRE
 
-alike_seven : (a b c d e f g a' b' c' d' e' f' g' : ℕ) → a' ≡ a → b' ≡ b → c' ≡ c → d' ≡ d → e' ≡ e → f' ≡ f → g' ≡ g → max (max (max a' b') (max c' d')) (max (max e' f') g') ≡ max (max (max a b) (max c d)) (max (max e f) g)
+pub alike_seven : (a b c d e f g a' b' c' d' e' f' g' : ℕ) → a' ≡ a → b' ≡ b → c' ≡ c → d' ≡ d → e' ≡ e → f' ≡ f → g' ≡ g → max (max (max a' b') (max c' d')) (max (max e' f') g') ≡ max (max (max a b) (max c d)) (max (max e f) g)
 alike_seven a b c d e f g a' b' c' d' e' f' g' one two three four five six seven = rw (one, two, three, four, five, six, seven) refl
 
 pub column_still : (t : Timing) (command : Command) (history : List Entry) (x : Entry) → is_column x.command ≡ false → is_read x.command ≡ false → is_write x.command ≡ false → is_refresh x.command ≡ false → column_from t command (history ++ x ∷ []) ≡ column_from t command history

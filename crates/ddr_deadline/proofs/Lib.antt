@@ -7,3 +7,15 @@ pub mod WaitLemmas
 pub mod FreeLemmas
 pub mod SoonLemmas
 pub mod StartLemmas
+pub mod RefreshedLemmas
+pub mod PromptLemmas
+pub mod StepLemmas
+pub mod AsideLemmas
+pub mod AllowanceLemmas
+pub mod CountLemmas
+pub mod PendingLemmas
+pub mod InTimeLemmas
+pub mod AdmissionLemmas
+pub mod TurnLemmas
+pub mod MovesLemmas
+pub mod OnWayLemmas

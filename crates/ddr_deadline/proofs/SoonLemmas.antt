@@ -15,9 +15,11 @@ use Rattle.ddr_trace.specs.Commands.{is_activate, is_column, is_read, is_refresh
 use Rattle.ddr_trace.specs.Legality.{IsLegal}
 use Rattle.ddr_trace.specs.Rules.{Spacing, is_in, latency, rank_switch, spacing_of, speaks_of}
 use Rattle.ddr_legality.proofs.RankLemmas.{rank_within}
+use Rattle.ddr_address_map.specs.declared.place.Place.{Place}
 use Rattle.ddr_address_map.specs.declared.request.Kind.{Kind}
 use Rattle.ddr_address_map.specs.declared.request.Kind.TheVariants.{Read, Write}
 use Rattle.ddr_address_map.specs.Requests.{Completion}
+use Rattle.ddr_arbiter.specs.Commands.{column_at}
 use Rattle.ddr_channel.specs.Cycle.{service_time}
 use Rattle.ddr_channel.specs.Refresh.{recovery_time}
 use Rattle.ddr_channel.specs.Sound.{IsTraced}
@@ -26,9 +28,13 @@ use Rattle.ddr_deadline.specs.Behind.{auto_behind, auto_from, behind, four_from,
 use Rattle.ddr_deadline.specs.Wait.{room_from}
 use Rattle.ddr_deadline.proofs.BehindLemmas.{behind_most}
 
--- every command stands before a cycle
-abbrev pub AllBefore : ℕ → List Entry → Type 0
-AllBefore now history = (i : ℕ) (e : Entry) → slice_get history i ≡ Some e → e.cycle < now
+-- every command that passes stands before a cycle
+abbrev pub AreBefore : (Command → Bool) → ℕ → List Entry → Type 0
+AreBefore test now history = (i : ℕ) (e : Entry) → slice_get history i ≡ Some e → test e.command ≡ true → e.cycle < now
+
+-- an ACT of the command's rank
+abbrev pub is_rank_act : Command → Command → Bool
+is_rank_act command a = is_activate a && is_same_rank a command
 
 soon : (test : Command → Bool) (distance : Command → ℕ) (history : List Entry) (k : ℕ) → 1 ≤ k →
     ((i : ℕ) (a : Entry) → slice_get history i ≡ Some a → test a.command ≡ true → a.cycle + distance a.command + 1 ≤ k) → behind test distance history + 1 ≤ k
@@ -37,21 +43,23 @@ soon test distance history (suc k) some each =
     let most = behind_most test distance history k (λ i a is passes. let it = each i a is passes in omega arith) in
     omega arith
 
-pub spaced_soon : (s : Spacing) (command : Command) (history : List Entry) (now : ℕ) → AllBefore now history → 1 ≤ s.at_least → spaced_from s command history + 1 ≤ now + s.at_least
+pub spaced_soon : (s : Spacing) (command : Command) (history : List Entry) (now : ℕ) → AreBefore (λ a. speaks_of s a command) now history → 1 ≤ s.at_least → spaced_from s command history + 1 ≤ now + s.at_least
 spaced_soon s command history now before some =
-    soon (λ a. speaks_of s a command) (λ _. s.at_least) history (now + s.at_least) (omega (arith, some)) (λ i a is passes. let it = before i a is in omega arith)
+    soon (λ a. speaks_of s a command) (λ _. s.at_least) history (now + s.at_least) (omega (arith, some)) (λ i a is passes. let it = before i a is passes in omega arith)
 
-pub four_soon : (t : Timing) (command : Command) (history : List Entry) (now : ℕ) → AllBefore now history → 1 ≤ t.faw → four_from t command history + 1 ≤ now + t.faw
+pub four_soon : (t : Timing) (command : Command) (history : List Entry) (now : ℕ) → AreBefore (is_rank_act command) now history → 1 ≤ t.faw → four_from t command history + 1 ≤ now + t.faw
 four_soon t command [] now before some = omega (arith, some)
 four_soon t command (a ∷ between) now before some =
     let rest = four_soon t command between now (λ i e is. before (suc i) e is) some in
-    let here = before 0 a refl in
-    let one = by_test (is_activate a.command && is_activate command && is_same_rank a.command command && eqb (count_by (λ m. is_activate m.command && is_same_rank m.command command) between) 3) here in
+    let one = by_test (is_activate a.command) (is_activate command) (is_same_rank a.command command) (eqb (count_by (λ m. is_activate m.command && is_same_rank m.command command) between) 3) (before 0 a refl) in
     omega (arith, rest, one)
   where
-    by_test : (w : Bool) → a.cycle < now → cond w (a.cycle + t.faw) 0 + 1 ≤ now + t.faw
-    by_test true here = omega arith
-    by_test false here = omega (arith, some)
+    by_test : (act later same third : Bool) → ((act && same) ≡ true → a.cycle < now) → cond (act && later && same && third) (a.cycle + t.faw) 0 + 1 ≤ now + t.faw
+    by_test true true true true here = let it = here refl in omega arith
+    by_test true true true false here = omega (arith, some)
+    by_test true true false third here = omega (arith, some)
+    by_test true false same third here = omega (arith, some)
+    by_test false later same third here = omega (arith, some)
 
 -- an auto-precharge
 
@@ -111,19 +119,19 @@ far_most x y m n below = omega (arith, below)
 not_two : (n : ℕ) → n ≤ 2 → eqb n 2 ≡ false → n < 2
 not_two n most other = grind (arith, nat_tests)
 
-pub switched_soon : (c : Config) (command : Command) (history : List Entry) (now : ℕ) → AllBefore now history → ((i : ℕ) (e : Entry) → slice_get history i ≡ Some e → rank_of e.command < c.geometry.ranks) → rank_of command < c.geometry.ranks →
+pub switched_soon : (c : Config) (command : Command) (history : List Entry) (now : ℕ) → AreBefore is_column now history → ((i : ℕ) (e : Entry) → slice_get history i ≡ Some e → rank_of e.command < c.geometry.ranks) → rank_of command < c.geometry.ranks →
     switched_from c.timing command history + 1 ≤ now + (max c.timing.cl c.timing.cwl + 4 + switch_of c)
 switched_soon c command history now before inside here =
-    soon (λ a. is_column a && is_column command && not (is_same_rank a command)) (λ a. rank_switch t a command) history (now + (max t.cl t.cwl + 4 + switch_of c)) (omega arith) (λ i a is passes. each i a is (and_parts (is_column a.command && is_column command) (not (is_same_rank a.command command)) passes).1)
+    soon (λ a. is_column a && is_column command && not (is_same_rank a command)) (λ a. rank_switch t a command) history (now + (max t.cl t.cwl + 4 + switch_of c)) (omega arith) (λ i a is passes. let both = and_parts (is_column a.command && is_column command) (not (is_same_rank a.command command)) passes in each i a is (and_parts (is_column a.command) (is_column command) both.0).0 both.1)
   where
     t : Timing
     t = c.timing
 
-    each : (i : ℕ) (a : Entry) → slice_get history i ≡ Some a → not (is_same_rank a.command command) ≡ true → a.cycle + rank_switch t a.command command + 1 ≤ now + (max t.cl t.cwl + 4 + switch_of c)
-    each i a is other = elim (cases_Bool (eqb c.geometry.ranks 2)) [
+    each : (i : ℕ) (a : Entry) → slice_get history i ≡ Some a → is_column a.command ≡ true → not (is_same_rank a.command command) ≡ true → a.cycle + rank_switch t a.command command + 1 ≤ now + (max t.cl t.cwl + 4 + switch_of c)
+    each i a is moves other = elim (cases_Bool (eqb c.geometry.ranks 2)) [
       | inl two ↦
           let most = latency_most t a.command in
-          let early = before i a is in
+          let early = before i a is moves in
           let switch : switch_of c ≡ t.rtrs = rw two refl in
           let far : rank_switch t a.command command ≤ max t.cl t.cwl + 4 + t.rtrs = far_most (latency t a.command) (latency t command) (max t.cl t.cwl) t.rtrs most in
           omega (arith, early, switch, far)
@@ -141,12 +149,18 @@ service_most : (c : Config) (kind : Kind) → service_time c kind ≤ max c.timi
 service_most c Read = omega arith
 service_most c Write = omega arith
 
-pub room_soon : (c : Config) (trace : List Entry) (now : ℕ) (flight : List Completion) → AllBefore now trace → AllByRecursion (IsTraced c trace) flight → room_from flight + 1 ≤ now + (max c.timing.cl c.timing.cwl + 4 + 1)
+column_moves : (auto : Bool) (kind : Kind) (p : Place) → is_column (column_at auto kind p) ≡ true
+column_moves false Read p = refl
+column_moves false Write p = refl
+column_moves true Read p = refl
+column_moves true Write p = refl
+
+pub room_soon : (c : Config) (trace : List Entry) (now : ℕ) (flight : List Completion) → AreBefore is_column now trace → AllByRecursion (IsTraced c trace) flight → room_from flight + 1 ≤ now + (max c.timing.cl c.timing.cwl + 4 + 1)
 room_soon c trace now [] before traced = omega arith
 room_soon c trace now (d ∷ ds) before traced =
     let rest = room_soon c trace now ds before traced.1 in
     let it = traced.0 in
-    let early : d.issued < now = before it.at _ it.there in
+    let early : d.issued < now = before it.at _ it.there (column_moves it.auto d.echo.kind it.place) in
     let due = it.due in
     let most = service_most c d.echo.kind in
     omega (arith, rest, early, due, most)

@@ -1,5 +1,5 @@
 -- How soon a request comes that is served alone from now on.
-use Rattle.std.proofs.Common.{◌≡◌, ℕ, ◌+◌, ◌<◌, ◌≤◌, Bool, true, false, ◌&&◌, cond, max, eqb, List, Option, Some, None, refl, sym, ap, subst, ◌∙◌, arith}
+use Rattle.std.proofs.Common.{◌≡◌, ℕ, ◌+◌, ◌<◌, ◌≤◌, Bool, true, false, ◌&&◌, ◌||◌, cond, max, eqb, List, Option, Some, None, refl, sym, ap, subst, ◌∙◌, arith}
 use Rattle.std.specs.List.{slice_get}
 use Rattle.std.proofs.lemmas.Bool.{and_parts, ltb-true}
 use Rattle.ddr_timing.specs.declared.config.Config.{Config}
@@ -10,8 +10,8 @@ use Rattle.ddr_trace.specs.declared.command.Entry.{Entry}
 use Rattle.ddr_trace.specs.declared.rule.Rule.{Rule}
 use Rattle.ddr_trace.specs.declared.rule.Rule.TheVariants as rule
 use Rattle.ddr_trace.specs.Banks.{bank_behind}
-use Rattle.ddr_trace.specs.Commands.{is_refresh, rank_of}
-use Rattle.ddr_trace.specs.Rules.{is_bank_in, spacing_of}
+use Rattle.ddr_trace.specs.Commands.{is_activate, is_column, is_read, is_refresh, is_same_rank, is_write, rank_of}
+use Rattle.ddr_trace.specs.Rules.{is_bank_in, spacing_of, speaks_of}
 use Rattle.ddr_latency.specs.Latency as clocks
 use Rattle.ddr_address_map.specs.declared.place.Place.{Place}
 use Rattle.ddr_address_map.specs.declared.request.Kind.{Kind}
@@ -34,7 +34,7 @@ use Rattle.ddr_deadline.specs.Wait.{Earliest, by_bank, comes_by, earliest, room_
 use Rattle.ddr_deadline.proofs.BehindLemmas.{behind_most}
 use Rattle.ddr_deadline.proofs.FreeLemmas.{AreFree, active_of, free_run}
 use Rattle.ddr_deadline.proofs.LegalLemmas.{inside}
-use Rattle.ddr_deadline.proofs.SoonLemmas.{AllBefore, auto_soon, four_soon, ranks_inside, refreshed_same, room_soon, spaced_soon, switch_of, switched_soon}
+use Rattle.ddr_deadline.proofs.SoonLemmas.{AreBefore, auto_soon, four_soon, is_rank_act, ranks_inside, refreshed_same, room_soon, spaced_soon, switch_of, switched_soon}
 
 -- by numbers alone
 
@@ -49,18 +49,18 @@ seven_below a b c d e f g k one two three four five six seven = four_below (max 
 
 -- what the distances of a configuration ask
 
-record Asks (c : Config) (row column : ℕ) : Type 0 where
-  closed : recovery_time c.timing + c.timing.rp ≤ row
-  again : c.timing.rc ≤ row
-  in_group : c.timing.rrd_l ≤ row
-  four : c.timing.faw ≤ row
-  kind : c.timing.ccd_l ≤ column
-  turn : c.timing.rtw ≤ column
-  read : c.timing.cwl + 4 + c.timing.wtr_s ≤ column
-  read_in_group : c.timing.cwl + 4 + c.timing.wtr_l ≤ column
-  burst : max c.timing.cl c.timing.cwl + 4 + switch_of c ≤ column
+pub record Asks (c : Config) (row column : ℕ) : Type 0 where
+  pub closed : recovery_time c.timing + c.timing.rp ≤ row
+  pub again : c.timing.rc ≤ row
+  pub in_group : c.timing.rrd_l ≤ row
+  pub four : c.timing.faw ≤ row
+  pub kind : c.timing.ccd_l ≤ column
+  pub turn : c.timing.rtw ≤ column
+  pub read : c.timing.cwl + 4 + c.timing.wtr_s ≤ column
+  pub read_in_group : c.timing.cwl + 4 + c.timing.wtr_l ≤ column
+  pub burst : max c.timing.cl c.timing.cwl + 4 + switch_of c ≤ column
 
-asks : (c : Config) → Asks c (clocks.row (clocks.clocks_of c)) (clocks.column (clocks.clocks_of c))
+pub asks : (c : Config) → Asks c (clocks.row (clocks.clocks_of c)) (clocks.column (clocks.clocks_of c))
 asks c = record {
   closed = omega arith;
   again = omega arith;
@@ -95,21 +95,36 @@ record Knows (s : State) (r : Request) : Type 0 where
   free : AreFree (bus_of s)
   served : IsServed s.config r.place
 
-before_now : (s : State) → IsSound s → AllBefore s.now s.trace
+before_now : (s : State) → IsSound s → (i : ℕ) (e : Entry) → slice_get s.trace i ≡ Some e → e.cycle < s.now
 before_now s sound = all_before s.config s.start s.now s.trace sound.legal
 
 held_before : (s : State) (p : Place) → IsSound s → IsBefore s.now (bank_behind (precharge_at p) s.trace)
 held_before s p sound = bank_before p.rank p.group p.bank s.now s.trace (λ i e is of. before_now s sound i e is)
 
-activate_soon : (s : State) (r : Request) (row column : ℕ) → Asks s.config row column → Knows s r → activate_from s.config.timing r.place s.trace + 1 ≤ max (s.now + row) (refreshed_from s.config.timing r.place.rank s.trace + 1)
-activate_soon s r row column a k = seven_below (by rule.Rc) (by rule.Rp) (by rule.RrdL) (by rule.RrdS) (by rule.Rfc) (four_from t (activate_at p) s.trace) (auto_from t (bank_behind (precharge_at p) s.trace)) most
-    (let it = soon rule.Rc t.rc_range.0 in let ask = a.again in omega arith)
-    (let it = soon rule.Rp t.rp_range.0 in let ask = a.closed in omega arith)
-    (let it = soon rule.RrdL t.rrd_l_range.0 in let ask = a.in_group in omega arith)
-    (let it = soon rule.RrdS t.rrd_s_range.0 in let ask = a.in_group in let slower = t.same_group_activates_slower in omega arith)
+-- the earlier command of a rule on an ACT and the ACT behind it is an ACT of its rank
+
+of_rank : (act same rest : Bool) → (act && true && (same && rest)) ≡ true → (act && same) ≡ true
+of_rank true true rest is = refl
+of_rank true false rest is = is
+of_rank false same rest is = is
+
+of_group : (act same group rest : Bool) → (act && true && (same && group && rest)) ≡ true → (act && same) ≡ true
+of_group true true group rest is = refl
+of_group true false group rest is = is
+of_group false same group rest is = is
+
+-- an ACT, where those of its rank stand before one cycle, and its bank's precharges are over by another
+pub activate_by : (s : State) (r : Request) (row column before over : ℕ) → Asks s.config row column → AreBefore (is_rank_act (activate_at r.place)) before s.trace →
+    spaced_from (spacing_of s.config.timing rule.Rp) (activate_at r.place) s.trace + 1 ≤ over → auto_from s.config.timing (bank_behind (precharge_at r.place) s.trace) + 1 ≤ over →
+    activate_from s.config.timing r.place s.trace + 1 ≤ max (max (before + row) over) (refreshed_from s.config.timing r.place.rank s.trace + 1)
+activate_by s r row column before over a acts closed auto = seven_below (by rule.Rc) (by rule.Rp) (by rule.RrdL) (by rule.RrdS) (by rule.Rfc) (four_from t (activate_at p) s.trace) (auto_from t (bank_behind (precharge_at p) s.trace)) most
+    (let it = soon rule.Rc t.rc_range.0 (λ x speaks. of_rank (is_activate x) (is_same_rank x (activate_at p)) _ speaks) in let ask = a.again in omega arith)
+    (omega (arith, closed))
+    (let it = soon rule.RrdL t.rrd_l_range.0 (λ x speaks. of_group (is_activate x) (is_same_rank x (activate_at p)) _ _ speaks) in let ask = a.in_group in omega arith)
+    (let it = soon rule.RrdS t.rrd_s_range.0 (λ x speaks. of_rank (is_activate x) (is_same_rank x (activate_at p)) _ speaks) in let ask = a.in_group in let slower = t.same_group_activates_slower in omega arith)
     (let it = refreshed_same t (activate_at p) s.trace in omega arith)
-    (let it = four_soon t (activate_at p) s.trace s.now (before_now s k.sound) t.faw_range.0 in let ask = a.four in omega arith)
-    (let it = auto_soon t (bank_behind (precharge_at p) s.trace) s.now (held_before s p k.sound) t.rp_range.0 in let ask = a.closed in omega arith)
+    (let it = four_soon t (activate_at p) s.trace before acts t.faw_range.0 in let ask = a.four in omega arith)
+    (omega (arith, auto))
   where
     t : Timing
     t = s.config.timing
@@ -118,23 +133,42 @@ activate_soon s r row column a k = seven_below (by rule.Rc) (by rule.Rp) (by rul
     p = r.place
 
     most : ℕ
-    most = max (s.now + row) (refreshed_from t p.rank s.trace + 1)
+    most = max (max (before + row) over) (refreshed_from t p.rank s.trace + 1)
 
     by : Rule → ℕ
     by u = spaced_from (spacing_of t u) (activate_at p) s.trace
 
-    soon : (u : Rule) → 1 ≤ (spacing_of t u).at_least → by u + 1 ≤ s.now + (spacing_of t u).at_least
-    soon u some = spaced_soon (spacing_of t u) (activate_at p) s.trace s.now (before_now s k.sound) some
+    soon : (u : Rule) → 1 ≤ (spacing_of t u).at_least → ((x : Command) → speaks_of (spacing_of t u) x (activate_at p) ≡ true → is_rank_act (activate_at p) x ≡ true) → by u + 1 ≤ before + (spacing_of t u).at_least
+    soon u some narrow = spaced_soon (spacing_of t u) (activate_at p) s.trace before (λ i x is speaks. acts i x is (narrow x.command speaks)) some
 
-column_soon : (s : State) (r : Request) (row column : ℕ) → Asks s.config row column → Knows s r → column_from s.config.timing (column_of false r) s.trace + 1 ≤ max (s.now + column) (refreshed_from s.config.timing r.place.rank s.trace + 1)
-column_soon s r row column a k = seven_below (by rule.CcdL) (by rule.CcdS) (by rule.WtrL) (by rule.WtrS) (by rule.Rtw) (by rule.Rfc) (switched_from t c s.trace) most
-    (let it = soon rule.CcdL t.ccd_l_range.0 in let ask = a.kind in omega arith)
-    (let it = soon rule.CcdS t.ccd_s_range.0 in let ask = a.kind in let slower = t.same_group_slower in omega arith)
-    (let it = soon rule.WtrL (omega arith) in let ask = a.read_in_group in omega arith)
-    (let it = soon rule.WtrS (omega arith) in let ask = a.read in omega arith)
-    (let it = soon rule.Rtw t.rtw_range.0 in let ask = a.turn in omega arith)
+activate_soon : (s : State) (r : Request) (row column : ℕ) → Asks s.config row column → Knows s r → activate_from s.config.timing r.place s.trace + 1 ≤ max (s.now + row) (refreshed_from s.config.timing r.place.rank s.trace + 1)
+activate_soon s r row column a k =
+    let t = s.config.timing in
+    let closed = spaced_soon (spacing_of t rule.Rp) (activate_at r.place) s.trace s.now (λ i e is _. before_now s k.sound i e is) t.rp_range.0 in
+    let auto = auto_soon t (bank_behind (precharge_at r.place) s.trace) s.now (held_before s r.place k.sound) t.rp_range.0 in
+    let ask = a.closed in
+    let it = activate_by s r row column s.now (s.now + row) a (λ i e is _. before_now s k.sound i e is) (omega (arith, closed, ask)) (omega (arith, auto, ask)) in
+    omega (arith, it)
+
+-- a read or a write, and room for its completion, where all reads and writes stand before a cycle
+
+wrote : (read written : Bool) → written ≡ true → (read || written) ≡ true
+wrote true written is = refl
+wrote false written is = is
+
+was_read : (read written : Bool) → read ≡ true → (read || written) ≡ true
+was_read read written is = rw is refl
+
+column_by : (s : State) (r : Request) (row column before : ℕ) → Asks s.config row column → IsSound s → IsServed s.config r.place → AreBefore is_column before s.trace →
+    column_from s.config.timing (column_of false r) s.trace + 1 ≤ max (before + column) (refreshed_from s.config.timing r.place.rank s.trace + 1)
+column_by s r row column before a sound served columns = seven_below (by rule.CcdL) (by rule.CcdS) (by rule.WtrL) (by rule.WtrS) (by rule.Rtw) (by rule.Rfc) (switched_from t c s.trace) most
+    (let it = soon rule.CcdL t.ccd_l_range.0 (λ x speaks. first x _ _ speaks) in let ask = a.kind in omega arith)
+    (let it = soon rule.CcdS t.ccd_s_range.0 (λ x speaks. first x _ _ speaks) in let ask = a.kind in let slower = t.same_group_slower in omega arith)
+    (let it = soon rule.WtrL (omega arith) (λ x speaks. wrote (is_read x) (is_write x) (earlier (is_write x) _ _ speaks)) in let ask = a.read_in_group in omega arith)
+    (let it = soon rule.WtrS (omega arith) (λ x speaks. wrote (is_read x) (is_write x) (earlier (is_write x) _ _ speaks)) in let ask = a.read in omega arith)
+    (let it = soon rule.Rtw t.rtw_range.0 (λ x speaks. was_read (is_read x) (is_write x) (earlier (is_read x) _ _ speaks)) in let ask = a.turn in omega arith)
     (let it : by rule.Rfc ≡ refreshed_from t p.rank s.trace = refreshed_same t c s.trace ∙ ap (λ n. refreshed_from t n s.trace) (column_rank r.echo.kind p) in omega arith)
-    (let it = switched_soon s.config c s.trace s.now (before_now s k.sound) (ranks_inside s.config s.start s.now s.trace k.sound.legal) rank_there in let ask = a.burst in omega arith)
+    (let it = switched_soon s.config c s.trace before columns (ranks_inside s.config s.start s.now s.trace sound.legal) rank_there in let ask = a.burst in omega arith)
   where
     t : Timing
     t = s.config.timing
@@ -146,19 +180,37 @@ column_soon s r row column a k = seven_below (by rule.CcdL) (by rule.CcdS) (by r
     c = column_of false r
 
     most : ℕ
-    most = max (s.now + column) (refreshed_from t p.rank s.trace + 1)
+    most = max (before + column) (refreshed_from t p.rank s.trace + 1)
 
     by : Rule → ℕ
     by u = spaced_from (spacing_of t u) c s.trace
 
-    soon : (u : Rule) → 1 ≤ (spacing_of t u).at_least → by u + 1 ≤ s.now + (spacing_of t u).at_least
-    soon u some = spaced_soon (spacing_of t u) c s.trace s.now (before_now s k.sound) some
+    earlier : (x y z : Bool) → (x && y && z) ≡ true → x ≡ true
+    earlier x y z is = (and_parts x y (and_parts (x && y) z is).0).0
+
+    first : (x : Command) (y z : Bool) → (is_column x && y && z) ≡ true → is_column x ≡ true
+    first x y z is = earlier (is_column x) y z is
+
+    soon : (u : Rule) → 1 ≤ (spacing_of t u).at_least → ((x : Command) → speaks_of (spacing_of t u) x c ≡ true → is_column x ≡ true) → by u + 1 ≤ before + (spacing_of t u).at_least
+    soon u some narrow = spaced_soon (spacing_of t u) c s.trace before (λ i x is speaks. columns i x is (narrow x.command speaks)) some
 
     rank_of_place : is_bank_in s.config.geometry p.rank p.group p.bank ≡ true → p.rank < s.config.geometry.ranks
     rank_of_place is = ltb-true p.rank s.config.geometry.ranks (and_parts _ _ (and_parts _ _ is).0).0
 
     rank_there : rank_of c < s.config.geometry.ranks
-    rank_there = subst (λ n. n < s.config.geometry.ranks) (sym (column_rank r.echo.kind p)) (rank_of_place (inside (bus_of s) p k.served).bank)
+    rank_there = subst (λ n. n < s.config.geometry.ranks) (sym (column_rank r.echo.kind p)) (rank_of_place (inside (bus_of s) p served).bank)
+
+pub column_close : (s : State) (r : Request) (row column before : ℕ) → Asks s.config row column → IsSound s → IsServed s.config r.place → AreBefore is_column before s.trace →
+    (earliest s r).column + 1 ≤ max (before + column) (refreshed_from s.config.timing r.place.rank s.trace + 1)
+column_close s r row column before a sound served columns =
+    let first = column_by s r row column before a sound served columns in
+    let second = room_soon s.config s.trace before s.flight columns sound.traced in
+    let switch = some_switch s.config in
+    let ask = a.burst in
+    joined (column_from s.config.timing (column_of false r) s.trace) (room_from s.flight) (before + column) (refreshed_from s.config.timing r.place.rank s.trace) first (omega (arith, second, switch, ask))
+  where
+    joined : (x y m n : ℕ) → x + 1 ≤ max m (n + 1) → y + 1 ≤ m → max x y + 1 ≤ max m (n + 1)
+    joined x y m n first second = omega (arith, first, second)
 
 -- a PRE for a bank that is open: the REFs are over
 precharge_soon : (s : State) (r : Request) (bank : OpenBank) → Knows s r → bank_behind (precharge_at r.place) s.trace ≡ Some bank → bank.auto ≡ None → precharge_from s.config.timing r.place s.trace + 1 ≤ s.now + recovery_time s.config.timing
@@ -178,7 +230,7 @@ precharge_soon s r bank k held stays = four_below (by rule.Ras) (by rule.Wr) (by
     by u = spaced_from (spacing_of t u) (precharge_at p) s.trace
 
     soon : (u : Rule) → 1 ≤ (spacing_of t u).at_least → by u + 1 ≤ s.now + (spacing_of t u).at_least
-    soon u some = spaced_soon (spacing_of t u) (precharge_at p) s.trace s.now (before_now s k.sound) some
+    soon u some = spaced_soon (spacing_of t u) (precharge_at p) s.trace s.now (λ i e is _. before_now s k.sound i e is) some
 
     over : refreshed_from t p.rank s.trace ≤ s.now
     over = behind_most (λ a. is_refresh a && eqb (rank_of a) p.rank) (λ _. t.rfc) s.trace s.now (k.free p.rank (active_of (bus_of s) p bank (inside (bus_of s) p k.served).bank held stays))
@@ -220,15 +272,7 @@ start_close s r row column a k = by_held (bank_behind (precharge_at p) s.trace) 
     act = activate_soon s r row column a k
 
     col : e.column + 1 ≤ max (s.now + column) (f + 1)
-    col =
-        let first = column_soon s r row column a k in
-        let second = room_soon s.config s.trace s.now s.flight (before_now s k.sound) k.sound.traced in
-        let switch = some_switch s.config in
-        let ask = a.burst in
-        joined (column_from t (column_of false r) s.trace) (room_from s.flight) (s.now + column) f first (omega (arith, second, switch, ask))
-      where
-        joined : (x y m n : ℕ) → x + 1 ≤ max m (n + 1) → y + 1 ≤ m → max x y + 1 ≤ max m (n + 1)
-        joined x y m n first second = omega (arith, first, second)
+    col = column_close s r row column s.now a k.sound k.served (λ i e is _. before_now s k.sound i e is)
 
     by_row : (bank : OpenBank) → bank_behind (precharge_at p) s.trace ≡ Some bank → bank.auto ≡ None → bank.since < s.now → (w : Bool) →
         cond w (max e.now (max (bank.since + t.rcd) e.column)) (max (max (max e.now e.precharge + t.rp) e.activate + t.rcd) e.column) + 1 ≤ max (s.now + max (row + t.rcd) column) (f + t.rcd + 1)

@@ -52,7 +52,7 @@ served_ahead s w = ahead_of s.config.timing (earliest s w.request) w.request.pla
 
 -- what is in flight
 
-room_less : (now : ℕ) (ds : List Completion) → room_from (filter (λ d. not (eqb d.due now)) ds) ≤ room_from ds
+pub room_less : (now : ℕ) (ds : List Completion) → room_from (filter (λ d. not (eqb d.due now)) ds) ≤ room_from ds
 room_less now [] = omega arith
 room_less now (d ∷ ds) = by_test (eqb d.due now) (room_less now ds)
   where

@@ -1,4 +1,6 @@
 pub mod Behind
+pub mod InTime
 pub mod Legal
 pub mod Oldest
+pub mod Step
 pub mod Wait

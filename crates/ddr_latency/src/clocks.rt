@@ -68,7 +68,8 @@ impl Clocks {
 
     /// Behind which a rank that has to be refreshed has its REF, its PREA included.
     fn refresh(&self) -> u32
-        ensures { result ≡ refresh self.now }
+        ensures exact { result ≡ refresh self.now }
+        ensures bound { result ≤ 196610 }
     {
         let closed = self.recovery() + u32::from(self.rp);
         closed.max(u32::from(self.rfc)) + 1
@@ -109,7 +110,8 @@ impl Clocks {
     /// The clocks from the cycle in which a refresh makes its rank overdue to the column command of a request that meets it, where
     /// no older request is pending.
     pub fn alone(&self) -> u32
-        ensures { result ≡ alone self.now }
+        ensures exact { result ≡ alone self.now }
+        ensures bound { result ≤ 327680 }
     {
         let refreshed = self.refresh() + u32::from(self.rfc);
         let opened = refreshed.max(self.row()) + u32::from(self.rcd);
@@ -117,9 +119,10 @@ impl Clocks {
     }
 }
 
-/// Whether each refresh interval leaves time to serve a request. Where it does, each request is served; where it doesn't, one may
-/// wait for ever, since each refresh may close its row before it is read. (As a threshold on REFI it is exact: of the
-/// configurations one clock below it, some starve a request. That is argued for and tried, and not proved.)
+/// Whether each refresh interval leaves time to serve a request. Where it does, with one rank each request is served (a law of
+/// `ddr_deadline`; with two its premise is `leaves_room` of `bound`, a few clocks more); where it doesn't, one may wait for ever, since each
+/// refresh may close its row before it is read. (As a threshold on REFI it is exact: of the configurations one clock below it, some starve
+/// a request. That is tried, and not proved.)
 pub fn leaves_time(config: &Config) -> bool
     ensures { result ≡ leaves_time config.now }
 {
