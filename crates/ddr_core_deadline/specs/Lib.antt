@@ -1,0 +1,2 @@
+pub mod InCore
+pub mod InRounds
