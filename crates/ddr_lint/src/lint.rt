@@ -1,6 +1,6 @@
 //! A configuration's faults, all of them, and its oddities: a configuration in, a line for each finding out.
 //!
-//! `ddr_findings` and the inputs, outputs and faults of `ddr_text` stand below, and the program above.
+//! `verdict`, `ddr_findings` and the inputs, outputs and faults of `ddr_text` stand below, and `bound` and the program above.
 ghost use Rattle.std.specs.Prelude.{◌≡◌, ◌⊎◌, IfErr, IfOk, IfSome, IsErrOf, IsTrue};
 ghost use Rattle.std.specs.Io.KnownBytes.{Appends};
 ghost use Rattle.toml.specs.Parse.{parse_document};
@@ -53,7 +53,7 @@ pub fn lint<R: Source, W: Sink>(
 }
 
 /// The configuration of an input: what stands before the first line `---`, or all of it where no line is that.
-fn configuration(text: &str) -> &str
+pub(crate) fn configuration(text: &str) -> &str
     ensures { result.now ≡ configuration_of text.now }
 {
     match split(text) {
@@ -63,7 +63,7 @@ fn configuration(text: &str) -> &str
 }
 
 /// Writes the findings of a configuration's text.
-fn report<W: Sink>(alloc: Global, text: &str, writer: &mut W) -> Result<Verdict, Fault>
+pub(crate) fn report<W: Sink>(alloc: Global, text: &str, writer: &mut W) -> Result<Verdict, Fault>
     ensures written { IfOk result (λ _. Appends (W.contents writer.old) (W.contents writer.new) (report_of (parse_document text.now))) }
     ensures answered { IfOk result (λ verdict. verdict ≡ verdict_on (parse_document text.now)) }
     ensures refused { IfErr result (λ fault. (fault ≡ Fault.OutOfMemory) ⊎ (fault ≡ Fault.Write)) }

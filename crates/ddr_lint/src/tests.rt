@@ -1,5 +1,6 @@
-//! What `lint` writes of worked configurations: profile S, or S2, with other lines in the place of some. The numbers are
-//! worked out by hand.
+//! What `lint` writes of worked configurations, without and with `--bound`: profile S, or S2, with other lines in the place of some. The
+//! numbers are worked out by hand.
+use crate::bound::bound;
 use crate::lint::lint;
 use crate::verdict::Verdict;
 use ddr_text::fault::Fault;
@@ -413,4 +414,217 @@ range: ranks = 3 is no integer from 1 to 2
 fn the_second_version_is_looked_through_by_its_keys(rt: HostRuntime) -> Result<(), Fail> {
     all_found(&rt, rt.alloc(), PROFILE_S2, SECOND)?;
     Ok(())
+}
+
+/// That of a configuration with other lines this is written where its bound is asked for.
+fn all_bounded(
+    rt: &impl Abort,
+    alloc: Global,
+    config: &str,
+    cases: &[Case],
+) -> Result<(), AllocError> {
+    for (lines, verdict, text) in cases {
+        let input = with_lines(alloc, config, lines)?;
+        let mut reader = input.as_bytes();
+        let mut bytes = Vec::new(alloc);
+        let end = bound(alloc, false, &mut reader, &mut bytes);
+        assert_eq!(rt; str::from_utf8(bytes.as_slice()).ok(), Some(*text));
+        assert_eq!(rt; end, Ok(*verdict), "{text:?}");
+    }
+    Ok(())
+}
+
+/// The bound of profile S: of sixteen requests each takes 20 clocks, and 45 where it meets a refresh, so an interval has 155 clocks left.
+/// The 16 * 20 + 45 = 365 clocks are those of three intervals, and 1000 + 320 + 4 * 45 + 8 = 1508.
+const SAMPLE_BOUND: &str = "[bound]
+proved = true
+leaves_time = true
+clocks = 1508
+cap = 1000
+pending = 16
+service = 20
+refreshes = 3
+refreshed = 45
+burst = 8
+";
+
+/// 365 clocks are five times 118 - 45 = 73, and 1000 + 320 + 6 * 45 + 8 = 1598. Where nothing is left over, each request meets a refresh:
+/// 1000 + 320 + 17 * 45 + 8 = 2093. Nine requests have 9 * 20 + 45 = 225 clocks, more than 155, and 1000 + 180 + 3 * 45 + 8 = 1323. With CWL 5
+/// a bank is closed 5 + 4 + 5 + 4 = 18 clocks behind a write, a request takes 22, and sixteen of them 352 + 45 = 397 clocks: three intervals,
+/// and 1 + 352 + 4 * 45 + 9 = 542.
+const BOUNDS: &[Case] = &[
+    (&[], Verdict::Clean, SAMPLE_BOUND),
+    (&[("faw = 12", "faw = 7")], Verdict::Clean, SAMPLE_BOUND),
+    (
+        &[("refi = 200", "refi = 118")],
+        Verdict::Clean,
+        "[bound]
+proved = true
+leaves_time = true
+clocks = 1598
+cap = 1000
+pending = 16
+service = 20
+refreshes = 5
+refreshed = 45
+burst = 8
+",
+    ),
+    (
+        &[("refi = 200", "refi = 45")],
+        Verdict::Clean,
+        "[bound]
+proved = true
+leaves_time = true
+clocks = 2093
+cap = 1000
+pending = 16
+service = 20
+refreshes = 16
+refreshed = 45
+burst = 8
+",
+    ),
+    (
+        &[("refi = 200", "refi = 44")],
+        Verdict::Strange,
+        "[bound]
+proved = false
+leaves_time = false
+cap = 1000
+pending = 16
+service = 20
+refreshes = 16
+refreshed = 45
+burst = 8
+",
+    ),
+    (
+        &[("reads = 8", "reads = 1")],
+        Verdict::Clean,
+        "[bound]
+proved = true
+leaves_time = true
+clocks = 1323
+cap = 1000
+pending = 9
+service = 20
+refreshes = 2
+refreshed = 45
+burst = 8
+",
+    ),
+    (
+        &[("cwl = 3", "cwl = 5"), ("cap = 1000", "cap = 1")],
+        Verdict::Clean,
+        "[bound]
+proved = true
+leaves_time = true
+clocks = 542
+cap = 1
+pending = 16
+service = 22
+refreshes = 3
+refreshed = 45
+burst = 9
+",
+    ),
+    (
+        &[("rrd_l = 3", "rrd_l = 1")],
+        Verdict::AtFault,
+        "relation 3: rrd_l 1 is below rrd_s 2
+",
+    ),
+];
+
+/// With two ranks their refresh commands may take 2 * 2 + 5 = 9 clocks beside the 45: 146 are left of an interval, the 16 * 20 + 54 = 374
+/// clocks are those of three, and 1000 + 320 + 4 * 54 + 8 = 1544. With 54 clocks an interval nothing is left, and each request meets a
+/// refresh: 1000 + 320 + 17 * 54 + 8 = 2246. A read takes 4 + 4 + 193 clocks where it waits for another rank's.
+const SECOND_BOUNDS: &[Case] = &[
+    (
+        &[],
+        Verdict::Clean,
+        "[bound]
+proved = true
+leaves_time = true
+clocks = 1544
+cap = 1000
+pending = 16
+service = 20
+refreshes = 3
+refreshed = 54
+burst = 8
+",
+    ),
+    (&[("ranks = 2", "ranks = 1")], Verdict::Clean, SAMPLE_BOUND),
+    (
+        &[("refi = 200", "refi = 54")],
+        Verdict::Clean,
+        "[bound]
+proved = true
+leaves_time = true
+clocks = 2246
+cap = 1000
+pending = 16
+service = 20
+refreshes = 16
+refreshed = 54
+burst = 8
+",
+    ),
+    (
+        &[("refi = 200", "refi = 53")],
+        Verdict::Strange,
+        "[bound]
+proved = false
+leaves_time = true
+cap = 1000
+pending = 16
+service = 20
+refreshes = 16
+refreshed = 54
+burst = 8
+",
+    ),
+    (
+        &[("rtrs = 2", "rtrs = 193")],
+        Verdict::Strange,
+        "[bound]
+proved = false
+leaves_time = false
+cap = 1000
+pending = 16
+service = 201
+refreshes = 16
+refreshed = 210
+burst = 8
+",
+    ),
+];
+
+#[test]
+fn bounds_are_told_with_their_parts(rt: HostRuntime) -> Result<(), Fail> {
+    all_bounded(&rt, rt.alloc(), PROFILE_S, BOUNDS)?;
+    all_bounded(&rt, rt.alloc(), PROFILE_S2, SECOND_BOUNDS)?;
+    Ok(())
+}
+
+#[test]
+fn the_bound_of_the_sample_is_told(rt: HostRuntime) {
+    let alloc = rt.alloc();
+    let mut reader: &[u8] = b"cl = 0";
+    let mut bytes = Vec::new(alloc);
+    let end = bound(alloc, true, &mut reader, &mut bytes);
+    assert_eq!(rt; end, Ok(Verdict::Clean));
+    assert_eq!(rt; str::from_utf8(bytes.as_slice()).ok(), Some(SAMPLE_BOUND));
+}
+
+#[test]
+fn no_bound_is_told_of_what_is_no_text(rt: HostRuntime) {
+    let alloc = rt.alloc();
+    let mut reader: &[u8] = &[0xff];
+    let mut bytes = Vec::new(alloc);
+    let end = bound(alloc, false, &mut reader, &mut bytes);
+    assert_eq!(rt; end, Err(Fault::InputNotUtf8));
+    assert!(rt; bytes.is_empty());
 }

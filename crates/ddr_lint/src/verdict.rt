@@ -1,16 +1,19 @@
-//! What a configuration's findings amount to.
+//! What a configuration's findings amount to, or its bound.
 ghost use Rattle.std.specs.Prelude.{◌≡◌, map};
 ghost use Rattle.ddr_findings.specs.Faults.{told};
+ghost use Rattle.ddr_lint.specs.Bound.{bound_verdict};
 ghost use Rattle.ddr_lint.specs.Lint.{status_of, verdict_of};
 
 use ddr_findings::lint::Findings;
+use ddr_latency::bound::leaves_room;
+use ddr_timing::config::Config;
 
 /// What a configuration's findings amount to.
 #[derive(Clone, Copy, Debug, PartialEq, Eq)]
 pub enum Verdict {
-    /// Nothing was found.
+    /// Nothing was found, or the bound that was asked for is proved.
     Clean,
-    /// The configuration is accepted, and something of it is strange.
+    /// The configuration is accepted, and something of it is strange, or no bound is proved where one was asked for.
     Strange,
     /// The configuration is refused.
     AtFault,
@@ -30,7 +33,18 @@ impl Verdict {
         }
     }
 
-    /// The status that the program ends with: 0, 1 where something is strange, 2 where something is at fault.
+    /// The verdict on a configuration whose bound was asked for.
+    pub fn on_bound(config: &Config) -> Verdict
+        ensures { result ≡ bound_verdict config.now }
+    {
+        if leaves_room(config) {
+            Verdict::Clean
+        } else {
+            Verdict::Strange
+        }
+    }
+
+    /// The status that the program ends with: 0, 1 where something is strange or no bound is proved, 2 where something is at fault.
     pub fn status(self) -> u8
         ensures { result ≡ status_of self }
     {

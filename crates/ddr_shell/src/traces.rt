@@ -9,6 +9,7 @@ use ddr_capture::form::Form;
 use ddr_draw::draw::{lanes, waves};
 use ddr_explain::all::check_all;
 use ddr_explain::explain::explain;
+use ddr_lint::bound::bound;
 use ddr_lint::lint::lint;
 use ddr_text::check::check;
 use ddr_text::fault::Fault;
@@ -55,6 +56,7 @@ pub fn perform_on_traces<R: Source, W: Sink>(
             Ok(Some(0))
         }
         Job::Lint { sample } => Ok(Some(lint(alloc, sample, reader, writer)?.status())),
+        Job::Bound { sample } => Ok(Some(bound(alloc, sample, reader, writer)?.status())),
         Job::Sim { .. } | Job::Run { .. } | Job::Replay { .. } | Job::Measure { .. } => Ok(None),
     }
 }

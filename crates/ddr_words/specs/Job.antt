@@ -17,7 +17,7 @@ use Rattle.ddr_words.specs.declared.job.JobError.TheVariants as errors
 use Rattle.ddr_words.specs.declared.misuse.Misuse.{Misuse}
 use Rattle.ddr_words.specs.declared.misuse.Misuse.TheVariants.{TwoForms, SpreadOfOwnForm, FirstOfNoCycles, RequestsBesideTrace, DrampowerBesideOthers, NumbersBesideOthers, PartOfNumbers, ClockOfNoTime, IntervalOfNoCycle, ClockOfIntervals, FaultsOfCapture, ChannelOfOwnForm, PartOfWaves}
 use Rattle.ddr_words.specs.declared.command.Job.{Job}
-use Rattle.ddr_words.specs.declared.command.Job.TheVariants.{Sim, Run, Replay, Measure, Check, Explain, All, Stream, Draw, Map, Lint}
+use Rattle.ddr_words.specs.declared.command.Job.TheVariants.{Sim, Run, Replay, Measure, Check, Explain, All, Stream, Draw, Map, Lint, Bound}
 use Rattle.ddr_text.specs.declared.command.Format.{Format}
 use Rattle.ddr_text.specs.declared.command.Format.TheVariants.{Own, Dramsim3, Ramulator2}
 use Rattle.ddr_words.specs.declared.command.Picture.{Picture}
@@ -138,6 +138,10 @@ from_rule = cycle_rule (codes "from")
 abbrev pub to_rule : Rule
 to_rule = cycle_rule (codes "to")
 
+-- the flag `--bound`
+abbrev pub bound_rule : Rule
+bound_rule = flag_rule (codes "bound")
+
 -- a subcommand with the flag
 abbrev pub with_sample : Text → App
 with_sample name = with_rule (new_app name) sample_rule
@@ -174,6 +178,10 @@ replay_app = with_numbers (with_telling (with_reading (with_sample (codes "repla
 abbrev pub draw_app : App
 draw_app = with_rule (with_rule (with_rule (with_sample (codes "draw")) svg_rule) from_rule) to_rule
 
+-- the subcommand `lint`, with its own flag behind
+abbrev pub lint_app : App
+lint_app = with_rule (with_sample (codes "lint")) bound_rule
+
 -- the program's name, which a subcommand has to follow
 abbrev pub name_alone : App
 name_alone = let app = new_app (codes "ddr") in
@@ -188,7 +196,7 @@ ddr_app =
     let check = with_subcommand replay check_app.top in
     let draw = with_subcommand check draw_app.top in
     let map = with_subcommand draw (with_sample (codes "map")).top in
-    with_subcommand map (with_sample (codes "lint")).top
+    with_subcommand map lint_app.top
 
 -- whether the flag was used
 abbrev pub is_used : Text → List Row → Bool
@@ -281,6 +289,7 @@ pub record AreTaken (options : List Row) : Type 0 where
   pub svg : IfSome (one_of (codes "svg") options) (IsTaken (filled svg_rule))
   pub from : IfSome (one_of (codes "from") options) (IsTaken (filled from_rule))
   pub to : IfSome (one_of (codes "to") options) (IsTaken (filled to_rule))
+  pub bound : IfSome (one_of (codes "bound") options) (IsTaken (filled bound_rule))
 
 abbrev pub is_subcommand : Text → Bool
 is_subcommand name = bytes_eq name (codes "sim") || bytes_eq name (codes "run") || bytes_eq name (codes "replay") || bytes_eq name (codes "check") || bytes_eq name (codes "draw") || bytes_eq name (codes "map") || bytes_eq name (codes "lint")
@@ -304,6 +313,10 @@ check_job options sample =
     if is_streamed options then Stream sample (format_of options) (unwrap_or (start_of options) 0) (channel_of options)
     else faults_job options sample
 
+-- the job of the subcommand `lint`
+abbrev pub lint_job : List Row → Bool → Job
+lint_job options sample = if is_used (codes "bound") options then Bound sample else Lint sample
+
 -- the job of a subcommand with these options
 abbrev pub job_with : Text → List Row → Job
 job_with name options =
@@ -313,7 +326,7 @@ job_with name options =
     else if bytes_eq name (codes "check") then check_job options (is_sample options)
     else if bytes_eq name (codes "draw") then Draw (is_sample options) (picture_of options)
     else if bytes_eq name (codes "map") then Map (is_sample options)
-    else Lint (is_sample options)
+    else lint_job options (is_sample options)
 
 -- the number is there, and 0
 abbrev pub is_zero : Option ℕ → Bool

@@ -73,6 +73,10 @@ pub enum Job {
     Lint {
         sample: bool,
     },
+    /// Tells how long a request takes at most, or what is at fault in a configuration.
+    Bound {
+        sample: bool,
+    },
 }
 
 /// What a trace is drawn as.

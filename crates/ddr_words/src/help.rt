@@ -134,8 +134,12 @@ Input: a configuration; what stands behind a line `---` is not looked at. With -
 Output: a line for each finding, the faults first: each key that is missing, each value
   out of its range, each unknown key with the nearest known one, and each broken relation
   with both of its sides; then warnings of values that are accepted, and yet strange.
-Status: 0 where nothing is found; 1 where there are warnings alone; 2 for a fault, or a bad
-  input or command line; 3 where the device or the memory fails.
+  With --bound a TOML table in their place, unless there are faults: a request takes fewer
+  than `clocks` clocks from its admission to its completion, and the other numbers are
+  what they are made up of. Without a bound that is proved there is no line `clocks`.
+Status: 0 where nothing is found; 1 where there are warnings alone, or with --bound no
+  bound; 2 for a fault, or a bad input or command line; 3 where the device or the memory
+  fails.
 
 To paste:
   ./ddr lint < examples/spread.config";

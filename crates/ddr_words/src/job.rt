@@ -4,15 +4,16 @@
 ghost use Rattle.std.specs.Prelude.{◌≡◌, ◌≤◌, IfOk, IsTrue, None, Ok, codes, false, length, map, true};
 ghost use Rattle.clap.specs.Words.{app_of, found_of, rows_of, rule_of, with_rule, with_subcommand};
 ghost use Rattle.clap.specs.declared.Command.TheViews.{out-Command as settings_of};
-ghost use Rattle.ddr_words.specs.Job.{Answers, AreTaken, Reads, check_app, check_job, cycle_rule, ddr_app, draw_app, faults_job, flag_rule, format_of, is_subcommand, job_of, job_with, name_alone, number_rule, picture_of, reading_of, replay_app, replay_job, said_by, told_of, trace_rule, with_capture, with_faults, with_numbers, with_reading, with_sample, with_telling};
+ghost use Rattle.ddr_words.specs.Job.{Answers, AreTaken, Reads, check_app, check_job, cycle_rule, ddr_app, draw_app, faults_job, flag_rule, format_of, is_subcommand, job_of, job_with, lint_app, lint_job, name_alone, number_rule, picture_of, reading_of, replay_app, replay_job, said_by, told_of, trace_rule, with_capture, with_faults, with_numbers, with_reading, with_sample, with_telling};
 
 use crate::command::{Job, Picture};
 use crate::help;
 use crate::misuse::{Misuse, misuse_of};
 use crate::options::{
     channel_of, clock_of, drampower_of, every_of, from_of, is_all, is_explained, is_from_first,
-    is_of_dramsim3, is_of_numbers, is_of_ramulator2, is_of_requests, is_progress, is_sample,
-    is_spread, is_streamed, is_svg, is_wrapped, most_of, skip_of, start_of, to_of, trace_of,
+    is_of_bound, is_of_dramsim3, is_of_numbers, is_of_ramulator2, is_of_requests, is_progress,
+    is_sample, is_spread, is_streamed, is_svg, is_wrapped, most_of, skip_of, start_of, to_of,
+    trace_of,
 };
 use clap::{Arg, ArgAction, ArgMatches, Command, Error, value_parser};
 use ddr_text::command::{Format, Reading, Told};
@@ -34,7 +35,7 @@ pub enum JobError {
 /// asks for all faults too. `replay` has the flags `--dramsim3`, `--ramulator2`, `--spread`, `--wrap`, `--from-first`, `--requests`, `--progress` and
 /// `--numbers`, and `--trace C`, `--drampower C`, `--skip N`, `--tck PICOSECONDS` and `--every CYCLES`, each with a `u32`. `check` has the flags `--stream`, `--dramsim3` and `--ramulator2` and the options `--start CYCLE` with a `u64` and
 /// `--channel C` with a `u32` too: each of them asks for captured commands. `draw` has the flag `--svg` and the options `--from CYCLE` and
-/// `--to CYCLE`. No words, or the name alone, are read as `sim --sample`.
+/// `--to CYCLE`, and `lint` the flag `--bound`. No words, or the name alone, are read as `sim --sample`.
 ///
 /// Fails as `Words` where the words are of another form, where they ask for help, and where memory runs out, and else as `Misuse`
 /// where an option would have no effect.
@@ -99,7 +100,7 @@ fn job_with(name: &str, options: &ArgMatches<'_>) -> Job
             picture: picture_of(options),
         },
         "map" => Job::Map { sample },
-        "lint" => Job::Lint { sample },
+        "lint" => lint_job(options, sample),
         _ => unreachable!(),
     }
 }
@@ -159,6 +160,18 @@ fn faults_job(options: &ArgMatches<'_>, sample: bool) -> Job
         Job::Explain { sample }
     } else {
         Job::Check { sample }
+    }
+}
+
+/// The job of the subcommand `lint` with these options.
+fn lint_job(options: &ArgMatches<'_>, sample: bool) -> Job
+    requires { AreTaken (rows_of (found_of options.now)) }
+    ensures { result ≡ lint_job (rows_of (found_of options.now)) sample }
+{
+    if is_of_bound(options) {
+        Job::Bound { sample }
+    } else {
+        Job::Lint { sample }
     }
 }
 
@@ -236,13 +249,7 @@ fn command<'a>(alloc: Global) -> Result<Command<'a>, AllocError>
     let check = with_check(alloc, replay)?;
     let draw = with_draw(alloc, check)?;
     let map = with_one(alloc, draw, "map", "Says where addresses lie", help::MAP)?;
-    with_one(
-        alloc,
-        map,
-        "lint",
-        "Looks through a configuration",
-        help::LINT,
-    )
+    with_lint(alloc, map)
 }
 
 /// The program before its subcommands, one of which has to follow. It has no subcommand `help`: help is asked for by
@@ -392,6 +399,17 @@ fn with_draw<'a>(alloc: Global, command: Command<'a>) -> Result<Command<'a>, All
     let with_from = with_svg.arg(cycle_option(alloc, "from", about))?;
     let about = "Draws the commands before this cycle, with --svg";
     command.subcommand(with_from.arg(cycle_option(alloc, "to", about))?)
+}
+
+/// The command with the subcommand that looks through a configuration, which has a flag of its own.
+fn with_lint<'a>(alloc: Global, command: Command<'a>) -> Result<Command<'a>, AllocError>
+    requires local { (settings_of command).has_globals ≡ false }
+    ensures app { IfOk result (λ all. app_of all ≡ with_subcommand (app_of command.entry) lint_app.top) }
+    ensures local { IfOk result (λ all. (settings_of all).has_globals ≡ false) }
+{
+    let lint = subcommand(alloc, "lint", "Looks through a configuration", help::LINT)?;
+    let about = "Tells how long a request takes at most, as TOML, in place of findings";
+    command.subcommand(lint.arg(flag(alloc, "bound", about))?)
 }
 
 /// The command with one more subcommand.

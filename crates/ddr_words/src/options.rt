@@ -195,6 +195,14 @@ pub(crate) fn is_explained(options: &ArgMatches<'_>) -> bool
     options.get_flag("explain")
 }
 
+/// Whether the flag `--bound` was used.
+pub(crate) fn is_of_bound(options: &ArgMatches<'_>) -> bool
+    requires { AreTaken (rows_of (found_of options.now)) }
+    ensures { result ≡ is_used (codes "bound") (rows_of (found_of options.now)) }
+{
+    options.get_flag("bound")
+}
+
 /// Whether the flag `--sample` was used.
 pub(crate) fn is_sample(options: &ArgMatches<'_>) -> bool
     requires { AreTaken (rows_of (found_of options.now)) }
