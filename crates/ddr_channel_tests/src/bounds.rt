@@ -2,7 +2,7 @@
 //!
 //! The configurations are by chance too: the refresh interval is the least one that is accepted, or little more. What is
 //! expected is counted here from the commands of the trace alone. `streams` has one run that is worked out by hand, and
-//! `latency` a bound that is not proved, on how long a request takes.
+//! `latency` one that is a law of `ddr_deadline`, on how long a request takes.
 ghost use Rattle.std.specs.Prelude.{◌≡◌, ◌<◌, IfOk};
 ghost use Rattle.ddr_channel.specs.Sound.{IsServed};
 

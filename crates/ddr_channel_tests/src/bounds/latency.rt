@@ -1,10 +1,11 @@
-//! How long a request takes from its admission to its completion: a bound that docs/MODEL.md argues for and no contract states,
+//! How long a request takes from its admission to its completion: a bound that is a law of `ddr_deadline`, and no contract of a call,
 //! looked at for each request of runs by chance, in which all that is done is taken behind each cycle.
 ghost use Rattle.std.specs.Prelude.{◌<◌};
 
 use super::*;
 use ddr_address_map::map::Map;
 use ddr_address_map::place::Place;
+use ddr_latency::bound::latency;
 use ddr_samples::sample::changed;
 
 /// The cycles of a run in which requests are admitted.
@@ -314,6 +315,7 @@ fn bound_of(channel: &Channel) -> Option<u64> {
 fn share_by_chance(rt: &impl Abort, alloc: Global, seed: u64, ranks: u64) -> Result<u64, Fail> {
     let mut load = load_by_chance(alloc, seed, ranks)?;
     let most = bound_of(&load.channel).ok_or("an interval that is too short")?;
+    assert!(rt; latency(load.channel.config()) as u64 == most);
     load.make_cycles()?;
     load.finish(most)?;
     let slowest = load.slowest;

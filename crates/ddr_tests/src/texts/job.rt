@@ -61,6 +61,9 @@ const JOBS: &[(&str, Job)] = &[
     ("ddr map --sample", Job::Map { sample: true }),
     ("ddr lint", Job::Lint { sample: false }),
     ("ddr lint --sample", Job::Lint { sample: true }),
+    ("ddr lint --bound", Job::Bound { sample: false }),
+    ("ddr lint --bound --sample", Job::Bound { sample: true }),
+    ("ddr lint --sample --bound", Job::Bound { sample: true }),
     // The program may have another name.
     ("/bin/model map", Job::Map { sample: false }),
 ];
@@ -166,6 +169,11 @@ const ERRORS: &[(&str, ErrorKind)] = &[
     ("ddr draw --from 0x1", ErrorKind::ValueValidation),
     ("ddr draw --svg --to", ErrorKind::InvalidValue),
     ("ddr sim --all", ErrorKind::UnknownArgument),
+    ("ddr check --bound", ErrorKind::UnknownArgument),
+    ("ddr lint --explain", ErrorKind::UnknownArgument),
+    ("ddr lint --bound 9", ErrorKind::UnknownArgument),
+    ("ddr lint --bound=true", ErrorKind::TooManyValues),
+    ("ddr lint --bound --bound", ErrorKind::ArgumentConflict),
     ("ddr sim --sample=true", ErrorKind::TooManyValues),
     ("ddr map --sample --sample", ErrorKind::ArgumentConflict),
     // Requests for help.
