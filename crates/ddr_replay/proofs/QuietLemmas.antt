@@ -23,7 +23,8 @@ use Rattle.ddr_rounds.specs.Drains.{is_draining}
 use Rattle.ddr_replay.specs.Drains.{all_drained}
 use Rattle.ddr_replay.specs.Ledgers.{Ledger}
 use Rattle.ddr_replay.specs.Runs.{Run, channels_counted, port_served, ports_served, ports_submitted, released, replayed, round_closed, round_made, turn, unserved}
-use Rattle.ddr_stream.specs.Stream.{Queues, queue_at}
+use Rattle.ddr_stream.specs.Stream.{queue_at}
+use Rattle.ddr_stream.specs.Waiting.{Waiting}
 use Rattle.ddr_replay.specs.View.{IsButLedger, IsCycleFault, IsRunFault, IsSame, Replay, run_of}
 use Rattle.ddr_replay.specs.Waits.{AreQuiet, AreWaiting, all_full, come_of}
 use Rattle.ddr_rounds.proofs.DrainLemmas.{mode_settled}
@@ -157,8 +158,8 @@ turn_failed config n m run ready _ e busy is fault = absurd fault
 but_ledger : (old new : Replay) (ledger : Ledger) → IsButLedger old new → new.ledger ≡ ledger → run_of new ≡ record (run_of old) { ledger = ledger }
 but_ledger old new ledger rest is =
     ap (λ (l : Ledger). record (run_of new) { ledger = l }) is
-    ∙ ap (λ (w : Kept). record { state = state_of w; queues = new.queues; ledger = ledger; round = new.round }) rest.world
-    ∙ ap₂ (λ (qs : Queues) (r : ℕ). record { state = state_of old.world; queues = qs; ledger = ledger; round = r }) rest.queues rest.round
+    ∙ ap (λ (w : Kept). record { state = state_of w; queues = new.stream.queues; ledger = ledger; round = new.round }) rest.world
+    ∙ ap₂ (λ (w : Waiting) (r : ℕ). record { state = state_of old.world; queues = w.queues; ledger = ledger; round = r }) rest.stream rest.round
 
 -- a round that was made: the channels' part, the count of those that drain writes, and the ports' part
 pub round_ok : (old served counted last : Replay) (new : Run) → channels_served old.config.geometry.channels (state_of old.world) ≡ Some (state_of served.world) → IsSame old served

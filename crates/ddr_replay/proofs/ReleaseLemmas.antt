@@ -20,16 +20,16 @@ use Rattle.ddr_rounds.proofs.EventLemmas.{front_answered}
 use Rattle.ddr_rounds.proofs.StepCounts.{Counted, at_port_has, made_counts, maybe_has}
 use Rattle.ddr_replay.specs.Ledgers.{Ledger, noted}
 use Rattle.ddr_replay.specs.Runs.{Run, port_served, released, released_by}
-use Rattle.ddr_stream.specs.Stream.{Queues}
+use Rattle.ddr_stream.specs.Waiting.{Waiting}
 use Rattle.ddr_replay.specs.View.{IsSame, Replay, run_of}
 
 -- where all but the core is as it was
 pub same_run : (old new : Replay) → IsSame old new → run_of new ≡ record (run_of old) { state = state_of new.world }
 same_run old new same =
     let s = state_of new.world in
-    ap (λ (q : Queues). record { state = s; queues = q; ledger = new.ledger; round = new.round }) same.queues
-    ∙ ap (λ (l : Ledger). record { state = s; queues = old.queues; ledger = l; round = new.round }) same.ledger
-    ∙ ap (λ (r : ℕ). record { state = s; queues = old.queues; ledger = old.ledger; round = r }) same.round
+    ap (λ (w : Waiting). record { state = s; queues = w.queues; ledger = new.ledger; round = new.round }) same.stream
+    ∙ ap (λ (l : Ledger). record { state = s; queues = old.stream.queues; ledger = l; round = new.round }) same.ledger
+    ∙ ap (λ (r : ℕ). record { state = s; queues = old.stream.queues; ledger = old.ledger; round = r }) same.round
 
 -- with no reply in front nothing is released
 pub none_given : (n p : ℕ) (run : Run) → front_service run.state p ≡ None → released n p run ≡ run

@@ -1,26 +1,46 @@
 -- What an input says of a replay.
-use Rattle.std.proofs.Common.{◌≡◌, ℕ, List, Bool, true, false, cond, Option, None, Some, Result, Ok, Err, IfErr, IfOk, IfSome, OnOk, map, refl, sym, ap, subst, ◌∙◌}
+use Rattle.std.proofs.Common.{◌≡◌, ℕ, List, [], ◌++◌, Bool, true, false, cond, Option, None, Some, Result, Ok, Err, IfErr, IfOk, IfSome, OnOk, inl, inr, map, refl, sym, ap, subst, ◌∙◌}
+use Rattle.std.specs.Prelude.{◌-◌}
 use Rattle.std.specs.Io.KnownBytes.{Appends}
+use Rattle.std.specs.Result.{IsErrOf}
 use Rattle.ddr_timing.specs.declared.config.Config.{Config}
-use Rattle.ddr_replay.specs.Taken.{taken_of}
+use Rattle.ddr_replay.specs.Taken.{IsTaken, IsTakenFault, all_of, taken_of}
 use Rattle.ddr_replay.specs.declared.taken.Taking.{Taking}
 use Rattle.ddr_replay.specs.declared.wanted.Wanted.{Wanted}
-use Rattle.ddr_text.specs.Body.{HasParts, IsRefused, parts_of}
+use Rattle.ddr_text.specs.Body.{parts_of}
 use Rattle.ddr_text.specs.Instructions.{◌>>>◌}
 use Rattle.ddr_text.specs.Sink.{write_fault}
 use Rattle.ddr_text.specs.declared.fault.Fault.{Fault}
 use Rattle.ddr_text.specs.declared.fault.Fault.TheVariants as faults
 use Rattle.ddr_text.proofs.BodyLemmas.{not_of_parts}
+use Rattle.ddr_capture.specs.Feed.{Along}
+use Rattle.ddr_capture.specs.Front.{ComesFirst, HasFront, IsConfigRefused, IsOpened, IsShort}
+use Rattle.std.specs.Io.KnownBytes.{prepend_known}
+use Rattle.ddr_stream.specs.declared.requests.Requests.{Requests}
+use Rattle.ddr_stream.specs.Requests.{requests_in}
+use Rattle.ddr_stream.specs.Stream.{Queues}
+use Rattle.ddr_stream.specs.Waiting.{All}
 use Rattle.ddr_replay.specs.declared.numbers.Numbers.{Numbers}
-use Rattle.ddr_replay.specs.declared.numbers.Requests.{Requests}
-use Rattle.ddr_replay.specs.Numbers.{IsCounted, is_any_spent, requests_in}
-use Rattle.ddr_replay.specs.Replays.{HasReplayFault, IsReplayed, IsReported, IsSaid, IsStream, IsStuckInput, Says, keeps_served, names_no_channel, report_of, reported, told_behind, told_of}
+use Rattle.ddr_replay.specs.Ahead.{IsCutOff, IsEnded, IsOver}
+use Rattle.ddr_replay.specs.Numbers.{IsCounted, is_any_spent}
+use Rattle.ddr_replay.specs.Replays.{HasReplayFault, IsReplayed, IsReported, IsSaid, Says, keeps_served, names_no_channel, report_of, reported, told_behind, told_of}
 use Rattle.ddr_replay.specs.Report.{report_text}
 use Rattle.ddr_replay.specs.Runs.{Run, begun, replayed}
-use Rattle.ddr_stream.specs.Stream.{AreRead, Queues}
-use Rattle.ddr_replay.specs.Stuck.{IsStuckBody}
-use Rattle.ddr_replay.specs.View.{IsRunFault, Replay, run_of}
-use Rattle.std.specs.Prelude.{◌-◌}
+use Rattle.ddr_replay.specs.View.{IsRunFault, Replay, run_of, whole_run}
+use Rattle.ddr_replay.proofs.RoundLemmas.{with_queues}
+
+-- of each text that may be known
+pub each : {P : List ℕ → Type 0} (o : Option (List ℕ)) → ((text : List ℕ) → P text) → IfSome o P
+each None so = tt
+each (Some text) so = so text
+
+pub each_with : {P Q : List ℕ → Type 0} (o : Option (List ℕ)) → IfSome o P → ((text : List ℕ) → P text → Q text) → IfSome o Q
+each_with None known so = tt
+each_with (Some text) known so = so text known
+
+pub each_by : {P Q R : List ℕ → Type 0} (o : Option (List ℕ)) → IfSome o P → IfSome o Q → ((text : List ℕ) → P text → Q text → R text) → IfSome o R
+each_by None known more so = tt
+each_by (Some text) known more so = so text known more
 
 abbrev on_queues : Config → Wanted → Result Queues Fault → Result (List ℕ) Fault
 on_queues config told r = r >>> told_behind config told
@@ -39,13 +59,6 @@ no_channel config taking told body none = ap (on_channel config taking told body
 there : (config : Config) (taking : Taking) (told : Wanted) (body : List ℕ) → names_no_channel config told ≡ false → report_of config taking told body ≡ on_queues config told (taken_of config taking body)
 unfolding report_of
 there config taking told body some = ap (on_channel config taking told body) some
-
--- the stream is at fault
-pub stream_said : {X Y : Type 0} (view : X → Queues) (text : Y → List ℕ) (config : Config) (taking : Taking) (told : Wanted) (body : List ℕ) (fault : Fault) → names_no_channel config told ≡ false → AreRead view (Err fault) (taken_of config taking body) → IsReported text config taking told body (Err fault)
-stream_said view text config taking told body faults.OutOfMemory some is = tt
-stream_said view text config taking told body (faults.ReplayLine line cause) some is = there config taking told body some ∙ ap (on_queues config told) is
-stream_said view text config taking told body (faults.ReplayRange line) some is = there config taking told body some ∙ ap (on_queues config told) is
-stream_said view text config taking told body _ some is = absurd is
 
 behind : (config : Config) (taking : Taking) (told : Wanted) (body : List ℕ) (queues : Queues) → names_no_channel config told ≡ false → taken_of config taking body ≡ Ok queues → report_of config taking told body ≡ on_run config told queues (replayed config 4294967295 (begun config (keeps_served told) queues))
 behind config taking told body queues some read = there config taking told body some ∙ ap (on_queues config told) read
@@ -81,6 +94,7 @@ report_said config requests run said running is = ap (by_spent config requests r
 pub reported_of : {X : Type 0} (view : X → List ℕ) (config : Config) (taking : Taking) (told : Wanted) (body : List ℕ) (r : Result X Fault) → IsSaid view r (report_of config taking told body) → IsReported view config taking told body r
 reported_of view config taking told body (Ok x) is = is
 reported_of view config taking told body (Err (faults.ReplayStuck cycle)) is = absurd is
+reported_of view config taking told body (Err faults.Read) is = absurd is
 reported_of view config taking told body (Err _) is = is
 
 -- a trace
@@ -88,76 +102,180 @@ pub trace_said : {X : Type 0} (view : X → List ℕ) (r : Result X Fault) (text
 trace_said view (Ok x) text is refused = ap (λ (t : List ℕ). Ok t) (sym is)
 trace_said view (Err fault) text is refused = rw refused tt
 
--- what was read and opened says what the body says
-pub said_of : (remaining : Option (List ℕ)) (items text profile : List ℕ) (sample : Bool) (taking : Taking) (told : Wanted) (config : Config) (body : List ℕ) (said : Result (List ℕ) Fault) → IfSome remaining (λ bytes. items ≡ bytes) → text ≡ items → IsStream items → HasParts (parts_of sample profile text) config body → report_of config taking told body ≡ said
-    → IfSome remaining (λ input. Says sample profile taking told input said)
-said_of None items text profile sample taking told config body said known same is_text opened e = tt
-said_of (Some input) items text profile sample taking told config body said known same is_text opened e =
-    subst (λ i. Says sample profile taking told i said) known (record {
-      text = is_text;
-      config = config;
-      body = body;
-      opened = subst (λ t. HasParts (parts_of sample profile t) config body) same opened;
-      report = e;
-    })
+-- ---- all requests of a body
 
--- the fault of a text that is not opened
-unopened : (profile : List ℕ) (taking : Taking) (told : Wanted) (text : List ℕ) (sample : Bool) (fault : Fault) → IsStream text → IsRefused (parts_of sample profile text) fault → HasReplayFault sample profile taking told text fault
-unopened profile taking told text sample faults.OutOfMemory is_text refused = tt
-unopened profile taking told text sample faults.Read is_text refused = tt
-unopened profile taking told text sample faults.Write is_text refused = not_of_parts (parts_of sample profile text) faults.Write refused refl
-unopened profile taking told text sample (faults.ReplayLine line cause) is_text refused = not_of_parts (parts_of sample profile text) (faults.ReplayLine line cause) refused refl
-unopened profile taking told text sample (faults.ReplayRange line) is_text refused = not_of_parts (parts_of sample profile text) (faults.ReplayRange line) refused refl
-unopened profile taking told text sample faults.TraceNoSuch is_text refused = not_of_parts (parts_of sample profile text) faults.TraceNoSuch refused refl
-unopened profile taking told text sample faults.ReplayLimit is_text refused = not_of_parts (parts_of sample profile text) faults.ReplayLimit refused refl
-unopened profile taking told text sample (faults.ReplayStuck cycle) is_text refused = not_of_parts (parts_of sample profile text) (faults.ReplayStuck cycle) refused refl
-unopened profile taking told text sample faults.ClockSpent is_text refused = not_of_parts (parts_of sample profile text) faults.ClockSpent refused refl
-unopened profile taking told text sample faults.InputTooLong is_text refused = not_of_parts (parts_of sample profile text) faults.InputTooLong refused refl
-unopened profile taking told text sample faults.InputNotUtf8 is_text refused = not_of_parts (parts_of sample profile text) faults.InputNotUtf8 refused refl
-unopened profile taking told text sample _ is_text refused = (is_text, refused)
+abbrev pub with_counts : Result Queues Fault → Result All Fault
+with_counts r = r >>> λ queues. Ok (record { queues = queues; requests = map requests_in queues })
 
-pub opening_fault : (remaining : Option (List ℕ)) (items text profile : List ℕ) (sample : Bool) (taking : Taking) (told : Wanted) (fault : Fault) → IfSome remaining (λ bytes. items ≡ bytes) → text ≡ items → IsStream items → IsRefused (parts_of sample profile text) fault → IfSome remaining (λ input. HasReplayFault sample profile taking told input fault)
-opening_fault None items text profile sample taking told fault known same is_text refused = tt
-opening_fault (Some input) items text profile sample taking told fault known same is_text refused =
-    subst (λ i. HasReplayFault sample profile taking told i fault) known
-    (unopened profile taking told items sample fault is_text (subst (λ t. IsRefused (parts_of sample profile t) fault) same refused))
+pub refused_so : (r : Result Queues Fault) (e : Fault) → with_counts r ≡ Err e → r ≡ Err e
+refused_so (Ok queues) e is = absurd (let impossible = is in cc)
+refused_so (Err f) e is =
+    let same : f ≡ e = cc in
+    ap (λ (x : Fault). Err x) same
 
--- a body whose replay can go on no more
-pub stuck_of : (remaining : Option (List ℕ)) (items text profile : List ℕ) (sample : Bool) (taking : Taking) (told : Wanted) (config : Config) (body : List ℕ) (cycle : ℕ) → IfSome remaining (λ bytes. items ≡ bytes) → text ≡ items → IsStream items → HasParts (parts_of sample profile text) config body
-    → IsStuckBody config taking (keeps_served told) body cycle → IfSome remaining (λ input. IsStuckInput sample profile taking told input cycle)
-stuck_of None items text profile sample taking told config body cycle known same is_text opened stuck = tt
-stuck_of (Some input) items text profile sample taking told config body cycle known same is_text opened stuck =
-    subst (λ i. IsStuckInput sample profile taking told i cycle) known (record {
-      text = is_text;
-      config = config;
-      body = body;
-      opened = subst (λ t. HasParts (parts_of sample profile t) config body) same opened;
-      stuck = stuck;
-    })
+pub read_so : (r : Result Queues Fault) (all : All) → with_counts r ≡ Ok all → (r ≡ Ok all.queues) × (map requests_in all.queues ≡ all.requests)
+read_so (Err f) all is = absurd (let impossible = is in cc)
+read_so (Ok queues) all is =
+    let same : record { queues = queues; requests = map requests_in queues } ≡ all = cc in (
+      ap (λ (x : All). Ok x.queues) same,
+      ap (λ (x : All). map requests_in x.queues) (sym same) ∙ ap (λ (x : All). x.requests) same,
+    )
 
--- a body without a report
-pub body_fault : {X : Type 0} (view : X → List ℕ) (remaining : Option (List ℕ)) (profile : List ℕ) (sample : Bool) (taking : Taking) (told : Wanted) (fault : Fault) (config : Config) (body : List ℕ) → IsReported view config taking told body (Err fault)
-    → ((said : Result (List ℕ) Fault) → report_of config taking told body ≡ said → IfSome remaining (λ input. Says sample profile taking told input said))
-    → ((cycle : ℕ) → IsStuckBody config taking (keeps_served told) body cycle → IfSome remaining (λ input. IsStuckInput sample profile taking told input cycle))
-    → IfSome remaining (λ input. HasReplayFault sample profile taking told input fault)
-body_fault view None profile sample taking told fault config body fails says stuck = tt
-body_fault view (Some input) profile sample taking told faults.OutOfMemory config body fails says stuck = tt
-body_fault view (Some input) profile sample taking told (faults.ReplayLine line cause) config body fails says stuck = says (Err (faults.ReplayLine line cause)) fails
-body_fault view (Some input) profile sample taking told (faults.ReplayRange line) config body fails says stuck = says (Err (faults.ReplayRange line)) fails
-body_fault view (Some input) profile sample taking told faults.TraceNoSuch config body fails says stuck = says (Err faults.TraceNoSuch) fails
-body_fault view (Some input) profile sample taking told faults.ReplayLimit config body fails says stuck = says (Err faults.ReplayLimit) fails
-body_fault view (Some input) profile sample taking told (faults.ReplayStuck cycle) config body fails says stuck = stuck cycle fails
-body_fault view (Some input) profile sample taking told faults.ClockSpent config body fails says stuck = says (Err faults.ClockSpent) fails
-body_fault view (Some input) profile sample taking told _ config body fails says stuck = absurd fails
+module _ {Y : Type 0} (text : Y → List ℕ) (config : Config) (taking : Taking) (told : Wanted) (body : List ℕ) where
+  refused : (e : Fault) → names_no_channel config told ≡ false → all_of config taking body ≡ Err e → report_of config taking told body ≡ Err e
+  refused e some is = there config taking told body some ∙ ap (on_queues config told) (refused_so (taken_of config taking body) e is)
 
--- it is a fault of a body, not of the device
-pub body_not_read : {X : Type 0} (view : X → List ℕ) (fault : Fault) (config : Config) (taking : Taking) (told : Wanted) (body : List ℕ) (A : Type 0) → IsReported view config taking told body (Err fault) → ◌≡◌ {A = Result (Unit {0}) Fault} (Err fault) (Err faults.Read) → A
-body_not_read view faults.Read config taking told body A fails read = absurd fails
-body_not_read view _ config taking told body A fails read = absurd (let impossible = read in cc)
+  -- a line is at fault
+  pub taken_said : (fault : Fault) → names_no_channel config told ≡ false → IsTakenFault config taking fault body → IsReported text config taking told body (Err fault)
+  taken_said (faults.ReplayLine line cause) some is = refused (faults.ReplayLine line cause) some is
+  taken_said (faults.ReplayRange line) some is = refused (faults.ReplayRange line) some is
+  taken_said faults.InputTooLong some is = refused faults.InputTooLong some is
+  taken_said faults.Read some is = tt
+  taken_said faults.OutOfMemory some is = tt
+  taken_said _ some is = absurd is
 
-pub body_not_write : {X : Type 0} (view : X → List ℕ) (fault : Fault) (config : Config) (taking : Taking) (told : Wanted) (body : List ℕ) (A : Type 0) → IsReported view config taking told body (Err fault) → ◌≡◌ {A = Result (Unit {0}) Fault} (Err fault) (Err faults.Write) → A
-body_not_write view faults.Write config taking told body A fails read = absurd fails
-body_not_write view _ config taking told body A fails read = absurd (let impossible = read in cc)
+-- a replay that has just begun
+pub record HasBegun (asked : Config) (keeps : Bool) (began : Replay) : Type 0 where
+  pub config : began.config ≡ asked
+  pub run : run_of began ≡ begun asked keeps began.stream.queues
+
+begun_whole : (config : Config) (keeps : Bool) (began : Replay) (queues : Queues) → HasBegun config keeps began → whole_run began queues ≡ begun config keeps queues
+begun_whole config keeps began queues has = ap (with_queues queues) has.run
+
+begun_left : (config : Config) (keeps : Bool) (began : Replay) → HasBegun config keeps began → 4294967295 - began.round ≡ 4294967295
+begun_left config keeps began has = ap (λ (r : Run). 4294967295 - r.round) has.run
+
+-- what is so of the run that all requests come to
+at_begun : (P : Config → Result Run Fault → Type 0) (config : Config) (keeps : Bool) (began : Replay) (queues : Queues) → HasBegun config keeps began → P began.config (replayed began.config (4294967295 - began.round) (whole_run began queues)) → P config (replayed config 4294967295 (begun config keeps queues))
+at_begun P config keeps began queues has so =
+    subst (P config) (ap (λ n. replayed config n (whole_run began queues)) (begun_left config keeps began has) ∙ ap (replayed config 4294967295) (begun_whole config keeps began queues has))
+    (subst (λ (k : Config). P k (replayed k (4294967295 - began.round) (whole_run began queues))) has.config so)
+
+module _ {Y : Type 0} (text : Y → List ℕ) (config : Config) (taking : Taking) (told : Wanted) (began : Replay) (all : Option (Result All Fault)) (body : List ℕ) where
+  abbrev Left : ℕ
+  Left = 4294967295 - began.round
+
+  cut : (fault : Fault) → names_no_channel config told ≡ false → HasBegun config (keeps_served told) began → (x : All) → all_of config taking body ≡ Ok x → IsCutOff began.config Left began fault x → IsReported text config taking told body (Err fault)
+  cut fault some has x read is =
+      run_said text config taking told body x.queues fault some (read_so (taken_of config taking body) x read).0 (at_begun (λ (k : Config) (r : Result Run Fault). IsRunFault k fault r) config (keeps_served told) began x.queues has is)
+
+  ended : (fault : Fault) → names_no_channel config told ≡ false → HasBegun config (keeps_served told) began → IsEnded began.config Left began fault (Some (all_of config taking body)) → IsReported text config taking told body (Err fault)
+  ended (faults.ReplayLine line cause) some has is = taken_said text config taking told body (faults.ReplayLine line cause) some is
+  ended (faults.ReplayRange line) some has is = taken_said text config taking told body (faults.ReplayRange line) some is
+  ended faults.InputTooLong some has is = taken_said text config taking told body faults.InputTooLong some is
+  ended faults.Read some has is = tt
+  ended faults.OutOfMemory some has is = tt
+  ended fault some has is = cut fault some has is.0 is.1 is.2
+
+  -- the run ended by a fault
+  pub run_ended : (fault : Fault) → names_no_channel config told ≡ false → HasBegun config (keeps_served told) began → IsEnded began.config Left began fault all → IsTaken config taking body all → IsReported text config taking told body (Err fault)
+  run_ended fault some has is taken = ended fault some has (subst (IsEnded began.config Left began fault) taken is)
+
+  abbrev CameTo : Replay → Option (Result All Fault) → Type 0
+  CameTo last o = IfSome o (λ said. (x : All) × (said ≡ Ok x) × IsOver began.config Left began last x)
+
+  -- it came to its end, and this is told of it
+  pub run_told : (last : Replay) (requests : List Requests) (r : Result Y Fault) → names_no_channel config told ≡ false → HasBegun config (keeps_served told) began → CameTo last all → requests ≡ last.stream.asked → IsSaid text r (told_of config told requests (run_of last))
+      → IsTaken config taking body all → IsReported text config taking told body r
+  run_told last requests r some has came same said taken =
+      let here : CameTo last (Some (all_of config taking body)) = subst (CameTo last) taken came in
+      let x = here.0 in
+      let read = read_so (taken_of config taking body) x here.1 in
+      let over = here.2 in
+      let run = at_begun (λ (k : Config) (q : Result Run Fault). q ≡ Ok (run_of last)) config (keeps_served told) began x.queues has over.run in
+      let counts : map requests_in x.queues ≡ requests = read.1 ∙ over.requests ∙ sym same in
+      reported_of text config taking told body r
+      (subst (IsSaid text r) (sym (told_said config taking told body x.queues (run_of last) some read.0 run ∙ ap (λ (rs : List Requests). told_of config told rs (run_of last)) counts)) said)
+
+-- ---- an input
+
+-- nothing of it was read yet
+pub unread : (bytes : List ℕ) (more : Option (List ℕ)) → bytes ≡ [] → prepend_known bytes more ≡ more
+unread bytes None none = refl
+unread bytes (Some text) none = ap (λ (xs : List ℕ). Some (xs ++ text)) none
+
+-- what comes behind its configuration
+
+is_short : (sample : Bool) (input : List ℕ) → HasFront sample input → IsShort sample input
+is_short true input front = tt
+is_short false input front = front.short
+
+comes_first : (sample : Bool) (input : List ℕ) (fault : Fault) → HasFront sample input → ComesFirst sample input fault
+comes_first sample input faults.InputTooLong front = tt
+comes_first sample input faults.Read front = tt
+comes_first sample input faults.OutOfMemory front = tt
+comes_first sample input faults.InputHasNoMark front = is_short sample input front
+comes_first sample input faults.InputNotUtf8 front = is_short sample input front
+comes_first sample input _ front = front
+
+fault_first : (sample : Bool) (profile : List ℕ) (a b : Option (List ℕ)) (config : Config) (fault : Fault) → Along (IsOpened sample profile config) a b → IfSome a (λ input. ComesFirst sample input fault)
+fault_first sample profile None b config fault opened = tt
+fault_first sample profile (Some input) None config fault opened = absurd opened
+fault_first sample profile (Some input) (Some body) config fault opened = comes_first sample input fault opened.front
+
+module _ (sample : Bool) (profile : List ℕ) (taking : Taking) (told : Wanted) where
+  config_fault : (input : List ℕ) (fault : Fault) → IsConfigRefused sample profile input fault → HasReplayFault sample profile taking told input fault
+  config_fault input (faults.ReplayLine line cause) refused = not_of_parts (parts_of sample profile input) (faults.ReplayLine line cause) refused refl
+  config_fault input (faults.ReplayRange line) refused = not_of_parts (parts_of sample profile input) (faults.ReplayRange line) refused refl
+  config_fault input faults.TraceNoSuch refused = not_of_parts (parts_of sample profile input) faults.TraceNoSuch refused refl
+  config_fault input faults.ReplayLimit refused = not_of_parts (parts_of sample profile input) faults.ReplayLimit refused refl
+  config_fault input (faults.ReplayStuck cycle) refused = not_of_parts (parts_of sample profile input) (faults.ReplayStuck cycle) refused refl
+  config_fault input faults.ClockSpent refused = not_of_parts (parts_of sample profile input) faults.ClockSpent refused refl
+  config_fault input faults.Write refused = not_of_parts (parts_of sample profile input) faults.Write refused refl
+  config_fault input faults.Read refused = tt
+  config_fault input faults.OutOfMemory refused = tt
+  config_fault input faults.InputTooLong refused = inl refused
+  config_fault input _ refused = refused
+
+  -- the configuration is at fault
+  pub front_said : (a : Option (List ℕ)) (fault : Fault) → IfSome a (λ input. IsConfigRefused sample profile input fault) → IfSome a (λ input. HasReplayFault sample profile taking told input fault)
+  front_said None fault refused = tt
+  front_said (Some input) fault refused = config_fault input fault refused
+
+  body_fault : {X : Type 0} (view : X → List ℕ) (config : Config) (input body : List ℕ) (fault : Fault) → IsOpened sample profile config input body → IsReported view config taking told body (Err fault) → HasReplayFault sample profile taking told input fault
+  body_fault view config input body (faults.ReplayLine line cause) opened said = record { config = config; body = body; opened = opened; report = said }
+  body_fault view config input body (faults.ReplayRange line) opened said = record { config = config; body = body; opened = opened; report = said }
+  body_fault view config input body faults.TraceNoSuch opened said = record { config = config; body = body; opened = opened; report = said }
+  body_fault view config input body faults.ReplayLimit opened said = record { config = config; body = body; opened = opened; report = said }
+  body_fault view config input body (faults.ReplayStuck cycle) opened said = record { config = config; body = body; opened = opened; stuck = said }
+  body_fault view config input body faults.ClockSpent opened said = record { config = config; body = body; opened = opened; report = said }
+  body_fault view config input body faults.InputTooLong opened said = inr (record { config = config; body = body; opened = opened; report = said })
+  body_fault view config input body faults.Read opened said = tt
+  body_fault view config input body faults.OutOfMemory opened said = tt
+  body_fault view config input body _ opened said = absurd said
+
+  -- the body is
+  pub body_said : {X : Type 0} (view : X → List ℕ) (a b : Option (List ℕ)) (config : Config) (fault : Fault) → Along (IsOpened sample profile config) a b → IfSome b (λ body. IsReported view config taking told body (Err fault)) → IfSome a (λ input. HasReplayFault sample profile taking told input fault)
+  body_said view None b config fault opened said = tt
+  body_said view (Some input) None config fault opened said = absurd opened
+  body_said view (Some input) (Some body) config fault opened said = body_fault view config input body fault opened said
+
+  -- or this is told of it
+  pub body_told : {X : Type 0} (view : X → List ℕ) (a b : Option (List ℕ)) (config : Config) (x : X) → Along (IsOpened sample profile config) a b → IfSome b (λ body. IsReported view config taking told body (Ok x)) → IfSome a (λ input. Says sample profile taking told input (Ok (view x)))
+  body_told view None b config x opened said = tt
+  body_told view (Some input) None config x opened said = absurd opened
+  body_told view (Some input) (Some body) config x opened said = record { config = config; body = body; opened = opened; report = said }
+
+module _ (sample : Bool) (profile : List ℕ) (taking : Taking) (told : Wanted) {X : Type 0} (view : X → List ℕ) (a b : Option (List ℕ)) (config : Config) where
+  -- by what a body's report is
+  pub told_by : (r : Result X Fault) → Along (IsOpened sample profile config) a b → IfSome b (λ body. IsReported view config taking told body r) → IfOk r (λ x. IfSome a (λ input. Says sample profile taking told input (Ok (view x))))
+  told_by (Ok x) opened said = body_told sample profile taking told view a b config x opened said
+  told_by (Err fault) opened said = tt
+
+  pub said_by : (r : Result X Fault) → Along (IsOpened sample profile config) a b → IfSome b (λ body. IsReported view config taking told body r) → IfErr r (λ fault. IfSome a (λ input. HasReplayFault sample profile taking told input fault))
+  said_by (Ok x) opened said = tt
+  said_by (Err fault) opened said = body_said sample profile taking told view a b config fault opened said
+
+  pub first_by : (r : Result X Fault) → Along (IsOpened sample profile config) a b → IfErr r (λ fault. IfSome a (λ input. ComesFirst sample input fault))
+  first_by (Ok x) opened = tt
+  first_by (Err fault) opened = fault_first sample profile a b config fault opened
+
+-- what is said of a run is no fault of reading
+pub never_read : {X : Type 0} (view : X → List ℕ) (r : Result X Fault) (said : Result (List ℕ) Fault) (A : Type 0) → IsSaid view r said → IsErrOf r faults.Read → A
+never_read view (Ok x) said A is read = absurd (let impossible = read in cc)
+never_read view (Err fault) said A is read =
+    let here : fault ≡ faults.Read = cc in
+    absurd (subst (λ (f : Fault). IsSaid view (Err f) said) here is)
 
 -- what was written is the text
 pub replay_written : (r : Result (Unit {0}) Fault) (remaining : Option (List ℕ)) (profile : List ℕ) (taking : Taking) (told : Wanted) (text : List ℕ) (sample : Bool) (old new : Option (List ℕ)) → IfSome remaining (λ input. Says sample profile taking told input (Ok text)) → OnOk r (Appends old new text) → OnOk r (IfSome remaining (λ input. IsReplayed sample profile taking told input old new))
@@ -171,10 +289,3 @@ replay_unwritten (Ok v) remaining profile taking told text sample may_fail says 
 replay_unwritten (Err fault) None profile taking told text sample may_fail says refused = tt
 replay_unwritten (Err fault) (Some input) profile taking told text sample true says refused = rw refused (text, says)
 replay_unwritten (Err fault) (Some input) profile taking told text sample false says refused = rw refused tt
-
--- what is so of the run of a replay that has just begun
-pub at_begun : (P : Config → Result Run Fault → Type 0) (config : Config) (keeps : Bool) (queues : Queues) (began : Replay) → run_of began ≡ begun config keeps queues → began.config ≡ config → P began.config (replayed began.config (4294967295 - began.round) (run_of began)) → P config (replayed config 4294967295 (begun config keeps queues))
-at_begun P config keeps queues began is same so =
-    let none : 4294967295 - began.round ≡ 4294967295 = ap (λ (r : Run). 4294967295 - r.round) is in
-    subst (P config) (ap (λ n. replayed config n (run_of began)) none ∙ ap (λ (r : Run). replayed config 4294967295 r) is)
-    (subst (λ (k : Config). P k (replayed k (4294967295 - began.round) (run_of began))) same so)

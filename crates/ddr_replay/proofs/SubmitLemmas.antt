@@ -1,11 +1,11 @@
 -- One request after another is submitted, until one has to wait.
-use Rattle.std.proofs.Common.{◌≡◌, ◌≢◌, ◌<◌, ◌≤◌, ◌+◌, ℕ, zero, suc, Bool, true, false, cond, List, [], ◌∷◌, Option, None, Some, Ok, Err, length, drop, get_or, set, refl, sym, ap, subst, ◌∙◌, arith}
+use Rattle.std.proofs.Common.{◌≡◌, ◌≢◌, ◌<◌, ◌≤◌, ◌⊎◌, ◌+◌, ℕ, zero, suc, Bool, true, false, cond, List, [], ◌∷◌, Option, None, Some, Result, Ok, Err, IfSome, inl, inr, length, drop, refl, sym, ap, subst, ◌∙◌, arith}
 use Rattle.std.specs.Prelude.{nat_lt}
 use Rattle.std.specs.Option.{option_map_or}
-use Rattle.std.specs.List.{slice_get, slice_set, sum_by}
+use Rattle.std.specs.List.{slice_get, slice_set}
 use Rattle.std.proofs.lemmas.Bool.{lt-ltb, le-ltb}
-use Rattle.std.proofs.lemmas.List.{length-drop}
-use Rattle.std.proofs.lemmas.List.Sums.{sum_by-set}
+use Rattle.std.proofs.lemmas.List.{get_or-set_other, length-drop, set-get_or}
+use Rattle.ddr_timing.specs.declared.config.Config.{Config}
 use Rattle.ddr_address_map.specs.Requests.{Request}
 use Rattle.ddr_ports.specs.Asked.{Asked}
 use Rattle.ddr_ports.specs.State.{refusal_of, request_at}
@@ -24,9 +24,15 @@ use Rattle.ddr_rounds.specs.Rounds.{outstanding}
 use Rattle.ddr_rounds.proofs.StepCounts.{Counted, at_channel_has, at_port_has, either_has, made_counts, maybe_has}
 use Rattle.ddr_stream.specs.declared.ask.Ask.{Ask}
 use Rattle.ddr_stream.specs.Asks.{asked_by}
+use Rattle.ddr_stream.specs.Stream.{Queues, queue_at}
+use Rattle.ddr_stream.specs.Waiting.{All, IsSized, Knows, Waiting, all_in, dropped, popped}
+use Rattle.ddr_stream.proofs.AllLemmas.{all_first, all_popped, all_popped_fault, all_sized}
+use Rattle.ddr_text.specs.declared.fault.Fault.{Fault}
+use Rattle.ddr_replay.specs.Ahead.{Carries, IsSubmitted}
 use Rattle.ddr_replay.specs.Ledgers.{Ledger, with_accepted, with_wait}
 use Rattle.ddr_replay.specs.Runs.{Submitted, accepted_in, after_answer, submitted}
-use Rattle.ddr_replay.specs.Waits.{IsFull}
+use Rattle.ddr_replay.specs.Waits.{IsFull, IsWaiting}
+use Rattle.ddr_replay.proofs.AheadLemmas.{carries_same, same_itself}
 
 -- the first request
 
@@ -180,8 +186,114 @@ submitted_keeps p round (ask ∷ more) s ledger q other =
 pub others_kept : (p round : ℕ) (queue : List Ask) (s : State) (ledger : Ledger) (q : ℕ) → q ≢ p → slice_get (submitted p round queue s ledger).state.ports q ≡ slice_get s.ports q
 others_kept p round queue s ledger q other = submitted_keeps p round queue s ledger q other
 
--- what is left to be submitted of a port, and what is outstanding, are as many as before
-pub counted_on : (left : ℕ) (queues : List (List Ask)) (p : ℕ) (old new : List Ask) (before after : ℕ) → left ≡ sum_by length queues + before → p < length queues → old ≡ get_or queues p old
-    → length new + after ≡ length old + before → left ≡ sum_by length (set queues p new) + after
-counted_on left queues p old new before after is within there count =
-    omega (arith, is, count, sum_by-set length queues p new old within, ap (λ (q : List Ask). length q) there)
+-- ---- of all requests that are left
+
+-- some of a port's were submitted, and these are left
+pub record IsLed (p round : ℕ) (before : State) (old : Ledger) (now : State) (ledger : Ledger) (all next : All) : Type 0 where
+  pub requests : next.requests ≡ all.requests
+  pub rest : List Ask
+  pub queues : next.queues ≡ slice_set all.queues p rest
+  pub led : submitted p round rest now ledger ≡ submitted p round (queue_at all.queues p) before old
+
+abbrev Known : Type 0
+Known = Option (Result All Fault)
+
+abbrev Leading : ℕ → ℕ → State → Ledger → State → Ledger → All → All → Type 0
+Leading p round before old now ledger = λ all next. IsLed p round before old now ledger all next
+
+-- none was
+led_first : (p round : ℕ) (s : State) (ledger : Ledger) (all : All) → IsLed p round s ledger s ledger all all
+led_first p round s ledger all = record {
+  requests = refl;
+  rest = queue_at all.queues p;
+  queues = sym (set-get_or all.queues p []);
+  led = refl;
+}
+
+pub led_start : (p round : ℕ) (s : State) (ledger : Ledger) (a : Known) → Carries (Leading p round s ledger s ledger) a a
+led_start p round s ledger a = carries_same (Leading p round s ledger s ledger) a a (same_itself a) (led_first p round s ledger)
+
+-- the queue of a port that was written
+pub written_here : (queues : Queues) (p : ℕ) (rest : List Ask) → p < length queues → queue_at (slice_set queues p rest) p ≡ rest
+written_here [] p rest within = absurd (omega (arith, within))
+written_here (q ∷ qs) zero rest within = refl
+written_here (q ∷ qs) (suc p) rest within = written_here qs p rest (omega (arith, within))
+
+written_twice : (queues : Queues) (p : ℕ) (first second : List Ask) → slice_set (slice_set queues p first) p second ≡ slice_set queues p second
+written_twice [] p first second = refl
+written_twice (q ∷ qs) zero first second = refl
+written_twice (q ∷ qs) (suc p) first second = ap (λ (rest : Queues). q ∷ rest) (written_twice qs p first second)
+
+written_size : (queues : Queues) (p : ℕ) (rest : List Ask) → length (slice_set queues p rest) ≡ length queues
+written_size [] p rest = refl
+written_size (q ∷ qs) zero rest = refl
+written_size (q ∷ qs) (suc p) rest = ap suc (written_size qs p rest)
+
+-- there are as many queues as ports
+sized_before : (w : Waiting) (more : Option (List ℕ)) (all next : All) (p : ℕ) (rest : List Ask) → IsSized w → p < w.config.limits.ports → next.queues ≡ slice_set all.queues p rest → all_in w more ≡ Some (Ok next) → p < length all.queues
+sized_before w more all next p rest sized within queues is =
+    omega (arith, within, all_sized w more next sized is, ap (λ (qs : Queues). length qs) queues, written_size all.queues p rest)
+
+-- the first of those that are left is the first that waits
+left_first : (w : Waiting) (more : Option (List ℕ)) (all next : All) (p : ℕ) (rest : List Ask) → IsSized w → p < w.config.limits.ports → Knows w p → next.queues ≡ slice_set all.queues p rest → all_in w more ≡ Some (Ok next)
+    → slice_get rest 0 ≡ slice_get (queue_at w.queues p) 0
+left_first w more all next p rest sized within knows queues is =
+    let here : p < length all.queues = sized_before w more all next p rest sized within queues is in
+    ap (λ (q : List Ask). slice_get q 0) (sym (written_here all.queues p rest here) ∙ ap (λ (qs : Queues). queue_at qs p) (sym queues)) ∙ all_first w more next p sized within knows is
+
+-- the port submits no more
+pub led_end : (p round until : ℕ) (before : State) (old : Ledger) (s : State) (ledger : Ledger) (t : State) (after : Ledger) (w : Waiting) (more : Option (List ℕ)) (a : Known) → IsSized w → p < w.config.limits.ports → Knows w p
+    → Carries (Leading p round before old s ledger) a (all_in w more)
+    → ((rest : List Ask) → slice_get rest 0 ≡ slice_get (queue_at w.queues p) 0 → (submitted p round rest s ledger ≡ record { state = t; ledger = after; rest = rest }) × IsWaiting p until round rest t)
+    → Carries (λ all next. IsSubmitted p round until before old t after all next) a (all_in w more)
+led_end p round until before old s ledger t after w more None sized within knows led ends = tt
+led_end p round until before old s ledger t after w more (Some (Err fault)) sized within knows led ends = led
+led_end p round until before old s ledger t after w more (Some (Ok all)) sized within knows led ends =
+    let next = led.0 in
+    let is = led.2 in
+    let last = ends is.rest (left_first w more all next p is.rest sized within knows is.queues led.1) in
+    (next, led.1, record { requests = is.requests; rest = is.rest; queues = is.queues; submitted = sym is.led ∙ last.0; waits = last.1 })
+
+-- one request more was submitted
+pub led_on : (p round : ℕ) (before : State) (old : Ledger) (s : State) (ledger : Ledger) (t : State) (after : Ledger) (w : Waiting) (more : Option (List ℕ)) (a : Known) (ask : Ask) → IsSized w → p < w.config.limits.ports → Some ask ≡ slice_get (queue_at w.queues p) 0
+    → Carries (Leading p round before old s ledger) a (all_in w more)
+    → ((rest : List Ask) → Some ask ≡ slice_get rest 0 → submitted p round (drop 1 rest) t after ≡ submitted p round rest s ledger)
+    → Carries (Leading p round before old t after) a (all_in (popped p w) more)
+led_on p round before old s ledger t after w more None ask sized within first led on = tt
+led_on p round before old s ledger t after w more (Some (Err fault)) ask sized within first led on = all_popped_fault w more fault p led
+led_on p round before old s ledger t after w more (Some (Ok all)) ask sized within first led on =
+    let next = led.0 in
+    let is = led.2 in
+    let some : 0 < length (queue_at w.queues p) = omega (arith, some_left (queue_at w.queues p) ask first) in
+    let here : p < length all.queues = sized_before w more all next p is.rest sized within is.queues led.1 in
+    let rest_first : Some ask ≡ slice_get is.rest 0 = first ∙ sym (left_first w more all next p is.rest sized within (inl some) is.queues led.1) in
+    let queues : (dropped p next).queues ≡ slice_set all.queues p (drop 1 is.rest) =
+    ap (λ (qs : Queues). slice_set qs p (drop 1 (queue_at qs p))) is.queues
+    ∙ ap (λ (q : List Ask). slice_set (slice_set all.queues p is.rest) p (drop 1 q)) (written_here all.queues p is.rest here)
+    ∙ written_twice all.queues p is.rest (drop 1 is.rest) in (
+      dropped p next,
+      all_popped w more next p sized some led.1,
+      record { requests = is.requests; rest = drop 1 is.rest; queues = queues; led = on is.rest rest_first ∙ is.led },
+    )
+
+-- ---- what a port waits for
+
+pub waits_later : (p round : ℕ) (rest : List Ask) (ask : Ask) (s : State) → Some ask ≡ slice_get rest 0 → IsWaiting p ask.at round rest s
+waits_later p round rest ask s first = λ ahead. subst (λ o. IfSome o (λ (x : Ask). (ask.at ≤ x.at) ⊎ ((x.at ≤ round) × IsFull p x s))) first (inl (omega arith))
+
+pub waits_full : (p until round : ℕ) (rest : List Ask) (ask : Ask) (s : State) → Some ask ≡ slice_get rest 0 → ask.at ≤ round → IsFull p ask s → IsWaiting p until round rest s
+waits_full p until round rest ask s first come full = λ ahead. subst (λ o. IfSome o (λ (x : Ask). (until ≤ x.at) ⊎ ((x.at ≤ round) × IsFull p x s))) first (inr (come, full))
+
+pub waits_none : (p until round : ℕ) (rest : List Ask) (s : State) → None ≡ slice_get rest 0 → IsWaiting p until round rest s
+waits_none p until round rest s none = λ ahead. subst (λ o. IfSome o (λ (x : Ask). (until ≤ x.at) ⊎ ((x.at ≤ round) × IsFull p x s))) none tt
+
+-- ---- what is known of ports
+
+pub port_within : (w : Waiting) (config : Config) (p : ℕ) → w.config ≡ config → p < config.limits.ports → p < w.config.limits.ports
+port_within w config p same within = omega (arith, within, ap (λ (k : Config). k.limits.ports) same)
+
+pub popped_knows : (w : Waiting) (p q : ℕ) → q ≢ p → Knows w q → Knows (popped p w) q
+popped_knows w p q other (inl some) =
+    let same : queue_at (slice_set w.queues p (drop 1 (queue_at w.queues p))) q ≡ queue_at w.queues q = get_or-set_other w.queues p q (drop 1 (queue_at w.queues p)) [] other in
+    inl (subst (λ (queue : List Ask). 0 < length queue) (sym same) some)
+popped_knows w p q other (inr ended) = inr ended

@@ -1,92 +1,181 @@
--- How a turn leads on along a replay.
-use Rattle.std.proofs.Common.{◌≡◌, ◌<◌, ◌≤◌, ◌-◌, ◌+◌, ℕ, zero, suc, false, Some, Result, Ok, Err, IfErr, OnOk, refl, sym, ap, ap₂, subst, ◌∙◌, arith}
+-- How a turn leads on along a replay, also by the requests that were not read.
+use Rattle.std.proofs.Common.{◌≡◌, ◌<◌, ◌≤◌, ◌-◌, ◌+◌, ℕ, zero, suc, false, List, [], ◌∷◌, Option, Some, Result, Ok, Err, IfErr, OnOk, length, refl, sym, ap, subst, ◌∙◌, arith}
 use Rattle.std.specs.Prelude.{◌==◌}
+use Rattle.std.specs.List.{slice_get, sum_by}
+use Rattle.std.proofs.lemmas.Bool.{eqb-false, ne_eqb}
 use Rattle.ddr_timing.specs.declared.config.Config.{Config}
 use Rattle.ddr_world.specs.Kept.{state_of}
 use Rattle.ddr_world.specs.Quiet.{passed}
 use Rattle.ddr_world.specs.State.{State}
 use Rattle.ddr_text.specs.declared.fault.Fault.{Fault}
+use Rattle.ddr_text.specs.declared.fault.Fault.TheVariants as faults
 use Rattle.ddr_rounds.specs.Rounds.{channels_served}
 use Rattle.ddr_rounds.specs.Drains.{is_draining}
+use Rattle.ddr_stream.specs.declared.ask.Ask.{Ask}
+use Rattle.ddr_stream.specs.Stream.{Queues, queue_at}
+use Rattle.ddr_stream.specs.Waiting.{All, IsAhead, IsSized, Waiting, all_in}
+use Rattle.ddr_stream.proofs.AllLemmas.{all_first, all_least, all_sized}
+use Rattle.ddr_replay.specs.Ahead.{AreSubmitted, Carries, IsCutOff, IsStopped, Leads, LeadsAlike}
 use Rattle.ddr_replay.specs.Drains.{all_drained}
 use Rattle.ddr_replay.specs.Ledgers.{Ledger}
 use Rattle.ddr_replay.specs.Runs.{Run, ports_submitted, replayed, round_made, unserved}
-use Rattle.ddr_stream.specs.Stream.{Queues}
-use Rattle.ddr_replay.specs.View.{IsCycleFault, IsRunFault, Replay, run_of}
-use Rattle.ddr_replay.specs.Waits.{AreQuiet, AreWaiting, all_full, come_of}
-use Rattle.ddr_replay.proofs.QuietLemmas.{turn_failed, turn_made, turns_passed}
+use Rattle.ddr_replay.specs.View.{IsCycleFault, Replay, run_of, whole_run}
+use Rattle.ddr_replay.specs.Waits.{AreQuiet, all_full, come_of, has_come}
+use Rattle.ddr_replay.proofs.AheadLemmas.{carries_same, carries_with, same_itself}
+use Rattle.ddr_replay.proofs.QuietLemmas.{replayed_limit, turn_failed, turn_made, turns_passed}
+use Rattle.ddr_replay.proofs.RoundLemmas.{ports_count}
+use Rattle.ddr_replay.proofs.WaitedLemmas.{all_alike}
 
 abbrev MOST : ℕ
 MOST = 4294967295
 
--- a port that submits makes no round
-same_round : (n : ℕ) (run : Run) → (ports_submitted n run).round ≡ run.round
-same_round zero run = refl
-same_round (suc p) run = same_round p run
+abbrev Known : Type 0
+Known = Option (Result All Fault)
+
+is_some : (n : ℕ) → (n == 0) ≡ false → 0 < n
+is_some n some =
+    let other : (n ≡ 0 → ⊥) = eqb-false n 0 some in
+    omega (arith, other)
+
+not_none : (n : ℕ) → 0 < n → (n == 0) ≡ false
+not_none n some = ne_eqb n 0 (λ none. omega (arith, some, none))
+
+-- where a request that was read is to be served, one of all is
+busy_whole : (r : Replay) (queues : Queues) → sum_by length r.stream.queues ≤ sum_by length queues → (unserved (run_of r) == 0) ≡ false → (unserved (whole_run r queues) == 0) ≡ false
+busy_whole r queues most busy = not_none (unserved (whole_run r queues)) (omega (arith, most, is_some (unserved (run_of r)) busy))
+
+still_busy : (n : ℕ) (run next : Run) → n ≤ length run.queues → ports_submitted n run ≡ next → (unserved run == 0) ≡ false → (unserved next == 0) ≡ false
+still_busy n run next within is busy = ap (λ (r : Run). unserved r == 0) (sym is) ∙ ap (λ k. k == 0) (ports_count n run within) ∙ busy
+
+-- a port whose next request is the same
+come_first : (round : ℕ) (a b : List Ask) → slice_get a 0 ≡ slice_get b 0 → has_come round a ≡ has_come round b
+come_first round [] [] same = refl
+come_first round [] (y ∷ ys) same = absurd (let impossible = same in cc)
+come_first round (x ∷ xs) [] same = absurd (let impossible = same in cc)
+come_first round (x ∷ xs) (y ∷ ys) same =
+    let here : x ≡ y = cc in
+    ap (λ (ask : Ask). has_come round (ask ∷ [])) here
 
 -- what the ports have submitted
 pub record IsReady (old ready : Replay) : Type 0 where
-  pub run : run_of ready ≡ ports_submitted old.config.limits.ports (run_of old)
-  pub count : unserved (run_of ready) ≡ unserved (run_of old)
   pub config : ready.config ≡ old.config
+  pub round : ready.round ≡ old.round
 
-pub ready_round : (old ready : Replay) → IsReady old ready → ready.round ≡ old.round
-ready_round old ready is = ap (λ (r : Run). r.round) is.run ∙ same_round old.config.limits.ports (run_of old)
+-- what is known of the requests that are left where those of all are
+pub record IsBusy (old : Replay) (all : All) : Type 0 where
+  pub size : length all.queues ≡ old.config.limits.ports
+  pub some : (unserved (whole_run old all.queues) == 0) ≡ false
 
-still_busy : (old ready : Replay) → IsReady old ready → (unserved (run_of old) == 0) ≡ false → (unserved (run_of ready) == 0) ≡ false
-still_busy old ready is busy = ap (λ n. n == 0) is.count ∙ busy
+is_busy : (old : Replay) (more : Option (List ℕ)) (all : All) → IsSized old.stream → old.stream.config ≡ old.config → (unserved (run_of old) == 0) ≡ false → all_in old.stream more ≡ Some (Ok all) → IsBusy old all
+is_busy old more all sized config busy is = record {
+  size = all_sized old.stream more all sized is ∙ ap (λ (c : Config). c.limits.ports) config;
+  some = busy_whole old all.queues (all_least old.stream more all is) busy;
+}
 
 -- a round was made
-pub made_on : (old ready new : Replay) → IsReady old ready → (unserved (run_of old) == 0) ≡ false → round_made ready.config (run_of ready) ≡ Some (run_of new) → ready.round < MOST → new.round ≡ ready.round + 1
-    → replayed old.config (MOST - old.round) (run_of old) ≡ replayed old.config (MOST - new.round) (run_of new)
-made_on old ready new is busy made some next =
-    let same = ready_round old ready is in
-    let one : MOST - old.round ≡ suc (MOST - new.round) = omega (arith, same, some, next) in
-    turn_made old.config (MOST - old.round) (MOST - new.round) (run_of old) (run_of new) one busy
-    (ap (λ (r : Run). round_made old.config r) (sym is.run) ∙ ap (λ (k : Config). round_made k (run_of ready)) (sym is.config) ∙ made)
+made_on : (old ready new : Replay) (all next : All) → IsReady old ready → IsBusy old all → Leads (ports_submitted old.config.limits.ports) old ready all next → round_made ready.config (whole_run ready next.queues) ≡ Some (whole_run new next.queues) → ready.round < MOST → new.round ≡ ready.round + 1
+    → LeadsAlike old.config (MOST - old.round) (MOST - new.round) old new all next
+made_on old ready new all next is busy led made some behind =
+    let one : MOST - old.round ≡ suc (MOST - new.round) = omega (arith, is.round, some, behind) in
+    record {
+      requests = led.requests;
+      run = turn_made old.config (MOST - old.round) (MOST - new.round) (whole_run old all.queues) (whole_run new next.queues) one busy.some
+          (ap (λ (r : Run). round_made old.config r) led.run ∙ ap (λ (k : Config). round_made k (whole_run ready next.queues)) (sym is.config) ∙ made);
+    }
 
 -- so many quiet ones were
-pub passed_on : (old ready new : Replay) (count until : ℕ) → IsReady old ready → (unserved (run_of old) == 0) ≡ false → 0 < count → AreQuiet ready.config count (state_of ready.world) → AreWaiting old.config.limits.ports until (run_of ready) → ready.round + count ≤ until → count ≤ MOST - ready.round
-    → state_of new.world ≡ passed count (state_of ready.world) → new.round ≡ ready.round + count → new.queues ≡ ready.queues → new.ledger ≡ all_drained count (is_draining (state_of new.world)) ready.config.geometry.channels (all_full (count - 1) (come_of ready.round ready.queues) ready.config.limits.ports ready.ledger) → replayed old.config (MOST - old.round) (run_of old) ≡ replayed old.config (MOST - new.round) (run_of new)
-passed_on old ready new zero until is busy some are waits within most state round queues ledger = absurd (omega (arith, some))
-passed_on old ready new (suc k) until is busy some are waits within most state round queues ledger =
-    let same = ready_round old ready is in
-    let come = come_of ready.round ready.queues in
-    let counted : State → Ledger = λ s. all_drained (suc k) (is_draining s) old.config.geometry.channels (all_full k come old.config.limits.ports ready.ledger) in
+passed_on : (old ready new : Replay) (count until : ℕ) (all next : All) → IsReady old ready → IsBusy old all → AreSubmitted old.config.limits.ports until old ready all next → 0 < count → AreQuiet ready.config count (state_of ready.world) → ready.round + count ≤ until → count ≤ MOST - ready.round
+    → ((p : ℕ) → p < old.config.limits.ports → come_of ready.round ready.stream.queues p ≡ come_of ready.round next.queues p)
+    → state_of new.world ≡ passed count (state_of ready.world) → new.round ≡ ready.round + count → new.ledger ≡ all_drained count (is_draining (state_of new.world)) ready.config.geometry.channels (all_full (count - 1) (come_of ready.round ready.stream.queues) ready.config.limits.ports ready.ledger)
+    → LeadsAlike old.config (MOST - old.round) (MOST - new.round) old new all next
+passed_on old ready new zero until all next is busy led some are within most alike state round ledger = absurd (omega (arith, some))
+passed_on old ready new (suc k) until all next is busy led some are within most alike state round ledger =
+    let ports = old.config.limits.ports in
+    let read = come_of ready.round ready.stream.queues in
+    let come = come_of ready.round next.queues in
+    let counted : State → Ledger = λ s. all_drained (suc k) (is_draining s) old.config.geometry.channels (all_full k come ports ready.ledger) in
     let after = counted (passed (suc k) (state_of ready.world)) in
     let one_less : suc k - 1 ≡ k = omega arith in
     let ledger_is : new.ledger ≡ after =
     ledger
-    ∙ ap (λ n. all_drained (suc k) (is_draining (state_of new.world)) ready.config.geometry.channels (all_full n come ready.config.limits.ports ready.ledger)) one_less
-    ∙ ap (λ (c : Config). all_drained (suc k) (is_draining (state_of new.world)) c.geometry.channels (all_full k come c.limits.ports ready.ledger)) is.config
+    ∙ ap (λ n. all_drained (suc k) (is_draining (state_of new.world)) ready.config.geometry.channels (all_full n read ready.config.limits.ports ready.ledger)) one_less
+    ∙ ap (λ (c : Config). all_drained (suc k) (is_draining (state_of new.world)) c.geometry.channels (all_full k read c.limits.ports ready.ledger)) is.config
+    ∙ ap (all_drained (suc k) (is_draining (state_of new.world)) old.config.geometry.channels) (all_alike k ports read come ready.ledger alike)
     ∙ ap counted state in
-    let all : MOST - old.round ≡ suc ((MOST - new.round) + k) = omega (arith, same, most, round) in
-    turns_passed old.config (MOST - old.round) (MOST - new.round) k until (run_of old) (run_of ready) all busy (still_busy old ready is busy) is.run
-    (subst (λ (c : Config). AreQuiet c (suc k) (state_of ready.world)) is.config are) waits within
-    ∙ ap (λ (s : State). replayed old.config (MOST - new.round) (record { state = s; queues = ready.queues; ledger = after; round = ready.round + suc k })) (sym state)
-    ∙ ap₂ (λ (qs : Queues) (r : ℕ). replayed old.config (MOST - new.round) (record { state = state_of new.world; queues = qs; ledger = after; round = r })) (sym queues) (sym round)
-    ∙ ap (λ (l : Ledger). replayed old.config (MOST - new.round) (record { state = state_of new.world; queues = new.queues; ledger = l; round = new.round })) (sym ledger_is)
+    let all_left : MOST - old.round ≡ suc ((MOST - new.round) + k) = omega (arith, is.round, most, round) in
+    let still = still_busy ports (whole_run old all.queues) (whole_run ready next.queues) (omega (arith, busy.size)) led.leads.run busy.some in
+    record {
+      requests = led.leads.requests;
+      run = turns_passed old.config (MOST - old.round) (MOST - new.round) k until (whole_run old all.queues) (whole_run ready next.queues) all_left busy.some still (sym led.leads.run)
+          (subst (λ (c : Config). AreQuiet c (suc k) (state_of ready.world)) is.config are) led.waits within
+          ∙ ap (λ (s : State). replayed old.config (MOST - new.round) (record { state = s; queues = next.queues; ledger = after; round = ready.round + suc k })) (sym state)
+          ∙ ap (λ (r : ℕ). replayed old.config (MOST - new.round) (record { state = state_of new.world; queues = next.queues; ledger = after; round = r })) (sym round)
+          ∙ ap (λ (l : Ledger). replayed old.config (MOST - new.round) (record { state = state_of new.world; queues = next.queues; ledger = l; round = new.round })) (sym ledger_is);
+    }
 
--- the channels' part failed
-pub failed_on : (old ready : Replay) (fault : Fault) → IsReady old ready → (unserved (run_of old) == 0) ≡ false → ready.round < MOST → IsCycleFault fault (channels_served ready.config.geometry.channels (state_of ready.world)) → IsRunFault old.config fault (replayed old.config (MOST - old.round) (run_of old))
-failed_on old ready fault is busy some failed =
-    let same = ready_round old ready is in
-    let one : MOST - old.round ≡ suc (MOST - old.round - 1) = omega (arith, same, some) in
-    turn_failed old.config (MOST - old.round) (MOST - old.round - 1) (run_of old) (run_of ready) fault one busy is.run
-    (subst (λ (c : Config). IsCycleFault fault (channels_served c.geometry.channels (state_of ready.world))) is.config failed)
+-- ---- of all requests, where those are known
 
--- by what making a round answered
+module _ (old ready : Replay) (until : ℕ) (before behind : Option (List ℕ)) where
+  abbrev pub AreReady : Type 0
+  AreReady = Carries (λ all next. AreSubmitted old.config.limits.ports until old ready all next) (all_in old.stream before) (all_in ready.stream behind)
 
-pub made_turn : (old ready new : Replay) (r : Result (Unit {0}) Fault) → IsReady old ready → (unserved (run_of old) == 0) ≡ false → ready.round < 4294967295 → OnOk r (round_made ready.config (run_of ready) ≡ Some (run_of new)) → OnOk r (new.round ≡ ready.round + 1)
-    → OnOk r (replayed old.config (4294967295 - old.round) (run_of old) ≡ replayed old.config (4294967295 - new.round) (run_of new))
-made_turn old ready new (Ok v) is busy some made next = made_on old ready new is busy made some next
-made_turn old ready new (Err fault) is busy some made next = tt
+  abbrev Alike : Replay → All → All → Type 0
+  Alike new = λ all next. LeadsAlike old.config (MOST - old.round) (MOST - new.round) old new all next
 
-pub more_made : (a b d : ℕ) (r : Result (Unit {0}) Fault) → b ≡ a → OnOk r (d ≡ b + 1) → OnOk r (a < d)
-more_made a b d (Ok v) same next = omega (arith, same, next)
-more_made a b d (Err fault) same next = tt
+  same_stream : (new : Replay) → new.stream ≡ ready.stream → Carries (Alike new) (all_in old.stream before) (all_in ready.stream behind) → Carries (Alike new) (all_in old.stream before) (all_in new.stream behind)
+  same_stream new same so = subst (λ (w : Waiting). Carries (Alike new) (all_in old.stream before) (all_in w behind)) (sym same) so
 
-pub failed_turn : (old ready : Replay) (r : Result (Unit {0}) Fault) → IsReady old ready → (unserved (run_of old) == 0) ≡ false → ready.round < 4294967295 → IfErr r (λ fault. IsCycleFault fault (channels_served ready.config.geometry.channels (state_of ready.world)))
-    → IfErr r (λ fault. IsRunFault old.config fault (replayed old.config (4294967295 - old.round) (run_of old)))
-failed_turn old ready (Ok v) is busy some failed = tt
-failed_turn old ready (Err fault) is busy some failed = failed_on old ready fault is busy some failed
+  -- quiet rounds were made
+  pub passed_turn : (new : Replay) (count : ℕ) → AreReady → IsReady old ready → IsSized old.stream → old.stream.config ≡ old.config → (unserved (run_of old) == 0) ≡ false → IsSized ready.stream → ready.stream.config ≡ ready.config → IsAhead ready.stream
+      → 0 < count → AreQuiet ready.config count (state_of ready.world) → ready.round + count ≤ until → count ≤ MOST - ready.round
+      → state_of new.world ≡ passed count (state_of ready.world) → new.round ≡ ready.round + count → new.stream ≡ ready.stream → new.ledger ≡ all_drained count (is_draining (state_of new.world)) ready.config.geometry.channels (all_full (count - 1) (come_of ready.round ready.stream.queues) ready.config.limits.ports ready.ledger)
+      → Carries (Alike new) (all_in old.stream before) (all_in new.stream behind)
+  passed_turn new count led is sized config busy ready_sized ready_config ahead some are within most state round stream ledger =
+      let ports_are : ready.stream.config.limits.ports ≡ old.config.limits.ports = ap (λ (c : Config). c.limits.ports) (ready_config ∙ is.config) in
+      same_stream new stream
+      (carries_with (λ all next. AreSubmitted old.config.limits.ports until old ready all next) (Alike new) (all_in old.stream before) (all_in ready.stream behind) led (λ all next here there submitted.
+      passed_on old ready new count until all next is (is_busy old before all sized config busy here) submitted some are within most
+      (λ p below.
+      let within_ports : p < ready.stream.config.limits.ports = omega (arith, below, ports_are) in
+      come_first ready.round (queue_at ready.stream.queues p) (queue_at next.queues p) (sym (all_first ready.stream behind next p ready_sized within_ports (ahead p within_ports) there)))
+      state round ledger))
+
+  -- by what making a round answered
+  pub made_turn : (new : Replay) (r : Result (Unit {0}) Fault) → AreReady → IsReady old ready → IsSized old.stream → old.stream.config ≡ old.config → (unserved (run_of old) == 0) ≡ false → ready.round < 4294967295
+      → OnOk r ((queues : Queues) → round_made ready.config (whole_run ready queues) ≡ Some (whole_run new queues)) → OnOk r (new.round ≡ ready.round + 1) → new.stream ≡ ready.stream → OnOk r (Carries (Alike new) (all_in old.stream before) (all_in new.stream behind))
+  made_turn new (Ok v) led is sized config busy some made next stream =
+      same_stream new stream
+      (carries_with (λ all next. AreSubmitted old.config.limits.ports until old ready all next) (Alike new) (all_in old.stream before) (all_in ready.stream behind) led (λ all after here there submitted.
+      made_on old ready new all after is (is_busy old before all sized config busy here) submitted.leads (made after.queues) some next))
+  made_turn new (Err fault) led is sized config busy some made next stream = tt
+
+  failed_on : (fault : Fault) (all next : All) → IsReady old ready → IsBusy old all → Leads (ports_submitted old.config.limits.ports) old ready all next → ready.round < MOST → IsCycleFault fault (channels_served ready.config.geometry.channels (state_of ready.world)) → IsCutOff old.config (MOST - old.round) old fault all
+  failed_on fault all next is busy led some failed =
+      let one : MOST - old.round ≡ suc (MOST - old.round - 1) = omega (arith, is.round, some) in
+      turn_failed old.config (MOST - old.round) (MOST - old.round - 1) (whole_run old all.queues) (whole_run ready next.queues) fault one busy.some (sym led.run)
+      (subst (λ (c : Config). IsCycleFault fault (channels_served c.geometry.channels (state_of ready.world))) is.config failed)
+
+  cut_at : (new : Replay) (fault : Fault) → AreReady → IsReady old ready → IsSized old.stream → old.stream.config ≡ old.config → (unserved (run_of old) == 0) ≡ false → ready.round < MOST → new.stream ≡ ready.stream → IsCycleFault fault (channels_served ready.config.geometry.channels (state_of ready.world))
+      → Carries (λ all next. IsCutOff old.config (MOST - old.round) old fault all) (all_in old.stream before) (all_in new.stream behind)
+  cut_at new fault led is sized config busy some stream failed =
+      subst (λ (w : Waiting). Carries (λ all next. IsCutOff old.config (MOST - old.round) old fault all) (all_in old.stream before) (all_in w behind)) (sym stream)
+      (carries_with (λ all next. AreSubmitted old.config.limits.ports until old ready all next) (λ all next. IsCutOff old.config (MOST - old.round) old fault all) (all_in old.stream before) (all_in ready.stream behind) led (λ all next here there submitted.
+      failed_on fault all next is (is_busy old before all sized config busy here) submitted.leads some failed))
+
+  stopped_at : (new : Replay) (fault : Fault) → AreReady → IsReady old ready → IsSized old.stream → old.stream.config ≡ old.config → (unserved (run_of old) == 0) ≡ false → ready.round < MOST → new.stream ≡ ready.stream → IsCycleFault fault (channels_served ready.config.geometry.channels (state_of ready.world))
+      → IsStopped old.config (MOST - old.round) old fault (all_in old.stream before) (all_in new.stream behind)
+  stopped_at new faults.ClockSpent led is sized config busy some stream failed = cut_at new faults.ClockSpent led is sized config busy some stream failed
+  stopped_at new faults.OutOfMemory led is sized config busy some stream failed = tt
+  stopped_at new _ led is sized config busy some stream failed = absurd failed
+
+  pub failed_turn : (new : Replay) (r : Result (Unit {0}) Fault) → AreReady → IsReady old ready → IsSized old.stream → old.stream.config ≡ old.config → (unserved (run_of old) == 0) ≡ false → ready.round < 4294967295 → new.stream ≡ ready.stream
+      → IfErr r (λ fault. IsCycleFault fault (channels_served ready.config.geometry.channels (state_of ready.world))) → IfErr r (λ fault. IsStopped old.config (MOST - old.round) old fault (all_in old.stream before) (all_in new.stream behind))
+  failed_turn new (Ok v) led is sized config busy some stream failed = tt
+  failed_turn new (Err fault) led is sized config busy some stream failed = stopped_at new fault led is sized config busy some stream failed
+
+-- no round more may be made
+pub limit_reached : (old : Replay) (more : Option (List ℕ)) → IsSized old.stream → old.stream.config ≡ old.config → (unserved (run_of old) == 0) ≡ false → old.round ≡ MOST → IsStopped old.config (MOST - old.round) old faults.ReplayLimit (all_in old.stream more) (all_in old.stream more)
+limit_reached old more sized config busy last =
+    let none : MOST - old.round ≡ 0 = omega (arith, last) in
+    carries_with (λ all next. Unit {0}) (λ all next. IsCutOff old.config (MOST - old.round) old faults.ReplayLimit all) (all_in old.stream more) (all_in old.stream more) (carries_same (λ all next. Unit {0}) (all_in old.stream more) (all_in old.stream more) (same_itself (all_in old.stream more)) (λ all. tt))
+    (λ all next here there so. replayed_limit old.config (MOST - old.round) (whole_run old all.queues) none (is_busy old more all sized config busy here).some)

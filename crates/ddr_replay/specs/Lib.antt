@@ -1,3 +1,4 @@
+pub mod Ahead
 pub mod Drains
 pub mod Drampower
 pub mod Found
@@ -8,8 +9,8 @@ pub mod Places
 pub mod Replays
 pub mod Report
 pub mod Runs
-pub mod Stuck
 pub mod ServedText
+pub mod Stuck
 pub mod Taken
 pub mod Times
 pub mod TimesReport

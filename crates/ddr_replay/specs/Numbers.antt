@@ -1,12 +1,10 @@
 -- What a replay comes to, in numbers.
-use Rattle.std.specs.Prelude.{◌≡◌, ℕ, ◌==◌, max, Bool, true, false, List, count_by, map, fold, slice_get, Result, Ok, Err}
+use Rattle.std.specs.Prelude.{◌≡◌, ℕ, ◌==◌, max, Bool, true, false, List, map, fold, slice_get, Result, Ok, Err}
 use Rattle.std.specs.List.{list_any, range_with_len}
 use Rattle.std.specs.Option.{option_map_or}
 use Rattle.ddr_timing.specs.declared.config.Config.{Config}
 use Rattle.ddr_timing.specs.declared.units.TheConstants.{CLOCK_STOP}
 use Rattle.ddr_trace.specs.declared.command.Entry.{Entry}
-use Rattle.ddr_address_map.specs.declared.request.Kind.{Kind}
-use Rattle.ddr_address_map.specs.declared.request.Kind.TheVariants.{Read, Write}
 use Rattle.ddr_statistics.specs.declared.counts.Counts.{Counts}
 use Rattle.ddr_statistics.specs.Counts.{counts_of, is_any}
 use Rattle.ddr_statistics.specs.Debts.{debts_most}
@@ -15,29 +13,16 @@ use Rattle.ddr_statistics.specs.Turns as turns
 use Rattle.ddr_world.specs.State.{State}
 use Rattle.ddr_text.specs.declared.fault.Fault.{Fault}
 use Rattle.ddr_text.specs.declared.fault.Fault.TheVariants.{ClockSpent, OutOfMemory}
-use Rattle.ddr_stream.specs.declared.ask.Ask.{Ask}
 use Rattle.ddr_replay.specs.declared.numbers.Numbers.{Numbers}
-use Rattle.ddr_replay.specs.declared.numbers.Requests.{Requests}
+use Rattle.ddr_stream.specs.declared.requests.Requests.{Requests}
+use Rattle.ddr_stream.specs.Requests.{no_requests}
 
-abbrev pub is_kind : Kind → Kind → Bool
-is_kind Read Read = true
-is_kind Write Write = true
-is_kind _ _ = false
-
--- how many requests are of a kind
-abbrev pub of_kind : Kind → List Ask → ℕ
-of_kind kind asks = count_by (λ ask. is_kind ask.kind kind) asks
-
--- those of a port
-abbrev pub requests_in : List Ask → Requests
-requests_in asks = record { reads = of_kind Read asks; writes = of_kind Write asks }
-
--- those of two together
+-- the requests of two together
 abbrev pub both : Requests → Requests → Requests
 both a b = record { reads = raised b.reads a.reads; writes = raised b.writes a.writes }
 
 abbrev pub many : List Requests → Requests
-many requests = fold both (record { reads = 0; writes = 0 }) requests
+many requests = fold both no_requests requests
 
 -- the numbers of a trace of a channel so configured, which begins in cycle 0 and ends before this one
 unfoldable pub numbers_in : Config → ℕ → List Entry → Numbers

@@ -1,8 +1,7 @@
 -- What the command `replay` writes, and by which faults it ends.
-use Rattle.std.specs.Prelude.{◌≡◌, ℕ, ◌<◌, ◌≤◌, Bool, true, false, nat_le, if◌then◌else◌, List, [], drop, length, map, max, slice_get, Option, Result, Ok, Err}
+use Rattle.std.specs.Prelude.{◌≡◌, ◌⊎◌, ℕ, Bool, true, false, nat_le, if◌then◌else◌, List, [], drop, map, max, slice_get, Option, Result, Ok, Err}
 use Rattle.std.specs.Io.KnownBytes.{Appends}
 use Rattle.std.specs.Option.{option_map_or}
-use Rattle.std.specs.Str.{IsUtf8}
 use Rattle.ddr_timing.specs.declared.config.Config.{Config}
 use Rattle.ddr_text.specs.declared.fault.Fault.{Fault}
 use Rattle.ddr_text.specs.declared.fault.Fault.TheVariants as faults
@@ -12,18 +11,18 @@ use Rattle.ddr_replay.specs.declared.wanted.Wanted.{Wanted}
 use Rattle.ddr_replay.specs.declared.wanted.Wanted.TheVariants as told
 use Rattle.ddr_trace.specs.Text.{trace_text}
 use Rattle.ddr_world.specs.State.{State}
-use Rattle.ddr_text.specs.Body.{HasParts, IsRefused, parts_of}
+use Rattle.ddr_capture.specs.Front.{IsConfigRefused, IsOpened}
 use Rattle.ddr_text.specs.Instructions.{◌>>>◌}
 use Rattle.ddr_replay.specs.declared.replaying.TheConstants.{MOST_ROUNDS}
-use Rattle.ddr_stream.specs.declared.stream.TheConstants.{LONGEST_STREAM}
-use Rattle.ddr_replay.specs.declared.numbers.Requests.{Requests}
+use Rattle.ddr_stream.specs.declared.requests.Requests.{Requests}
+use Rattle.ddr_stream.specs.Requests.{requests_in}
 use Rattle.ddr_measure.specs.Series.{series_text}
 use Rattle.ddr_measure.specs.Text.{measured_text}
 use Rattle.ddr_measure.specs.declared.timed.Timed.{Timed}
 use Rattle.ddr_replay.specs.Drampower.{drampower_text}
 use Rattle.ddr_replay.specs.Found.{findings_of}
 use Rattle.ddr_replay.specs.Measured.{timed_of}
-use Rattle.ddr_replay.specs.Numbers.{is_any_spent, requests_in}
+use Rattle.ddr_replay.specs.Numbers.{is_any_spent}
 use Rattle.ddr_replay.specs.Report.{report_text}
 use Rattle.ddr_replay.specs.Runs.{Run, begun, replayed}
 use Rattle.ddr_replay.specs.ServedText.{served_text}
@@ -109,6 +108,7 @@ abbrev pub IsSaid : {X : Type 0} → (X → List ℕ) → Result X Fault → Res
 IsSaid view (Ok x) said = said ≡ Ok (view x)
 IsSaid view (Err (faults.ReplayLine line cause)) said = said ≡ Err (faults.ReplayLine line cause)
 IsSaid view (Err (faults.ReplayRange line)) said = said ≡ Err (faults.ReplayRange line)
+IsSaid view (Err faults.InputTooLong) said = said ≡ Err faults.InputTooLong
 IsSaid view (Err faults.TraceNoSuch) said = said ≡ Err faults.TraceNoSuch
 IsSaid view (Err faults.ReplayLimit) said = said ≡ Err faults.ReplayLimit
 IsSaid view (Err faults.ClockSpent) said = said ≡ Err faults.ClockSpent
@@ -122,34 +122,24 @@ IsCounted view (Err faults.ClockSpent) said = said ≡ Err faults.ClockSpent
 IsCounted view (Err faults.OutOfMemory) said = Unit {0}
 IsCounted view (Err _) said = ⊥
 
--- what is answered, seen by the view, is what the body says, or its replay can go on no more
+-- what is answered, seen by the view, is what the body says, or its replay can go on no more; reading fails by itself
 abbrev pub IsReported : {X : Type 0} → (X → List ℕ) → Config → Taking → Wanted → List ℕ → Result X Fault → Type 0
 IsReported view config taking told body (Err (faults.ReplayStuck cycle)) = IsStuckBody config taking (keeps_served told) body cycle
+IsReported view config taking told body (Err faults.Read) = Unit {0}
 IsReported view config taking told body result = IsSaid view result (report_of config taking told body)
-
--- the input is short enough, and a text
-pub record IsStream (input : List ℕ) : Type 0 where
-  pub short : length input ≤ LONGEST_STREAM
-  pub utf8 : IsUtf8 input
-
--- the input is short enough, and no text
-abbrev pub IsNoStream : List ℕ → Type 0
-IsNoStream input = (length input ≤ LONGEST_STREAM) × (¬ IsUtf8 input)
 
 -- what an input says: what is to be told of its body under its configuration, or why there is none
 pub record Says (sample : Bool) (profile : List ℕ) (taking : Taking) (told : Wanted) (input : List ℕ) (said : Result (List ℕ) Fault) : Type 0 where
-  pub text : IsStream input
   pub config : Config
   pub body : List ℕ
-  pub opened : HasParts (parts_of sample profile input) config body
+  pub opened : IsOpened sample profile config input body
   pub report : report_of config taking told body ≡ said
 
 -- an input whose replay can go on no more from this cycle on
 pub record IsStuckInput (sample : Bool) (profile : List ℕ) (taking : Taking) (told : Wanted) (input : List ℕ) (cycle : ℕ) : Type 0 where
-  pub text : IsStream input
   pub config : Config
   pub body : List ℕ
-  pub opened : HasParts (parts_of sample profile input) config body
+  pub opened : IsOpened sample profile config input body
   pub stuck : IsStuckBody config taking (keeps_served told) body cycle
 
 -- what a replay without a fault writes
@@ -162,8 +152,8 @@ pub record IsReplayed (sample : Bool) (profile : List ℕ) (taking : Taking) (to
 abbrev pub HasReport : Bool → List ℕ → Taking → Wanted → List ℕ → Type 0
 HasReport sample profile taking told input = (text : List ℕ) × Says sample profile taking told input (Ok text)
 
--- the input has the fault that a replay ends by; where writing fails it has a report, and taking and memory fail by
--- themselves
+-- the input has the fault that a replay ends by, in its configuration or behind it; where writing fails it has a report, and reading and
+-- memory fail by themselves
 abbrev pub HasReplayFault : Bool → List ℕ → Taking → Wanted → List ℕ → Fault → Type 0
 HasReplayFault sample profile taking told input (faults.ReplayLine line cause) = Says sample profile taking told input (Err (faults.ReplayLine line cause))
 HasReplayFault sample profile taking told input (faults.ReplayRange line) = Says sample profile taking told input (Err (faults.ReplayRange line))
@@ -171,9 +161,8 @@ HasReplayFault sample profile taking told input faults.TraceNoSuch = Says sample
 HasReplayFault sample profile taking told input faults.ReplayLimit = Says sample profile taking told input (Err faults.ReplayLimit)
 HasReplayFault sample profile taking told input (faults.ReplayStuck cycle) = IsStuckInput sample profile taking told input cycle
 HasReplayFault sample profile taking told input faults.ClockSpent = Says sample profile taking told input (Err faults.ClockSpent)
-HasReplayFault sample profile taking told input faults.InputTooLong = LONGEST_STREAM < length input
-HasReplayFault sample profile taking told input faults.InputNotUtf8 = IsNoStream input
+HasReplayFault sample profile taking told input faults.InputTooLong = IsConfigRefused sample profile input faults.InputTooLong ⊎ Says sample profile taking told input (Err faults.InputTooLong)
 HasReplayFault sample profile taking told input faults.Read = Unit {0}
 HasReplayFault sample profile taking told input faults.Write = HasReport sample profile taking told input
 HasReplayFault sample profile taking told input faults.OutOfMemory = Unit {0}
-HasReplayFault sample profile taking told input fault = IsStream input × IsRefused (parts_of sample profile input) fault
+HasReplayFault sample profile taking told input fault = IsConfigRefused sample profile input fault

@@ -4,7 +4,7 @@ use Rattle.std.specs.Fmt.{decimal}
 use Rattle.ddr_timing.specs.declared.config.Config.{Config}
 use Rattle.ddr_statistics.specs.Text.{counts_text, line}
 use Rattle.ddr_replay.specs.declared.numbers.Numbers.{Numbers}
-use Rattle.ddr_replay.specs.declared.numbers.Requests.{Requests}
+use Rattle.ddr_stream.specs.declared.requests.Requests.{Requests}
 use Rattle.ddr_replay.specs.declared.waited.Waited.{Waited}
 use Rattle.ddr_replay.specs.Drains.{drains_together}
 use Rattle.ddr_replay.specs.Ledgers.{Ledger}

@@ -1,5 +1,5 @@
 -- What contracts see of a replay.
-use Rattle.std.specs.Prelude.{◌≡◌, ℕ, Bool, true, false, length, Option, Some, None, Result, Err}
+use Rattle.std.specs.Prelude.{◌≡◌, ℕ, ◌+◌, Bool, true, false, Option, Some, None, Result, Err}
 use Rattle.ddr_timing.specs.declared.config.Config.{Config}
 use Rattle.ddr_counting.specs.Noting.{AreNoted}
 use Rattle.ddr_world.specs.Kept.{Kept, state_of}
@@ -10,37 +10,44 @@ use Rattle.ddr_text.specs.declared.fault.Fault.{Fault}
 use Rattle.ddr_text.specs.declared.fault.Fault.TheVariants as faults
 use Rattle.ddr_replay.specs.declared.replaying.Replaying.TheInside.{Inside}
 use Rattle.ddr_replay.specs.Ledgers.{Ledger}
-use Rattle.ddr_replay.specs.Runs.{Run, released_by, unserved}
+use Rattle.ddr_rounds.specs.Rounds.{outstanding}
+use Rattle.ddr_replay.specs.Runs.{Run, released_by}
 use Rattle.ddr_replay.specs.Stuck.{IsStuckIn}
 use Rattle.ddr_stream.specs.Stream.{Queues}
+use Rattle.ddr_stream.specs.Waiting.{IsSized, Waiting}
 
 pub record Replay : Type 0 where
   pub config : Config
   pub world : Kept
-  pub queues : Queues
+  pub stream : Waiting
   pub ledger : Ledger
   -- how many rounds were made
   pub round : ℕ
-  pub unserved : ℕ
 
 abbrev pub replay_of : Inside → Replay
-replay_of a = record { config = a.config; world = a.world; queues = a.queues.items; ledger = a.ledger; round = a.round; unserved = a.unserved }
+replay_of a = record { config = a.config; world = a.world; stream = a.stream; ledger = a.ledger; round = a.round }
 
--- the run that a replay has come to
+-- a run that a replay has come to, where these requests are left to be submitted
+abbrev pub whole_run : Replay → Queues → Run
+whole_run r queues = record { state = state_of r.world; queues = queues; ledger = r.ledger; round = r.round }
+
+-- as far as its requests were read
 abbrev pub run_of : Replay → Run
-run_of r = record { state = state_of r.world; queues = r.queues; ledger = r.ledger; round = r.round }
+run_of r = whole_run r r.stream.queues
 
 pub record IsWhole (a : Inside) : Type 0 where
   pub config : a.world.config ≡ a.config
-  pub ports : length a.queues.items ≡ a.config.limits.ports
-  pub counted : a.unserved ≡ unserved (run_of (replay_of a))
+  pub stream : a.stream.config ≡ a.config
+  pub sized : IsSized a.stream
+  -- what was taken and not released is outstanding
+  pub counted : a.released + outstanding (state_of a.world) ≡ a.stream.taken
   -- the statistics are those of all commands
   pub noted : AreNoted a.config (state_of a.world) a.noting
 
 -- all but the core is as it was
 pub record IsSame (old new : Replay) : Type 0 where
   pub config : new.config ≡ old.config
-  pub queues : new.queues ≡ old.queues
+  pub stream : new.stream ≡ old.stream
   pub ledger : new.ledger ≡ old.ledger
   pub round : new.round ≡ old.round
   pub traces : new.world.keeps ≡ old.world.keeps
@@ -49,7 +56,7 @@ pub record IsSame (old new : Replay) : Type 0 where
 pub record IsButLedger (old new : Replay) : Type 0 where
   pub config : new.config ≡ old.config
   pub world : new.world ≡ old.world
-  pub queues : new.queues ≡ old.queues
+  pub stream : new.stream ≡ old.stream
   pub round : new.round ≡ old.round
 
 -- the reply in front of the port was released, if there was one

@@ -1,11 +1,15 @@
 //! A replay of a stream of requests over the core, with its statistics: the command `replay`.
 //!
-//! Below stand the stream's requests (`ddr_stream`), the program's texts (`ddr_text`), the core (`ddr_world`) and the parts of its rounds
-//! (`ddr_rounds`), the statistics of a trace (`ddr_statistics`) and the numbers of requests (`ddr_measure`). Above stands `ddr_tool`, whose
-//! command line asks for `replay`. `taken` takes the stream's requests, `submitting` lets a port submit, `replaying` makes all the rounds, `ledger` keeps when requests were accepted, how long
-//! they took (`times`), for how long ports waited (`waited`) and, where that is asked for, each of them (`served`), with how it found its bank (`found`), and `measured` hands them to `ddr_measure`. `numbers` counts what
-//! they come to, `report` is the text of that and `places` that of ranks and banks, `times_report` that of how long requests took,
-//! `drampower` is the text of a channel's commands in DRAMPower's form, `wanted` says what is to be told and `watch` who is told how far a run has come, `telling` is what is told of it at its end, and `replay` does it all over a reader and a writer.
+//! Below stand the stream's requests (`ddr_stream`), the program's texts (`ddr_text`) and the configuration in front of an input
+//! (`front` of `ddr_capture`), the core (`ddr_world`) and the parts of its rounds (`ddr_rounds`), the statistics of a trace
+//! (`ddr_statistics`) and the numbers of requests (`ddr_measure`). Above stands `ddr_tool`, whose command line asks for `replay`.
+//!
+//! `taken` takes the stream's requests, `submitting` lets a port submit, `replaying` makes all the rounds, `ledger` keeps when requests were
+//! accepted, how long they took (`times`), for how long ports waited (`waited`) and, where that is asked for, each of them (`served`), with
+//! how it found its bank (`found`), and `measured` hands them to `ddr_measure`. `numbers` counts what they come to, `report` is the text of
+//! that and `places` that of ranks and banks, `times_report` that of how long requests took, `drampower` is the text of a channel's
+//! commands in DRAMPower's form, `wanted` says what is to be told and `watch` who is told how far a run has come, `telling` is what is told
+//! of it at its end, and `replay` does it all over a reader and a writer.
 #![tactic(auto)]
 
 mod drampower;

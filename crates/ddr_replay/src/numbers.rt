@@ -1,4 +1,4 @@
-//! What a replay comes to: of each channel the numbers of its commands, and of each port its requests.
+//! What a replay comes to: of each channel the numbers of its commands, and of several ports together their requests.
 //!
 //! `ddr_stream`, `ddr_world`, `ddr_counting` and `ddr_statistics` stand below, and `report`, `places` and `telling` above.
 ghost use Rattle.std.specs.Prelude.{◌≡◌, ◌≢◌, true, false, ◌+◌, ◌≤◌, ◌==◌, IfErr, IfOk, map};
@@ -6,28 +6,19 @@ ghost use Rattle.std.specs.List.{range_with_len};
 ghost use Rattle.ddr_timing.specs.declared.units.TheConstants.{CLOCK_STOP};
 ghost use Rattle.ddr_counting.specs.Noting.{AreNoted, IsNotedOf};
 ghost use Rattle.ddr_world.specs.Kept.{state_of};
-ghost use Rattle.ddr_replay.specs.Numbers.{IsCounted, added, both, is_any_spent, is_kind, is_spent, many, numbers_at, numbers_in, of_kind, requests_in, together};
+ghost use Rattle.ddr_replay.specs.Numbers.{IsCounted, added, both, is_any_spent, is_spent, many, numbers_at, numbers_in, together};
 
-use ddr_address_map::request::Kind;
 use ddr_channel::channel::Channel;
 use ddr_counting::noting::{Noting, all_are_counted};
 use ddr_statistics::counts::Counts;
 use ddr_statistics::statistics::Statistics;
-use ddr_stream::ask::Ask;
-use ddr_stream::queue::Queue;
+use ddr_stream::requests::Requests;
 use ddr_text::fault::Fault;
 use ddr_timing::units::CLOCK_STOP;
 use ddr_world::world::World;
 use std::alloc::{AllocError, Global};
 
-/// The requests of a port, or of several. Each number stops at the last one that a `u64` holds, here and below.
-#[derive(Clone, Copy, Debug, PartialEq, Eq)]
-pub struct Requests {
-    pub reads: u64,
-    pub writes: u64,
-}
-
-/// The numbers of a channel's commands, or of those of several.
+/// The numbers of a channel's commands, or of those of several. Each number stops at the last one that a `u64` holds, here and below.
 #[derive(Clone, Copy, Debug, PartialEq, Eq)]
 pub struct Numbers {
     pub turn_rounds: u64,
@@ -37,13 +28,6 @@ pub struct Numbers {
     pub counts: Counts,
 }
 
-impl Requests {
-    pub const NONE: Requests = Requests {
-        reads: 0,
-        writes: 0,
-    };
-}
-
 impl Numbers {
     pub const NONE: Numbers = Numbers {
         turn_rounds: 0,
@@ -51,40 +35,6 @@ impl Numbers {
         refresh_debt_most: 0,
         counts: Counts::NONE,
     };
-}
-
-/// The requests of each queue.
-pub fn requests_of(alloc: Global, queues: &[Queue]) -> Result<Vec<Requests>, AllocError>
-    ensures { IfOk result (λ v. v.items ≡ map requests_in queues.now) }
-{
-    queues.iter().map(|queue| requests_in(queue)).collect(alloc)
-}
-
-/// The requests of a queue.
-fn requests_in(queue: &Queue) -> Requests
-    ensures { result ≡ requests_in queue.now }
-{
-    let asks = queue.asks();
-    Requests {
-        reads: of_kind(asks, Kind::Read),
-        writes: of_kind(asks, Kind::Write),
-    }
-}
-
-/// How many of the requests are of a kind.
-fn of_kind(asks: &[Ask], kind: Kind) -> u64
-    ensures { result ≡ of_kind kind asks.now }
-{
-    asks.iter().filter(|ask| is_kind(ask.kind, kind)).count() as u64
-}
-
-fn is_kind(kind: Kind, wanted: Kind) -> bool
-    ensures { result ≡ is_kind kind wanted }
-{
-    match (kind, wanted) {
-        (Kind::Read, Kind::Read) | (Kind::Write, Kind::Write) => true,
-        _ => false,
-    }
 }
 
 /// The requests of several ports together.

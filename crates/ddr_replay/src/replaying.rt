@@ -1,18 +1,23 @@
 //! The core, and the requests that are still to be submitted: a replay from its first round to its last.
 //!
 //! `submitting`, `ddr_stream`, `ledger`, `watch`, `ddr_rounds` and `ddr_world` stand below, and `replay` above.
-ghost use Rattle.std.specs.Prelude.{◌≡◌, ◌==◌, ℕ, ◌+◌, ◌-◌, ◌<◌, ◌≤◌, false, true, IfErr, IfOk, IfSome, OnOk, Some, Ok, length};
+ghost use Rattle.std.specs.Prelude.{◌≡◌, ◌≢◌, ◌==◌, ◌⊎◌, ℕ, ◌+◌, ◌-◌, ◌<◌, ◌≤◌, false, true, IfErr, IfOk, IfSome, IsErrOf, IsOk, IsTrue, OnOk, Option, Result, Some, Ok};
 ghost use Rattle.ddr_counting.specs.Noting.{AreNoted};
 ghost use Rattle.ddr_rounds.specs.Rounds.{channels_served, items_of, outstanding, until_refused};
 ghost use Rattle.ddr_world.specs.Events.{Collect, Release};
 ghost use Rattle.ddr_world.specs.Kept.{state_of};
 ghost use Rattle.ddr_world.specs.Quiet.{passed};
 ghost use Rattle.ddr_rounds.specs.Drains.{is_draining};
+ghost use Rattle.ddr_stream.specs.Stream.{Queues, queue_at};
+ghost use Rattle.ddr_stream.specs.Waiting.{All, IsAhead, IsSaidFault, IsSized, IsStreamFault, Knows, all_in};
+ghost use Rattle.ddr_replay.specs.Ahead.{AreSubmitted, Carries, IsEnded, IsOver, IsReplayFault, IsStopped, Leads, LeadsAlike, is_of_run};
 ghost use Rattle.ddr_replay.specs.Drains.{all_drained, drained};
-ghost use Rattle.ddr_replay.specs.Runs.{begun, port_served, port_submitted, ports_served, ports_submitted, replayed, round_made, unserved};
+ghost use Rattle.ddr_replay.specs.Runs.{begun, port_served, port_submitted, ports_served, round_made, unserved};
 ghost use Rattle.ddr_replay.specs.Stuck.{CannotGoOn};
-ghost use Rattle.ddr_replay.specs.View.{IsButLedger, IsCycleFault, IsFrontReleased, IsRunFault, IsSame, run_of};
-ghost use Rattle.ddr_replay.specs.Waits.{AreQuiet, AreWaiting, IsWaitingIn, all_full, come_of, filled};
+ghost use Rattle.ddr_timing.specs.declared.config.Config.{Config};
+ghost use Rattle.ddr_text.specs.declared.fault.Fault.{Fault};
+ghost use Rattle.ddr_replay.specs.View.{IsButLedger, IsCycleFault, IsFrontReleased, IsSame, Replay, run_of, whole_run};
+ghost use Rattle.ddr_replay.specs.Waits.{AreQuiet, IsWaitingIn, all_full, come_of, filled};
 
 use crate::ledger::Ledger;
 use crate::submitting::submit_from;
@@ -23,9 +28,10 @@ use ddr_reorder::reply::{Reply, Service};
 use ddr_rounds::channels::serve_channels;
 use ddr_rounds::ports::{collect, has_front, release};
 use ddr_rounds::rounds::pass;
-use ddr_stream::queue::Queue;
-use ddr_stream::stream::count_all;
+use ddr_stream::requests::Requests;
+use ddr_stream::stream::Stream;
 use ddr_text::fault::Fault;
+use ddr_text::source::Source;
 use ddr_timing::config::Config;
 use ddr_world::event::Refusal;
 use ddr_world::world::World;
@@ -48,14 +54,14 @@ pub struct Replaying {
     world: World,
     /// What the channels' commands come to.
     noting: Noting,
-    /// Of each port, what it has still to submit.
-    queues: Vec<Queue>,
+    /// What the ports have still to submit, read as far as of each the next request is known.
+    stream: Stream,
     /// When requests were accepted, and how long they took.
     ledger: Ledger,
     /// How many rounds were made.
     round: u32,
-    /// How many requests are still to be submitted, or were and their replies were not released.
-    unserved: u128,
+    /// How many replies were released.
+    released: u64,
     /// How many rounds were made when it was last looked at and a request had been accepted or served.
     went_on_at: u32,
     /// Whether one was since.
@@ -76,48 +82,93 @@ impl Model for Replaying {
 
 impl Replaying {
     /// A replay before its first round. `keeps` says whether the requests that were served are kept, and `traces` whether the channels'
-    /// traces are.
+    /// traces are. Of the stream no request was taken, and of each port the next is known.
     pub fn open(
         alloc: Global,
         config: &Config,
         keeps: bool,
         traces: bool,
-        queues: Vec<Queue>,
+        stream: Stream,
     ) -> Result<Replaying, AllocError>
-        requires { length queues.items ≡ config.now.limits.ports }
-        ensures begun { IfOk result (λ replay. run_of replay ≡ begun config.now keeps queues.items) }
+        requires config { stream.config ≡ config.now }
+        requires sized { IsSized stream }
+        requires new { stream.taken ≡ 0 }
+        ensures begun { IfOk result (λ replay. run_of replay ≡ begun config.now keeps stream.queues) }
+        ensures stream { IfOk result (λ replay. replay.stream ≡ stream) }
         ensures config { IfOk result (λ replay. replay.config ≡ config.now) }
         ensures traces { IfOk result (λ replay. replay.world.keeps ≡ traces) }
     {
-        let unserved = count_all(queues.as_slice());
         let ledger = Ledger::open(alloc, config.geometry.channels, config.limits.ports, keeps)?;
         Ok(Replaying {
             config: *config,
             world: World::open_as(alloc, config, 0, 0, traces)?,
             noting: Noting::open(alloc, config)?,
-            queues,
+            stream,
             ledger,
             round: 0,
-            unserved,
+            released: 0,
             went_on_at: 0,
             went_on: false,
         })
     }
 
-    /// Makes rounds until all requests were submitted and their replies released, and tells the watcher how far it has come.
+    /// Makes rounds until all requests were submitted and their replies released, and tells the watcher how far it has come. Lines are
+    /// read as their requests are asked for.
     ///
-    /// Fails as `ReplayLimit` where one round too many is to be made, as `ClockSpent`, and as `OutOfMemory`; and as `ReplayStuck`, where a
-    /// refresh interval leaves no time to serve a request, once requests waited for `STUCK_INTERVALS` of them in which none was
-    /// accepted or served.
-    pub fn run<V: Watch>(&mut self, watch: &mut V) -> Result<(), Fault>
-        ensures ok { OnOk result (replayed self.old.config (MOST_ROUNDS - self.old.round) (run_of self.old) ≡ Ok (run_of self.new)) }
-        ensures fault { IfErr result (λ fault. IsRunFault self.old.config fault (replayed self.old.config (MOST_ROUNDS - self.old.round) (run_of self.old))) }
+    /// Fails as `first` of `Stream` does at the first line that is at fault; where none is, as `ReplayLimit` where one round too many is
+    /// to be made, as `ClockSpent`, and as `ReplayStuck`, where a refresh interval leaves no time to serve a request, once requests waited
+    /// for `STUCK_INTERVALS` of them in which none was accepted or served; and as `OutOfMemory`.
+    pub fn run<R: Source, V: Watch>(&mut self, reader: &mut R, watch: &mut V) -> Result<(), Fault>
+        requires { IsAhead self.old.stream }
+        ensures ok { OnOk result (IfSome (all_in self.old.stream (R.remaining reader.old)) (λ said. (all : All) × (said ≡ Ok all) × IsOver self.old.config (MOST_ROUNDS - self.old.round) self.old self.new all)) }
+        ensures fault { IfErr result (λ fault. IsEnded self.old.config (MOST_ROUNDS - self.old.round) self.old fault (all_in self.old.stream (R.remaining reader.old))) }
+        ensures kind { IfErr result IsReplayFault }
+        ensures sure { IsErrOf result Fault.Read → IsTrue R.may_fail }
+        ensures config { self.new.config ≡ self.old.config }
+        ensures traces { self.new.world.keeps ≡ self.old.world.keeps }
+    {
+        match self.make_rounds(reader, watch) {
+            Ok(()) => Ok(()),
+            Err(fault) => Err(self.first_fault(fault, reader)),
+        }
+    }
+
+    /// By which fault a replay ends whose rounds ended by this one: where that is one of the run, by that of the first line that is left and
+    /// at fault, if there is one.
+    fn first_fault<R: Source>(&mut self, fault: Fault, reader: &mut R) -> Fault
+        requires { IsReplayFault fault }
+        ensures ended { (config : Config) (left : ℕ) (old : Replay) (all : Option (Result All Fault)) → IsStopped config left old fault all (all_in self.old.stream (R.remaining reader.old)) → IsEnded config left old result all }
+        ensures kind { IsReplayFault result }
+        ensures sure { result ≡ Fault.Read → (fault ≡ Fault.Read) ⊎ IsTrue R.may_fail }
+        ensures config { self.new.config ≡ self.old.config }
+        ensures traces { self.new.world.keeps ≡ self.old.world.keeps }
+    {
+        if !is_of_run(fault) {
+            return fault;
+        }
+        match self.stream.skip_all(reader) {
+            Ok(()) => fault,
+            Err(first) => first,
+        }
+    }
+
+    /// Makes rounds as `run` does. Fails as it does, but doesn't look at the lines that are left.
+    fn make_rounds<R: Source, V: Watch>(
+        &mut self,
+        reader: &mut R,
+        watch: &mut V,
+    ) -> Result<(), Fault>
+        requires { IsAhead self.old.stream }
+        ensures ok { OnOk result (IfSome (all_in self.old.stream (R.remaining reader.old)) (λ said. (all : All) × (said ≡ Ok all) × IsOver self.old.config (MOST_ROUNDS - self.old.round) self.old self.new all)) }
+        ensures fault { IfErr result (λ fault. IsStopped self.old.config (MOST_ROUNDS - self.old.round) self.old fault (all_in self.old.stream (R.remaining reader.old)) (all_in self.new.stream (R.remaining reader.new))) }
+        ensures kind { IfErr result IsReplayFault }
+        ensures sure { IsErrOf result Fault.Read → IsTrue R.may_fail }
         ensures config { self.new.config ≡ self.old.config }
         ensures traces { self.new.world.keeps ≡ self.old.world.keeps }
     {
         let mut turns: u32 = 0;
         'rounds: while !self.is_over() {
-            self.turn()?;
+            self.turn(reader)?;
             if let Some(cycle) = self.stuck_at() {
                 return Err(Fault::ReplayStuck { cycle });
             }
@@ -157,30 +208,35 @@ impl Replaying {
     fn has_outstanding(&self) -> bool
         ensures { result ≡ true → 0 < outstanding (run_of self.now).state }
     {
-        count_all(self.queues.as_slice()) < self.unserved
+        self.released < self.stream.taken()
     }
 
-    /// Whether no request is to be submitted, and none waits for its reply to be released.
+    /// Whether no request that was read is to be submitted, and none waits for its reply to be released.
     fn is_over(&self) -> bool
-        ensures { result ≡ (unserved (run_of self.now) == 0) }
+        ensures over { result ≡ (unserved (run_of self.now) == 0) }
+        ensures sized { IsSized self.now.stream }
+        ensures config { self.now.stream.config ≡ self.now.config }
     {
-        self.unserved == 0
+        self.released == self.stream.sent()
     }
 
     /// Lets the ports submit, and makes the next round, or where the next ones are quiet as many of those at once.
-    fn turn(&mut self) -> Result<(), Fault>
+    fn turn<R: Source>(&mut self, reader: &mut R) -> Result<(), Fault>
         requires { (unserved (run_of self.old) == 0) ≡ false }
-        ensures leads { OnOk result (replayed self.old.config (MOST_ROUNDS - self.old.round) (run_of self.old) ≡ replayed self.old.config (MOST_ROUNDS - self.new.round) (run_of self.new)) }
+        ensures leads { OnOk result (Carries (λ all next. LeadsAlike self.old.config (MOST_ROUNDS - self.old.round) (MOST_ROUNDS - self.new.round) self.old self.new all next) (all_in self.old.stream (R.remaining reader.old)) (all_in self.new.stream (R.remaining reader.new))) }
+        ensures ahead { OnOk result (IsAhead self.new.stream) }
         ensures more { OnOk result (self.old.round < self.new.round) }
         ensures within { self.new.round ≤ MOST_ROUNDS }
-        ensures fault { IfErr result (λ fault. IsRunFault self.old.config fault (replayed self.old.config (MOST_ROUNDS - self.old.round) (run_of self.old))) }
+        ensures fault { IfErr result (λ fault. IsStopped self.old.config (MOST_ROUNDS - self.old.round) self.old fault (all_in self.old.stream (R.remaining reader.old)) (all_in self.new.stream (R.remaining reader.new))) }
+        ensures kind { IfErr result IsReplayFault }
+        ensures sure { IsErrOf result Fault.Read → IsTrue R.may_fail }
         ensures config { self.new.config ≡ self.old.config }
         ensures traces { self.new.world.keeps ≡ self.old.world.keeps }
     {
         if self.round == MOST_ROUNDS {
             return Err(Fault::ReplayLimit);
         }
-        let until = self.submit_all()?;
+        let until = self.submit_all(reader)?;
         let quiet = self.quiet_rounds(until);
         if quiet > 0 {
             self.pass(quiet);
@@ -190,35 +246,50 @@ impl Replaying {
     }
 
     /// Lets each port submit, in order. Tells the cycle until which all of them surely wait.
-    fn submit_all(&mut self) -> Result<u64, AllocError>
-        ensures run { OnOk result (run_of self.new ≡ ports_submitted self.old.config.limits.ports (run_of self.old)) }
-        ensures waits { IfOk result (λ until. AreWaiting self.old.config.limits.ports until (run_of self.new)) }
+    fn submit_all<R: Source>(&mut self, reader: &mut R) -> Result<u64, Fault>
+        ensures run { IfOk result (λ until. Carries (λ all next. AreSubmitted self.old.config.limits.ports until self.old self.new all next) (all_in self.old.stream (R.remaining reader.old)) (all_in self.new.stream (R.remaining reader.new))) }
+        ensures ahead { OnOk result (IsAhead self.new.stream) }
+        ensures sized { IsSized self.new.stream }
+        ensures stream { self.new.stream.config ≡ self.new.config }
+        ensures fault { IfErr result (λ fault. IsSaidFault fault (all_in self.old.stream (R.remaining reader.old))) }
+        ensures kind { IfErr result IsStreamFault }
+        ensures sure { IsErrOf result Fault.Read → IsTrue R.may_fail }
         ensures config { self.new.config ≡ self.old.config }
         ensures traces { self.new.world.keeps ≡ self.old.world.keeps }
         ensures round { self.new.round ≡ self.old.round }
-        ensures count { unserved (run_of self.new) ≡ unserved (run_of self.old) }
     {
         let mut until = u64::MAX;
         for port in 0..self.config.limits.ports {
-            until = until.min(self.submit(port)?);
+            until = until.min(self.submit(reader, port)?);
         }
         Ok(until)
     }
 
-    /// Lets a port submit.
-    fn submit(&mut self, port: u32) -> Result<u64, AllocError>
+    /// Lets a port submit. Tells the cycle until which it surely waits.
+    fn submit<R: Source>(&mut self, reader: &mut R, port: u32) -> Result<u64, Fault>
         requires { port < self.old.config.limits.ports }
-        ensures run { OnOk result (run_of self.new ≡ port_submitted port (run_of self.old)) }
-        ensures waits { IfOk result (λ until. IsWaitingIn port until (run_of self.new)) }
+        ensures run { IfOk result (λ until. Carries (λ all next. Leads (port_submitted port) self.old self.new all next × IsWaitingIn port until (whole_run self.new next.queues)) (all_in self.old.stream (R.remaining reader.old)) (all_in self.new.stream (R.remaining reader.new))) }
+        ensures knows { OnOk result (Knows self.new.stream port) }
+        ensures others { (q : ℕ) → q ≢ port → Knows self.old.stream q → Knows self.new.stream q }
+        ensures sized { IsSized self.new.stream }
+        ensures stream { self.new.stream.config ≡ self.new.config }
+        ensures fault { IfErr result (λ fault. IsSaidFault fault (all_in self.old.stream (R.remaining reader.old))) }
+        ensures kind { IfErr result IsStreamFault }
+        ensures sure { IsErrOf result Fault.Read → IsTrue R.may_fail }
         ensures config { self.new.config ≡ self.old.config }
         ensures traces { self.new.world.keeps ≡ self.old.world.keeps }
         ensures round { self.new.round ≡ self.old.round }
-        ensures count { unserved (run_of self.new) ≡ unserved (run_of self.old) }
     {
-        let queue = &mut self.queues[port as usize];
-        let left = queue.len();
-        let until = submit_from(&mut self.world, queue, &mut self.ledger, port, self.round)?;
-        if self.queues[port as usize].len() != left {
+        let taken = self.stream.taken();
+        let until = submit_from(
+            &mut self.world,
+            &mut self.stream,
+            &mut self.ledger,
+            reader,
+            port,
+            self.round,
+        )?;
+        if self.stream.taken() != taken {
             self.went_on = true;
         }
         Ok(until)
@@ -246,8 +317,8 @@ impl Replaying {
         requires within { count ≤ MOST_ROUNDS - self.old.round }
         ensures state { state_of self.new.world ≡ passed count (state_of self.old.world) }
         ensures round { self.new.round ≡ self.old.round + count }
-        ensures queues { self.new.queues ≡ self.old.queues }
-        ensures ledger { self.new.ledger ≡ all_drained count (is_draining (state_of self.new.world)) self.old.config.geometry.channels (all_full (count - 1) (come_of self.old.round self.old.queues) self.old.config.limits.ports self.old.ledger) }
+        ensures stream { self.new.stream ≡ self.old.stream }
+        ensures ledger { self.new.ledger ≡ all_drained count (is_draining (state_of self.new.world)) self.old.config.geometry.channels (all_full (count - 1) (come_of self.old.round self.old.stream.queues) self.old.config.limits.ports self.old.ledger) }
         ensures config { self.new.config ≡ self.old.config }
         ensures traces { self.new.world.keeps ≡ self.old.world.keeps }
     {
@@ -259,7 +330,7 @@ impl Replaying {
 
     /// Lets each port whose next request's cycle has come wait for its window, in so many rounds.
     fn fill_all(&mut self, rounds: u64)
-        ensures ledger { self.new.ledger ≡ all_full rounds (come_of self.old.round self.old.queues) self.old.config.limits.ports self.old.ledger }
+        ensures ledger { self.new.ledger ≡ all_full rounds (come_of self.old.round self.old.stream.queues) self.old.config.limits.ports self.old.ledger }
         ensures rest { IsButLedger self.old self.new }
     {
         for port in 0..self.config.limits.ports {
@@ -270,7 +341,7 @@ impl Replaying {
     /// Lets a port wait for its window in so many rounds, if its next request's cycle has come.
     fn fill(&mut self, port: u32, rounds: u64)
         requires { port < self.old.config.limits.ports }
-        ensures ledger { self.new.ledger ≡ filled rounds (come_of self.old.round self.old.queues) port self.old.ledger }
+        ensures ledger { self.new.ledger ≡ filled rounds (come_of self.old.round self.old.stream.queues) port self.old.ledger }
         ensures rest { IsButLedger self.old self.new }
     {
         if self.has_come(port) {
@@ -281,9 +352,9 @@ impl Replaying {
     /// Whether the cycle of a port's next request has come.
     fn has_come(&self, port: u32) -> bool
         requires { port < self.now.config.limits.ports }
-        ensures { result ≡ come_of self.now.round self.now.queues port }
+        ensures { result ≡ come_of self.now.round self.now.stream.queues port }
     {
-        match self.queues[port as usize].first() {
+        match self.stream.known(port) {
             Some(ask) => ask.at <= u64::from(self.round),
             None => false,
         }
@@ -322,7 +393,8 @@ impl Replaying {
     /// Makes a round: each channel's part in order, then each port's.
     fn make_round(&mut self) -> Result<(), Fault>
         requires { self.old.round < MOST_ROUNDS }
-        ensures made { OnOk result (round_made self.old.config (run_of self.old) ≡ Some (run_of self.new)) }
+        ensures made { OnOk result ((queues : Queues) → round_made self.old.config (whole_run self.old queues) ≡ Some (whole_run self.new queues)) }
+        ensures stream { self.new.stream ≡ self.old.stream }
         ensures fault { IfErr result (λ fault. IsCycleFault fault (channels_served self.old.config.geometry.channels (state_of self.old.world))) }
         ensures config { self.new.config ≡ self.old.config }
         ensures traces { self.new.world.keeps ≡ self.old.world.keeps }
@@ -353,6 +425,7 @@ impl Replaying {
     /// The ports' part of a round.
     fn serve_ports(&mut self) -> Result<(), AllocError>
         ensures run { OnOk result (run_of self.new ≡ ports_served self.old.config.limits.ports (run_of self.old)) }
+        ensures stream { self.new.stream ≡ self.old.stream }
         ensures config { self.new.config ≡ self.old.config }
         ensures traces { self.new.world.keeps ≡ self.old.world.keeps }
         ensures round { self.new.round ≡ self.old.round }
@@ -366,6 +439,7 @@ impl Replaying {
     /// A port's part of a round: it collects what was delivered, and releases its replies.
     fn serve_port(&mut self, port: u32) -> Result<(), AllocError>
         ensures run { OnOk result (run_of self.new ≡ port_served port (run_of self.old)) }
+        ensures stream { self.new.stream ≡ self.old.stream }
         ensures config { self.new.config ≡ self.old.config }
         ensures traces { self.new.world.keeps ≡ self.old.world.keeps }
         ensures round { self.new.round ≡ self.old.round }
@@ -387,6 +461,7 @@ impl Replaying {
     fn release_front(&mut self, port: u32) -> Result<bool, AllocError>
         ensures released { IfOk result (λ more. IsFrontReleased port (run_of self.old) (run_of self.new) more) }
         ensures fewer { IfOk result (λ more. more ≡ true → items_of (state_of self.old.world) (Release port) ≡ items_of (state_of self.new.world) (Release port) + 1) }
+        ensures stream { self.new.stream ≡ self.old.stream }
         ensures config { self.new.config ≡ self.old.config }
         ensures traces { self.new.world.keeps ≡ self.old.world.keeps }
         ensures round { self.new.round ≡ self.old.round }
@@ -398,7 +473,7 @@ impl Replaying {
         self.ledger
             .release(port, Service { issued, due }, self.round)?;
         let _ = release(&mut self.world, port, &mut self.noting);
-        self.unserved -= 1;
+        self.released += 1;
         Ok(true)
     }
 
@@ -416,6 +491,13 @@ impl Replaying {
         &self.ledger
     }
 
+    /// Of each port how many requests were read.
+    pub fn requests(&self) -> &[Requests]
+        ensures { result.now ≡ self.now.stream.asked }
+    {
+        self.stream.asked()
+    }
+
     /// What the channels' commands come to.
     pub fn noting(&self) -> &Noting
         ensures { AreNoted self.entry.now.world.config (state_of self.entry.now.world) result.now }
@@ -428,5 +510,15 @@ impl Replaying {
         ensures { result.now ≡ self.now.world }
     {
         &self.world
+    }
+}
+
+/// Whether a fault is one of the run, and not of a line, of reading or of memory.
+fn is_of_run(fault: Fault) -> bool
+    ensures { result ≡ is_of_run fault }
+{
+    match fault {
+        Fault::ReplayLimit | Fault::ClockSpent | Fault::ReplayStuck { .. } => true,
+        _ => false,
     }
 }

@@ -7,11 +7,12 @@ ghost use Rattle.ddr_replay.specs.Report.{channel_table, channel_tables, head_te
 ghost use Rattle.ddr_replay.specs.Waited.{no_wait};
 
 use crate::ledger::Ledger;
-use crate::numbers::{Numbers, Requests, many, together};
+use crate::numbers::{Numbers, many, together};
 use crate::places::debt_line;
 use crate::times_report::ledger_tables;
 use crate::waited::{Waited, all_waited};
 use ddr_statistics::text::counts_text;
+use ddr_stream::requests::Requests;
 use ddr_timing::config::Config;
 use std::alloc::{AllocError, Global};
 

@@ -1,15 +1,18 @@
 //! The requests of a stream as a replay takes them: by their cycles as they stand, or counted from the first one's.
 //!
 //! `ddr_stream` stands below, and `replay` above.
-ghost use Rattle.std.specs.Prelude.{◌≡◌, ◌≤◌, IfOk, length, map};
-ghost use Rattle.ddr_stream.specs.Stream.{AreRead};
-ghost use Rattle.ddr_replay.specs.Taken.{first_from, first_of, shifted, shifted_ask, taken_of};
+ghost use Rattle.std.specs.Prelude.{◌≡◌, IfErr, IfOk, IfSome, IsErrOf, IsTrue, OnOk, Some, map};
+ghost use Rattle.ddr_capture.specs.Feed.{IsWell, left};
+ghost use Rattle.ddr_stream.specs.Waiting.{IsAhead, IsSized, IsStreamFault, all_in};
+ghost use Rattle.ddr_replay.specs.Taken.{IsTaken, IsTakenFault, first_from, first_of, shifted, shifted_ask};
 
+use ddr_capture::feed::Feed;
 use ddr_stream::ask::Ask;
 use ddr_stream::queue::Queue;
-use ddr_stream::stream::{LONGEST_STREAM, queues_of};
+use ddr_stream::stream::Stream;
 use ddr_text::command::Reading;
 use ddr_text::fault::Fault;
+use ddr_text::source::Source;
 use ddr_timing::config::Config;
 use std::alloc::{AllocError, Global};
 
@@ -22,24 +25,44 @@ pub struct Taking {
     pub from_first: bool,
 }
 
-/// The requests of a stream, of each port in order. Fails as `queues_of` does.
-pub(crate) fn taken_of(
+/// The requests of a stream, whose lines begin in this feed, as far as of each port the next is known; where they count from the first one,
+/// all of them, since any line may have the least cycle. Fails as `first` of `Stream` does.
+pub(crate) fn taken_of<R: Source>(
     alloc: Global,
     config: &Config,
     taking: Taking,
-    body: &str,
-) -> Result<Vec<Queue>, Fault>
-    requires { length body.now ≤ LONGEST_STREAM }
-    ensures said { AreRead (λ v. v.items) result (taken_of config.now taking body.now) }
-    ensures ports { IfOk result (λ v. length v.items ≡ config.now.limits.ports) }
+    feed: Feed,
+    reader: &mut R,
+) -> Result<Stream, Fault>
+    requires { IsWell feed }
+    ensures said { IfOk result (λ stream. IfSome (left feed (R.remaining reader.old)) (λ body. IsTaken config.now taking body (all_in stream (R.remaining reader.new)))) }
+    ensures ahead { IfOk result IsAhead }
+    ensures sized { IfOk result IsSized }
+    ensures config { IfOk result (λ stream. stream.config ≡ config.now) }
+    ensures new { IfOk result (λ stream. stream.taken ≡ 0) }
+    ensures fault { IfErr result (λ fault. IfSome (left feed (R.remaining reader.old)) (IsTakenFault config.now taking fault)) }
+    ensures kind { IfErr result IsStreamFault }
+    ensures sure { IsErrOf result Fault.Read → IsTrue R.may_fail }
 {
-    let queues = queues_of(alloc, config, taking.reading, body)?;
+    let mut stream = Stream::open(alloc, config, taking.reading, feed)?;
     if !taking.from_first {
-        return Ok(queues);
+        stream.read_ahead(reader)?;
+        return Ok(stream);
     }
-    let first = first_of(queues.as_slice());
-    let shifted = shifted(alloc, queues.as_slice(), first)?;
-    Ok(shifted)
+    stream.read_all(reader)?;
+    shift(alloc, &mut stream)?;
+    Ok(stream)
+}
+
+/// Counts the cycles of the requests that wait from the first one's.
+fn shift(alloc: Global, stream: &mut Stream) -> Result<(), AllocError>
+    ensures shifted { OnOk result (stream.new ≡ record stream.old { queues = shifted (first_of stream.old.queues) stream.old.queues }) }
+    ensures sized { OnOk result (IsSized stream.new) }
+{
+    let first = first_of(stream.queues());
+    let queues = shifted(alloc, stream.queues(), first)?;
+    stream.put(queues);
+    Ok(())
 }
 
 /// The least cycle of a request, the greatest that there is where there is none.

@@ -1,2 +1,4 @@
+pub mod AllLemmas
 mod FieldLemmas
-mod StreamLemmas
+mod NextLemmas
+mod PlacedLemmas

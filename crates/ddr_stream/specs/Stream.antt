@@ -1,16 +1,21 @@
 -- A whole stream: the requests that it has for each port, or its first line at fault.
-use Rattle.std.specs.Prelude.{◌≡◌, ℕ, ◌+◌, ◌%◌, if◌then◌else◌, List, [], ◌∷◌, ◌++◌, length, replicate, slice_set, slice_index_or, sum_by, is_none, Result, Ok, Err}
+use Rattle.std.specs.Prelude.{ℕ, ◌+◌, ◌%◌, nat_lt, if◌then◌else◌, List, [], ◌∷◌, length, replicate, slice_set, slice_index_or, is_none, Option, Some, None, Result, Ok, Err}
+use Rattle.std.specs.Str.{is_utf8}
 use Rattle.std.specs.Str.Lines.{lines}
 use Rattle.ddr_timing.specs.declared.config.Config.{Config}
 use Rattle.ddr_timing.specs.declared.geometry.Geometry.{Geometry}
 use Rattle.ddr_address_map.specs.Map.{capacity_of, place_of}
 use Rattle.ddr_text.specs.declared.command.Reading.{Reading}
 use Rattle.ddr_text.specs.declared.fault.Fault.{Fault}
-use Rattle.ddr_text.specs.declared.fault.Fault.TheVariants.{ReplayLine, ReplayRange, OutOfMemory}
+use Rattle.ddr_text.specs.declared.fault.Fault.TheVariants.{InputTooLong, ReplayLine, ReplayRange}
 use Rattle.ddr_text.specs.declared.fault.LineFault.{LineFault}
+use Rattle.ddr_text.specs.declared.fault.LineFault.TheVariants.{NotUtf8, TooLong}
 use Rattle.ddr_text.specs.Instructions.{◌>>>◌}
+use Rattle.ddr_capture.specs.declared.feed.TheConstants.{LONGEST_LINE}
 use Rattle.ddr_stream.specs.declared.ask.Ask.{Ask}
 use Rattle.ddr_stream.specs.declared.line.Sent.{Sent}
+use Rattle.ddr_stream.specs.declared.placing.Placed.{Placed}
+use Rattle.ddr_stream.specs.declared.placing.TheConstants.{MOST_LINES}
 use Rattle.ddr_stream.specs.Line.{is_skipped, sent_of}
 
 -- of each port its requests, in order
@@ -29,56 +34,51 @@ meant geometry reading addr = if reading.wrap then addr % capacity_of geometry e
 abbrev pub ask_of : Geometry → Reading → ℕ → Sent → Ask
 ask_of geometry reading line sent = record { line = line; at = sent.at; kind = sent.kind; addr = meant geometry reading sent.addr }
 
--- one request more, behind the others of its port
-abbrev pub pushed : ℕ → Ask → Queues → Queues
-pushed port ask queues = slice_set queues port (queue_at queues port ++ ask ∷ [])
-
 -- where its address lies in the memory
-abbrev pub with_ask : Geometry → ℕ → Queues → Ask → Result Queues Fault
-with_ask geometry port queues ask =
-    if is_none (place_of geometry ask.addr) then Err (ReplayRange ask.line) else Ok (pushed port ask queues)
-
-abbrev pub with_sent : Geometry → Reading → ℕ → Queues → Sent → Result Queues Fault
-with_sent geometry reading line queues sent = with_ask geometry sent.port queues (ask_of geometry reading line sent)
+abbrev pub within : Geometry → Placed → Result (Option Placed) Fault
+within geometry p = if is_none (place_of geometry p.ask.addr) then Err (ReplayRange p.ask.line) else Ok (Some p)
 
 -- what the line of this number asks for, or what is wrong with it
-abbrev pub with_said : Geometry → Reading → ℕ → Queues → Result Sent LineFault → Result Queues Fault
-with_said geometry reading line queues (Ok sent) = with_sent geometry reading line queues sent
-with_said geometry reading line queues (Err cause) = Err (ReplayLine line cause)
+abbrev pub of_said : Geometry → Reading → ℕ → Result Sent LineFault → Result (Option Placed) Fault
+of_said geometry reading line (Ok sent) = within geometry (record { port = sent.port; ask = ask_of geometry reading line sent })
+of_said geometry reading line (Err cause) = Err (ReplayLine line cause)
 
--- the port of the next request that names none: the first, or where requests go round the ports the next in turn
-abbrev pub next_port : Reading → ℕ → Queues → ℕ
-next_port reading ports queues = if reading.spread then sum_by length queues % ports else 0
+-- the port of the next request that names none, behind so many requests: the first, or where requests go round the ports the next in turn
+abbrev pub next_port : Reading → ℕ → ℕ → ℕ
+next_port reading ports sent = if reading.spread then sent % ports else 0
 
--- one line more, which has this number
-abbrev pub with_line : Geometry → Reading → ℕ → ℕ → Queues → List ℕ → Result Queues Fault
-with_line geometry reading ports line queues text =
-    if is_skipped reading.format text then Ok queues
-    else with_said geometry reading line queues (sent_of reading.format ports (next_port reading ports queues) text)
+-- a line that is a text asks for nothing where it is skipped
+abbrev pub of_text : Geometry → Reading → ℕ → ℕ → ℕ → List ℕ → Result (Option Placed) Fault
+of_text geometry reading ports line sent text =
+    if is_skipped reading.format text then Ok None
+    else of_said geometry reading line (sent_of reading.format ports (next_port reading ports sent) text)
 
--- the lines behind so many, which were read to these queues
-abbrev pub queues_from : Geometry → Reading → ℕ → ℕ → Queues → List (List ℕ) → Result Queues Fault
-queues_from geometry reading ports count queues [] = Ok queues
-queues_from geometry reading ports count queues (text ∷ more) =
-    with_line geometry reading ports (count + 1) queues text >>> λ next. queues_from geometry reading ports (count + 1) next more
+-- what the line of this number asks for, behind so many requests, or what is wrong with it
+abbrev pub of_line : Geometry → Reading → ℕ → ℕ → ℕ → List ℕ → Result (Option Placed) Fault
+of_line geometry reading ports line sent text =
+    if nat_lt LONGEST_LINE (length text) then Err (ReplayLine line TooLong)
+    else if nat_lt MOST_LINES line then Err InputTooLong
+    else if is_utf8 text then of_text geometry reading ports line sent text
+    else Err (ReplayLine line NotUtf8)
 
--- the requests of each port, or the first fault: `ReplayLine` at a line of another form, `ReplayRange` at one whose address is
--- beyond the capacity; lines count from 1
+-- the request in front of the others of its port, if there is one
+abbrev pub in_front : Option Placed → Queues → Queues
+in_front None queues = queues
+in_front (Some p) queues = slice_set queues p.port (p.ask ∷ queue_at queues p.port)
+
+-- how many requests those are
+abbrev pub asks_in : Option Placed → ℕ
+asks_in None = 0
+asks_in (Some p) = 1
+
+-- what these lines ask for, behind so many lines and so many requests of those
+abbrev pub rest_of : Geometry → Reading → ℕ → ℕ → ℕ → List (List ℕ) → Result Queues Fault
+rest_of geometry reading ports count sent [] = Ok (replicate ports [])
+rest_of geometry reading ports count sent (text ∷ more) =
+    of_line geometry reading ports (count + 1) sent text >>> λ p.
+    rest_of geometry reading ports (count + 1) (sent + asks_in p) more >>> λ queues. Ok (in_front p queues)
+
+-- The requests of each port, in the order of the lines, or the first fault: `ReplayLine` at a line of another form, `ReplayRange` at one
+-- whose address is beyond the capacity, `InputTooLong` at one behind the last that is counted. Lines count from 1.
 unfoldable pub queues_of : Config → Reading → List ℕ → Result Queues Fault
-queues_of config reading text = queues_from config.geometry reading config.limits.ports 0 (replicate config.limits.ports []) (lines text)
-
--- the queues were read on as said, unless memory ran out
-abbrev pub IsRead : Queues → Result (Unit {0}) Fault → Result Queues Fault → Type 0
-IsRead next (Ok _) said = said ≡ Ok next
-IsRead next (Err OutOfMemory) said = Unit {0}
-IsRead next (Err (ReplayLine line cause)) said = said ≡ Err (ReplayLine line cause)
-IsRead next (Err (ReplayRange line)) said = said ≡ Err (ReplayRange line)
-IsRead next (Err _) said = ⊥
-
--- what is answered, seen by the view, is what the stream says, unless memory ran out
-abbrev pub AreRead : {X : Type 0} → (X → Queues) → Result X Fault → Result Queues Fault → Type 0
-AreRead view (Ok x) said = said ≡ Ok (view x)
-AreRead view (Err OutOfMemory) said = Unit {0}
-AreRead view (Err (ReplayLine line cause)) said = said ≡ Err (ReplayLine line cause)
-AreRead view (Err (ReplayRange line)) said = said ≡ Err (ReplayRange line)
-AreRead view (Err _) said = ⊥
+queues_of config reading text = rest_of config.geometry reading config.limits.ports 0 0 (lines text)

@@ -1,7 +1,7 @@
 //! The requests of a port that are still to be submitted.
 //!
 //! `ask` stands below, and `stream` and `ddr_replay` above.
-ghost use Rattle.std.specs.Prelude.{◌≡◌, ◌<◌, ◌∷◌, ◌++◌, [], drop, length, slice_get, OnOk};
+ghost use Rattle.std.specs.Prelude.{◌≡◌, ◌<◌, ◌∷◌, ◌++◌, [], drop, length, slice_get, OnErr, OnOk};
 
 use crate::ask::Ask;
 use std::alloc::{AllocError, Global};
@@ -38,7 +38,8 @@ impl Queue {
 
     /// Adds a request behind the others.
     pub fn push(&mut self, ask: Ask) -> Result<(), AllocError>
-        ensures { OnOk result (self.new ≡ self.old ++ ask ∷ []) }
+        ensures pushed { OnOk result (self.new ≡ self.old ++ ask ∷ []) }
+        ensures kept { OnErr result (self.new ≡ self.old) }
     {
         self.asks.push(ask)?;
         Ok(())
@@ -57,6 +58,19 @@ impl Queue {
         ensures { self.new ≡ drop 1 self.old }
     {
         self.taken += 1;
+        if self.taken >= self.asks.len() - self.taken {
+            self.move_to_front();
+        }
+    }
+
+    /// Moves the requests that were not taken over those that were, so that there is room for at most twice as many as ever waited.
+    fn move_to_front(&mut self)
+        ensures { self.new ≡ self.old }
+    {
+        let count = self.asks.len() - self.taken;
+        self.asks.copy_within(self.taken.., 0);
+        self.asks.truncate(count);
+        self.taken = 0;
     }
 
     pub fn len(&self) -> usize

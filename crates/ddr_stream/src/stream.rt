@@ -1,44 +1,330 @@
-//! The requests of a whole stream, of each port in order.
+//! A stream of requests that is read line by line, as far as its requests are asked for.
 //!
-//! `line`, `capacity` and `queue` stand below, and `ddr_replay` above.
-ghost use Rattle.std.specs.Prelude.{◌≡◌, ◌<◌, ◌≤◌, [], IfOk, length, replicate, sum_by};
-ghost use Rattle.ddr_stream.specs.Stream.{IsRead, AreRead, ask_of, meant, next_port, queues_of, with_ask, with_line, with_said, with_sent};
+//! `placing`, `requests`, `queue` and the feed of `ddr_capture` stand below, and `ddr_replay` above. Of what was read it keeps the requests
+//! alone that were not taken.
+ghost use Rattle.std.specs.Prelude.{◌≡◌, ◌≢◌, ℕ, ◌+◌, ◌<◌, ◌≤◌, false, true, [], Ok, Some, IfErr, IfOk, IfNone, IfSome, IsErrOf, IsTrue, OnErr, OnOk, length, map, replicate, slice_get, sum_by};
+ghost use Rattle.ddr_capture.specs.Feed.{IsWell, waiting};
+ghost use Rattle.ddr_capture.specs.Lines.{text_of};
+ghost use Rattle.ddr_stream.specs.Next.{IsNext, left_in, line_fault, lines_in, next_of, pushed};
+ghost use Rattle.ddr_stream.specs.Requests.{no_requests};
+ghost use Rattle.ddr_stream.specs.Stream.{queue_at};
+ghost use Rattle.ddr_stream.specs.Waiting.{All, IsAhead, IsReadOn, IsSaidFault, IsSame, IsSized, IsStreamFault, Knows, all_in, begun, popped};
 
 use crate::ask::Ask;
-use crate::capacity::capacity;
-use crate::line::{Sent, is_skipped, parse_line};
+use crate::placing::{MOST_LINES, Placed, of_line};
 use crate::queue::Queue;
+use crate::requests::Requests;
 use ddr_address_map::map::Map;
+use ddr_capture::feed::{Feed, Found, Refusal, without_return};
 use ddr_text::command::Reading;
-use ddr_text::fault::Fault;
+use ddr_text::fault::{Fault, LineFault};
+use ddr_text::source::Source;
 use ddr_timing::config::Config;
 use std::alloc::{AllocError, Global};
+use std::marker::Model;
 
-/// The most bytes of an input.
-pub const LONGEST_STREAM: usize = 0x4000_0000_0000_0000;
-
-/// The requests that a stream, which is read so, has for each port, in the order of its lines.
-///
-/// Fails as `ReplayLine` or as `ReplayRange` at the first line that is at fault, and as `OutOfMemory`.
-pub fn queues_of(
-    alloc: Global,
-    config: &Config,
+/// The requests of a stream. Contracts see it as `Waiting`.
+#[derive(Drop)]
+pub struct Stream {
+    config: Config,
+    map: Map,
     reading: Reading,
-    text: &str,
-) -> Result<Vec<Queue>, Fault>
-    requires { length text.now ≤ LONGEST_STREAM }
-    ensures said { AreRead (λ v. v.items) result (queues_of config.now reading text.now) }
-    ensures ports { IfOk result (λ v. length v.items ≡ config.now.limits.ports) }
-{
-    let map = Map::new(config);
-    let ports = config.limits.ports;
-    let mut queues = empty_queues(alloc, ports)?;
-    let mut line = 0;
-    for written in text.lines() {
-        line += 1;
-        read_line(&map, reading, ports, line, &mut queues, written)?;
+    feed: Feed,
+    /// How many lines were read.
+    count: u64,
+    /// How many requests those have.
+    sent: u64,
+    /// How many of them were taken.
+    taken: u64,
+    /// Whether those are all lines.
+    ended: bool,
+    /// Of each port the requests that were read and not taken.
+    queues: Vec<Queue>,
+    /// Of each port how many were read.
+    asked: Vec<Requests>,
+}
+
+impl Model for Stream {
+    ghost use Rattle.ddr_stream.specs.Waiting.{Waiting};
+
+    ghost Value = { Waiting };
+
+    ghost use Rattle.ddr_stream.specs.View.{waiting_of, IsWhole};
+
+    ghost view = { waiting_of };
+
+    ghost invariant = { IsWhole };
+}
+
+/// What a line, or the input's end, is.
+#[derive(Clone, Copy, Debug, PartialEq, Eq)]
+enum Next {
+    /// A line that asks for nothing.
+    Nothing,
+    /// A request.
+    Ask(Placed),
+    /// The input's end.
+    End,
+}
+
+impl Stream {
+    /// A stream whose lines are read so, which begin in this feed, and of which none was read.
+    pub fn open(
+        alloc: Global,
+        config: &Config,
+        reading: Reading,
+        feed: Feed,
+    ) -> Result<Stream, AllocError>
+        requires { IsWell feed }
+        ensures { IfOk result (λ s. s ≡ begun config.now reading (waiting feed)) }
+    {
+        let ports = config.limits.ports;
+        Ok(Stream {
+            config: *config,
+            map: Map::new(config),
+            reading,
+            feed,
+            count: 0,
+            sent: 0,
+            taken: 0,
+            ended: false,
+            queues: empty_queues(alloc, ports)?,
+            asked: none_asked(alloc, ports)?,
+        })
     }
-    Ok(queues)
+
+    /// The next request of a port, for which as many lines are read as it takes, or none where no line is left that has one.
+    ///
+    /// Fails as `ReplayLine`, as `ReplayRange` and as `InputTooLong` at the first line that is at fault, as `Read` where the reader fails, and
+    /// as `OutOfMemory`; then no more of it is promised.
+    pub fn first<R: Source>(&mut self, reader: &mut R, port: u32) -> Result<Option<Ask>, Fault>
+        requires { port < self.old.config.limits.ports }
+        ensures same { OnOk result (IsSame (all_in self.old (R.remaining reader.old)) (all_in self.new (R.remaining reader.new))) }
+        ensures first { IfOk result (λ ask. ask ≡ slice_get (queue_at self.new.queues port) 0) }
+        ensures knows { OnOk result (Knows self.new port) }
+        ensures rest { IsReadOn self.old self.new }
+        ensures kind { IfErr result IsStreamFault }
+        ensures fault { IfErr result (λ fault. IsSaidFault fault (all_in self.old (R.remaining reader.old))) }
+        ensures sure { IsErrOf result Fault.Read → IsTrue R.may_fail }
+    {
+        let mut known = self.known(port);
+        'lines: while known.is_none() && !self.ended {
+            self.read_line(reader)?;
+            known = self.known(port);
+        }
+        Ok(known)
+    }
+
+    /// The next request of a port that was read, if there is one.
+    pub fn known(&self, port: u32) -> Option<Ask>
+        ensures first { result ≡ slice_get (queue_at self.now.queues port) 0 }
+        ensures sized { IsSized self.now }
+    {
+        match self.queues.get(port as usize) {
+            Some(queue) => queue.first(),
+            None => None,
+        }
+    }
+
+    /// Takes the next request of a port, which was read.
+    pub fn pop(&mut self, port: u32)
+        requires { 0 < length (queue_at self.old.queues port) }
+        ensures popped { self.new ≡ popped port self.old }
+        ensures sized { IsSized self.new }
+    {
+        self.queues[port as usize].pop();
+        self.taken += 1;
+    }
+
+    /// Reads as far as of each port the next request is known, or that there is none. Fails as `first` does.
+    pub fn read_ahead<R: Source>(&mut self, reader: &mut R) -> Result<(), Fault>
+        ensures same { OnOk result (IsSame (all_in self.old (R.remaining reader.old)) (all_in self.new (R.remaining reader.new))) }
+        ensures ahead { OnOk result (IsAhead self.new) }
+        ensures rest { IsReadOn self.old self.new }
+        ensures kind { IfErr result IsStreamFault }
+        ensures fault { IfErr result (λ fault. IsSaidFault fault (all_in self.old (R.remaining reader.old))) }
+        ensures sure { IsErrOf result Fault.Read → IsTrue R.may_fail }
+    {
+        for port in 0..self.config.limits.ports {
+            self.first(reader, port)?;
+        }
+        Ok(())
+    }
+
+    /// Reads all lines that are left. Fails as `first` does.
+    pub fn read_all<R: Source>(&mut self, reader: &mut R) -> Result<(), Fault>
+        ensures same { OnOk result (IsSame (all_in self.old (R.remaining reader.old)) (all_in self.new (R.remaining reader.new))) }
+        ensures ended { OnOk result (self.new.ended ≡ true) }
+        ensures rest { IsReadOn self.old self.new }
+        ensures kind { IfErr result IsStreamFault }
+        ensures fault { IfErr result (λ fault. IsSaidFault fault (all_in self.old (R.remaining reader.old))) }
+        ensures sure { IsErrOf result Fault.Read → IsTrue R.may_fail }
+    {
+        let mut ended = self.ended;
+        'left: while !ended {
+            self.read_line(reader)?;
+            ended = self.ended;
+        }
+        Ok(())
+    }
+
+    /// Looks whether any line that is left is at fault, and keeps none of their requests. Fails as `first` does.
+    pub fn skip_all<R: Source>(&mut self, reader: &mut R) -> Result<(), Fault>
+        ensures sound { OnOk result (IfSome (all_in self.old (R.remaining reader.old)) (λ said. (all : All) × (said ≡ Ok all))) }
+        ensures rest { IsReadOn self.old self.new }
+        ensures kind { IfErr result IsStreamFault }
+        ensures fault { IfErr result (λ fault. IsSaidFault fault (all_in self.old (R.remaining reader.old))) }
+        ensures sure { IsErrOf result Fault.Read → IsTrue R.may_fail }
+    {
+        let mut sent = self.sent;
+        'skipped: while !self.ended {
+            match self.next(reader, sent)? {
+                Next::Ask(_) => sent += 1,
+                Next::Nothing => {}
+                Next::End => self.ended = true,
+            }
+        }
+        Ok(())
+    }
+
+    /// Puts other requests in the place of those that wait, as many for each port.
+    pub fn put(&mut self, queues: Vec<Queue>)
+        requires { map length queues.items ≡ map length self.old.queues }
+        ensures put { self.new ≡ record self.old { queues = queues.items } }
+        ensures sized { IsSized self.new }
+    {
+        self.queues = queues;
+    }
+
+    /// Of each port the requests that wait.
+    pub fn queues(&self) -> &[Queue]
+        ensures { result.now ≡ self.now.queues }
+    {
+        self.queues.as_slice()
+    }
+
+    /// How many requests were read.
+    pub fn sent(&self) -> u64
+        ensures value { result ≡ self.now.sent }
+        ensures sized { IsSized self.now }
+    {
+        self.sent
+    }
+
+    /// How many of them were taken.
+    pub fn taken(&self) -> u64
+        ensures value { result ≡ self.now.taken }
+        ensures sized { IsSized self.now }
+    {
+        self.taken
+    }
+
+    /// Of each port how many requests were read.
+    pub fn asked(&self) -> &[Requests]
+        ensures { result.now ≡ self.now.asked }
+    {
+        self.asked.as_slice()
+    }
+
+    /// Reads a line, and keeps its request, or notes that there is none left.
+    fn read_line<R: Source>(&mut self, reader: &mut R) -> Result<(), Fault>
+        requires { self.old.ended ≡ false }
+        ensures same { OnOk result (IsSame (all_in self.old (R.remaining reader.old)) (all_in self.new (R.remaining reader.new))) }
+        ensures on { OnOk result (self.new.ended ≡ false → self.old.count < self.new.count) }
+        ensures few { self.new.count ≤ MOST_LINES }
+        ensures rest { IsReadOn self.old self.new }
+        ensures kind { IfErr result IsStreamFault }
+        ensures fault { IfErr result (λ fault. IsSaidFault fault (all_in self.old (R.remaining reader.old))) }
+        ensures sure { IsErrOf result Fault.Read → IsTrue R.may_fail }
+    {
+        let sent = self.sent;
+        let next = self.next(reader, sent)?;
+        match next {
+            Next::Ask(placed) => self.push(placed),
+            Next::Nothing => Ok(()),
+            Next::End => {
+                self.ended = true;
+                Ok(())
+            }
+        }
+    }
+
+    /// What the next line asks for, which is read behind so many requests, or that there is none. Its request isn't kept.
+    fn next<R: Source>(&mut self, reader: &mut R, sent: u64) -> Result<Next, Fault>
+        ensures next { IfOk result (λ next. IsNext next self.old sent (R.remaining reader.old) self.new (R.remaining reader.new)) }
+        ensures count { IfOk result (λ next. self.new.count ≡ self.old.count + lines_in next) }
+        ensures few { self.new.count ≤ MOST_LINES }
+        ensures kept { self.new ≡ record self.old { bytes = self.new.bytes; count = self.new.count } }
+        ensures kind { IfErr result IsStreamFault }
+        ensures fault { IfErr result (λ fault. IsSaidFault fault (left_in self.old sent (R.remaining reader.old))) }
+        ensures sure { IsErrOf result Fault.Read → IsTrue R.may_fail }
+    {
+        let found = match self.feed.next(reader) {
+            Ok(found) => found,
+            Err(refusal) => return Err(line_fault(self.count + 1, refusal)),
+        };
+        let Some(text) = text_of(found, self.feed.line()) else {
+            return Ok(Next::End);
+        };
+        let line = self.count + 1;
+        let ports = self.config.limits.ports;
+        let asked = of_line(&self.map, self.reading, ports, line, sent, text)?;
+        self.count = line;
+        Ok(next_of(asked))
+    }
+
+    /// Keeps a request behind the others of its port.
+    fn push(&mut self, placed: Placed) -> Result<(), Fault>
+        requires there { placed.port < self.old.config.limits.ports }
+        requires few { self.old.sent < self.old.count }
+        ensures pushed { OnOk result (self.new ≡ pushed placed self.old) }
+        ensures sized { IsSized self.new }
+        ensures kept { OnErr result (self.new ≡ self.old) }
+        ensures refused { IfErr result (λ fault. fault ≡ Fault.OutOfMemory) }
+    {
+        let Placed { port, ask } = placed;
+        self.queues[port as usize].push(ask)?;
+        self.asked[port as usize].count(ask.kind);
+        self.sent += 1;
+        Ok(())
+    }
+}
+
+/// What a line is that asks for this, or for nothing.
+fn next_of(asked: Option<Placed>) -> Next
+    ensures { result ≡ next_of asked }
+{
+    match asked {
+        Some(placed) => Next::Ask(placed),
+        None => Next::Nothing,
+    }
+}
+
+/// A line that was found, without its end; none at the input's end.
+fn text_of(found: Found, line: &[u8]) -> Option<&[u8]>
+    ensures text { IfSome result (λ text. text.now ≡ text_of found line.now) }
+    ensures some { IfSome result (λ _. found ≢ Found.End) }
+    ensures none { IfNone result (found ≡ Found.End) }
+{
+    match found {
+        Found::Line => Some(without_return(line)),
+        Found::Last => Some(line),
+        Found::End => None,
+    }
+}
+
+/// Why the line of this number was not found.
+fn line_fault(line: u64, refusal: Refusal) -> Fault
+    ensures { result ≡ line_fault line refusal }
+{
+    match refusal {
+        Refusal::Line => Fault::ReplayLine {
+            line,
+            cause: LineFault::TooLong,
+        },
+        Refusal::Read => Fault::Read,
+        Refusal::OutOfMemory => Fault::OutOfMemory,
+    }
 }
 
 /// As many queues as there are ports.
@@ -52,99 +338,13 @@ fn empty_queues(alloc: Global, ports: u32) -> Result<Vec<Queue>, AllocError>
     Ok(queues)
 }
 
-/// Adds the request of a line, unless the line is skipped.
-fn read_line(
-    map: &Map,
-    reading: Reading,
-    ports: u32,
-    line: u64,
-    queues: &mut Vec<Queue>,
-    written: &str,
-) -> Result<(), Fault>
-    requires { 0 < ports }
-    ensures said { IsRead queues.new.items result (with_line map.now.geometry reading ports line queues.old.items written.now) }
-    ensures ports { length queues.new.items ≡ length queues.old.items }
+/// Of each port that no request was read.
+fn none_asked(alloc: Global, ports: u32) -> Result<Vec<Requests>, AllocError>
+    ensures { IfOk result (λ v. v.items ≡ replicate ports no_requests) }
 {
-    if is_skipped(reading.format, written) {
-        return Ok(());
+    let mut asked = Vec::new(alloc);
+    for _ in 0..ports {
+        asked.push(Requests::NONE)?;
     }
-    let next = next_port(reading, ports, queues.as_slice());
-    match parse_line(reading.format, ports, next, written) {
-        Ok(sent) => push_sent(map, reading, line, queues, sent),
-        Err(cause) => Err(Fault::ReplayLine { line, cause }),
-    }
-}
-
-/// The port of the next request that names none: the first, or where requests go round the ports the next in turn.
-fn next_port(reading: Reading, ports: u32, queues: &[Queue]) -> u32
-    requires { 0 < ports }
-    ensures { result ≡ next_port reading ports queues.now }
-{
-    if reading.spread {
-        (count_all(queues) % u128::from(ports)) as u32
-    } else {
-        0
-    }
-}
-
-/// How many requests the queues have.
-pub fn count_all(queues: &[Queue]) -> u128
-    ensures { result ≡ sum_by length queues.now }
-{
-    let mut count: u128 = 0;
-    for queue in queues {
-        count += queue.len() as u128;
-    }
-    count
-}
-
-/// Adds what a line of this number asks for.
-fn push_sent(
-    map: &Map,
-    reading: Reading,
-    line: u64,
-    queues: &mut Vec<Queue>,
-    sent: Sent,
-) -> Result<(), Fault>
-    ensures said { IsRead queues.new.items result (with_sent map.now.geometry reading line queues.old.items sent) }
-    ensures ports { length queues.new.items ≡ length queues.old.items }
-{
-    let Sent { port, at, kind, .. } = sent;
-    let addr = meant(map, reading, sent.addr);
-    push_ask(
-        map,
-        port,
-        queues,
-        Ask {
-            line,
-            at,
-            kind,
-            addr,
-        },
-    )
-}
-
-/// The address that is meant.
-fn meant(map: &Map, reading: Reading, addr: u64) -> u64
-    ensures { result ≡ meant map.now.geometry reading addr }
-{
-    if reading.wrap {
-        addr % capacity(&map.geometry)
-    } else {
-        addr
-    }
-}
-
-/// Adds a request behind the others of its port, where its address lies in the memory.
-fn push_ask(map: &Map, port: u32, queues: &mut Vec<Queue>, ask: Ask) -> Result<(), Fault>
-    ensures said { IsRead queues.new.items result (with_ask map.now.geometry port queues.old.items ask) }
-    ensures ports { length queues.new.items ≡ length queues.old.items }
-{
-    if map.place(ask.addr).is_none() {
-        return Err(Fault::ReplayRange { line: ask.line });
-    }
-    if (port as usize) < queues.len() {
-        queues[port as usize].push(ask)?;
-    }
-    Ok(())
+    Ok(asked)
 }

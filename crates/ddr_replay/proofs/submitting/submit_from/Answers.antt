@@ -1,5 +1,5 @@
 -- One request after another is accepted, until one has to wait.
-use Rattle.std.proofs.Common.{◌≤◌, ◌⊎◌, ◌+◌, List, Err, IfSome, inr, length, arith, ap, ap₂, sym, subst, ◌∙◌}
+use Rattle.std.proofs.Common.{◌≤◌, ◌<◌, Err, arith, refl, ap, ap₂, sym, subst, ◌∙◌}
 use Rattle.ddr_ports.specs.Asked.{Asked}
 use Rattle.ddr_world.specs.declared.event.Refusal.{Refusal}
 use Rattle.ddr_world.specs.Events.{Submit}
@@ -7,89 +7,168 @@ use Rattle.ddr_world.specs.Kept.{state_of}
 use Rattle.ddr_world.specs.State.{State}
 use Rattle.ddr_world.specs.Step.{step}
 use Rattle.ddr_rounds.specs.Rounds.{outstanding}
-use Rattle.ddr_stream.specs.declared.ask.Ask.{Ask}
 use Rattle.ddr_stream.specs.Asks.{asked_by}
-use Rattle.ddr_replay.specs.Ledgers.{Ledger, with_wait}
-use Rattle.ddr_replay.specs.Runs.{submitted}
+use Rattle.ddr_stream.specs.Waiting.{Knows, Waiting, all_in}
+use Rattle.ddr_replay.specs.Ahead.{Carries}
+use Rattle.ddr_replay.specs.Ledgers.{Ledger, with_accepted, with_wait}
+use Rattle.ddr_replay.specs.Runs.{accepted_in}
 use Rattle.ddr_replay.specs.Waits.{IsFull}
-use Rattle.ddr_replay.proofs.SubmitLemmas.{full_of, one_more, some_left, submitted_later, submitted_more, submitted_none, submitted_refused}
+use Rattle.ddr_replay.proofs.AheadLemmas.{carries_read}
+use Rattle.ddr_replay.proofs.SubmitLemmas.{IsLed, full_of, led_end, led_on, led_start, one_more, popped_knows, port_within, submitted_later, submitted_more, submitted_none, submitted_refused, waits_full, waits_later, waits_none}
 use Rattle.ddr_rounds.proofs.TraceLemmas.{submit_traces}
 use Rattle.ddr_replay.proofs.submitting.submit_from.Goals as goal
 
+pub asks-init : goal.asks-init
+asks-init g c = record {
+  led = led_start c.args.port c.args.round (state_of c.args.world.now) c.args.ledger.now (all_in c.args.stream.now (g.R.Read.remaining c.args.reader.now));
+  others = λ q other knows. knows;
+  stream = refl;
+  sized = c.requires.sized;
+  config = refl;
+  keeps = refl;
+  traces = λ d. refl;
+  count = refl;
+}
+
 pub returns-then-ask-from-clause-submitted : goal.returns-then-ask-from-clause-submitted
-returns-then-ask-from-clause-submitted c =
-    sym c.asks.invariant.submitted ∙ submitted_later c.args.port c.args.round c.asks.queue c.in-Some.ask (state_of c.asks.world) c.asks.ledger c.in-Some.ensures (omega (arith, c.if-ask-from.true, c.from.ensures))
+returns-then-ask-from-clause-submitted g c =
+    let w = c.first.new.self in
+    let more = g.R.Read.remaining c.first.new.reader in
+    let a = all_in c.args.stream.now (g.R.Read.remaining c.args.reader.now) in
+    let s = state_of c.asks.world in
+    let ask = c.in-Some.ask in
+    let port = c.args.port in
+    let round = c.args.round in
+    let led = carries_read (λ all next. IsLed port round (state_of c.args.world.now) c.args.ledger.now s c.asks.ledger all next) a (all_in c.asks.stream (g.R.Read.remaining c.asks.reader)) (all_in w more) c.asks.invariant.led c.in_ok-ask.ensures.same in
+    let first = sym c.in-Some.is ∙ c.in_ok-ask.ensures.first in
+    let later : round < ask.at = omega (arith, c.if-ask-from.true, c.from.ensures) in
+    led_end port round ask.at (state_of c.args.world.now) c.args.ledger.now s c.asks.ledger s c.asks.ledger w more a c.in_ok-ask.ensures.rest.sized
+    (port_within w c.args.stream.now.config port (c.in_ok-ask.ensures.rest.config ∙ c.asks.invariant.stream) c.requires.port) c.in_ok-ask.ensures.knows led
+    (λ rest same. (submitted_later port round rest ask s c.asks.ledger (first ∙ sym same) later, waits_later port round rest ask s (first ∙ sym same)))
 
 pub asks-preserved : goal.asks-preserved
-asks-preserved c =
+asks-preserved g c =
+    let w = c.first.new.self in
+    let more = g.R.Read.remaining c.first.new.reader in
+    let a = all_in c.args.stream.now (g.R.Read.remaining c.args.reader.now) in
     let s = state_of c.asks.world in
     let next = state_of c.step.new.self in
     let ask = c.in-Some.ask in
+    let port = c.args.port in
+    let round = c.args.round in
     let o = c.in-Ok.field-0 in
-    let accepted = ap (λ (a : Asked). step s (Submit c.args.port a)) (sym c.request.ensures) ∙ c.in-Ok.ensures.answer.ok in
+    let before = state_of c.args.world.now in
+    let old = c.args.ledger.now in
+    let led = carries_read (λ all last. IsLed port round before old s c.asks.ledger all last) a (all_in c.asks.stream (g.R.Read.remaining c.asks.reader)) (all_in w more) c.asks.invariant.led c.in_ok-ask.ensures.same in
+    let first = sym c.in-Some.is ∙ c.in_ok-ask.ensures.first in
+    let come : ask.at ≤ round = omega (arith, c.if-ask-from.false, c.from.ensures) in
+    let accepted = ap (λ (q : Asked). step s (Submit port q)) (sym c.request.ensures) ∙ c.in-Ok.ensures.answer.ok in
+    let rest = c.in_ok-ask.ensures.rest in
     let kept = c.asks.invariant in
+    let on = led_on port round before old s c.asks.ledger next (with_accepted port (accepted_in round ask) c.asks.ledger) w more a ask rest.sized
+    (port_within w c.args.stream.now.config port (rest.config ∙ kept.stream) c.requires.port) first led (λ left is. submitted_more port round left ask s next c.asks.ledger o is come accepted) in
     record {
-      submitted = ap₂ (λ (q : List Ask) (ledger : Ledger). submitted c.args.port c.args.round q next ledger) c.pop.ensures c.in_ok-accept-in-Ok.ensures
-          ∙ submitted_more c.args.port c.args.round c.asks.queue ask s next c.asks.ledger o c.in-Some.ensures (omega (arith, c.if-ask-from.false, c.from.ensures)) accepted ∙ kept.submitted;
+      led = subst (λ (l : Ledger). Carries (λ all last. IsLed port round before old next l all last) a (all_in c.pop.new.self more)) (sym c.in_ok-accept-in-Ok.ensures)
+          (subst (λ (v : Waiting). Carries (λ all last. IsLed port round before old next (with_accepted port (accepted_in round ask) c.asks.ledger) all last) a (all_in v more)) (sym c.pop.ensures.popped) on);
+      others = λ q other knows. subst (λ (v : Waiting). Knows v q) (sym c.pop.ensures.popped) (popped_knows w port q other (rest.knows q (kept.others q other knows)));
+      stream = ap (λ (v : Waiting). v.config) c.pop.ensures.popped ∙ rest.config ∙ kept.stream;
+      sized = c.pop.ensures.sized;
       config = c.in-Ok.ensures.answer.config ∙ kept.config;
       keeps = c.in-Ok.ensures.answer.keeps ∙ kept.keeps;
-      traces = λ d. submit_traces d c.asks.world c.step.new.self c.args.port _ _ c.in-Ok.ensures.answer ∙ kept.traces d;
-      count = omega (arith, kept.count, one_more s next c.args.port (asked_by ask) o accepted, some_left c.asks.queue ask c.in-Some.ensures, ap (λ (q : List Ask). length q) c.pop.ensures);
+      traces = λ d. submit_traces d c.asks.world c.step.new.self port _ _ c.in-Ok.ensures.answer ∙ kept.traces d;
+      count = omega (arith, kept.count, one_more s next port (asked_by ask) o accepted, ap (λ (v : Waiting). v.taken) c.pop.ensures.popped, rest.taken);
     }
 
-pub returns-in_err-accept-in-Ok-clause-count : goal.returns-in_err-accept-in-Ok-clause-count
-returns-in_err-accept-in-Ok-clause-count c =
-    let s = state_of c.asks.world in
-    let next = state_of c.step.new.self in
-    let ask = c.in-Some.ask in
-    let o = c.in-Ok.field-0 in
-    let accepted = ap (λ (a : Asked). step s (Submit c.args.port a)) (sym c.request.ensures) ∙ c.in-Ok.ensures.answer.ok in
-    omega (arith, c.asks.invariant.count, one_more s next c.args.port (asked_by ask) o accepted, some_left c.asks.queue ask c.in-Some.ensures, ap (λ (q : List Ask). length q) c.pop.ensures)
+pub returns-in_err-accept-in-Ok-clause-others : goal.returns-in_err-accept-in-Ok-clause-others
+returns-in_err-accept-in-Ok-clause-others g c = λ q other knows.
+    subst (λ (v : Waiting). Knows v q) (sym c.pop.ensures.popped) (popped_knows c.first.new.self c.args.port q other (c.in_ok-ask.ensures.rest.knows q (c.asks.invariant.others q other knows)))
 
 pub returns-in_err-accept-in-Ok-clause-traces : goal.returns-in_err-accept-in-Ok-clause-traces
-returns-in_err-accept-in-Ok-clause-traces c = λ d.
+returns-in_err-accept-in-Ok-clause-traces g c = λ d.
     submit_traces d c.asks.world c.step.new.self c.args.port _ _ c.in-Ok.ensures.answer ∙ c.asks.invariant.traces d
 
-pub returns-in-Err-WindowFull-clause-submitted : goal.returns-in-Err-WindowFull-clause-submitted
-returns-in-Err-WindowFull-clause-submitted c =
+pub returns-in_err-accept-in-Ok-clause-count : goal.returns-in_err-accept-in-Ok-clause-count
+returns-in_err-accept-in-Ok-clause-count g c =
     let s = state_of c.asks.world in
-    let ask = c.in-Some.ask in
-    let answer = c.in-Err-WindowFull.ensures.answer in
-    let refused = ap (λ (a : Asked). step s (Submit c.args.port a)) (sym c.request.ensures) ∙ answer.refused in
-    sym c.asks.invariant.submitted
-    ∙ submitted_refused c.args.port c.args.round c.asks.queue ask s c.asks.ledger c.in-Err-WindowFull.field-0 c.in-Some.ensures (omega (arith, c.if-ask-from.false, c.from.ensures)) refused
-    ∙ ap₂ (λ (t : State) (l : Ledger). record { state = t; ledger = l; rest = c.asks.queue }) (sym answer.err)
-    (ap (λ (r : Refusal). with_wait c.args.port r c.asks.ledger) c.in-Err-WindowFull.field-0-is ∙ sym c.wait.ensures)
+    let accepted = ap (λ (q : Asked). step s (Submit c.args.port q)) (sym c.request.ensures) ∙ c.in-Ok.ensures.answer.ok in
+    omega (arith, c.asks.invariant.count, one_more s (state_of c.step.new.self) c.args.port (asked_by c.in-Some.ask) c.in-Ok.field-0 accepted, ap (λ (v : Waiting). v.taken) c.pop.ensures.popped, c.in_ok-ask.ensures.rest.taken)
 
-pub returns-in-Err-WindowFull-clause-waits : goal.returns-in-Err-WindowFull-clause-waits
-returns-in-Err-WindowFull-clause-waits c = λ ahead.
+pub returns-in-Err-WindowFull-clause-submitted : goal.returns-in-Err-WindowFull-clause-submitted
+returns-in-Err-WindowFull-clause-submitted g c =
+    let w = c.first.new.self in
+    let more = g.R.Read.remaining c.first.new.reader in
+    let a = all_in c.args.stream.now (g.R.Read.remaining c.args.reader.now) in
     let s = state_of c.asks.world in
     let next = state_of c.step.new.self in
     let ask = c.in-Some.ask in
+    let port = c.args.port in
+    let round = c.args.round in
+    let led = carries_read (λ all last. IsLed port round (state_of c.args.world.now) c.args.ledger.now s c.asks.ledger all last) a (all_in c.asks.stream (g.R.Read.remaining c.asks.reader)) (all_in w more) c.asks.invariant.led c.in_ok-ask.ensures.same in
+    let first = sym c.in-Some.is ∙ c.in_ok-ask.ensures.first in
     let answer = c.in-Err-WindowFull.ensures.answer in
-    let refused = ap (λ (a : Asked). step s (Submit c.args.port a)) (sym c.request.ensures) ∙ answer.refused ∙ ap (λ (r : Refusal). Err r) c.in-Err-WindowFull.field-0-is in
-    let come : ask.at ≤ c.args.round = omega (arith, c.if-ask-from.false, c.from.ensures) in
-    let full = subst (λ (t : State). IsFull c.args.port ask t) (sym answer.err) (full_of s c.args.port ask refused) in
-    subst (λ o. IfSome o (λ (x : Ask). (18446744073709551615 ≤ x.at) ⊎ ((x.at ≤ c.args.round) × IsFull c.args.port x next))) c.in-Some.ensures (inr (come, full))
+    let refused = ap (λ (q : Asked). step s (Submit port q)) (sym c.request.ensures) ∙ answer.refused in
+    let come : ask.at ≤ round = omega (arith, c.if-ask-from.false, c.from.ensures) in
+    let full = subst (λ (t : State). IsFull port ask t) (sym answer.err) (full_of s port ask (refused ∙ ap (λ (r : Refusal). Err r) c.in-Err-WindowFull.field-0-is)) in
+    led_end port round 18446744073709551615 (state_of c.args.world.now) c.args.ledger.now s c.asks.ledger next c.wait.new.self w more a c.in_ok-ask.ensures.rest.sized
+    (port_within w c.args.stream.now.config port (c.in_ok-ask.ensures.rest.config ∙ c.asks.invariant.stream) c.requires.port) c.in_ok-ask.ensures.knows led
+    (λ rest same. (
+      submitted_refused port round rest ask s c.asks.ledger c.in-Err-WindowFull.field-0 (first ∙ sym same) come refused
+          ∙ ap₂ (λ (t : State) (l : Ledger). record { state = t; ledger = l; rest = rest }) (sym answer.err)
+          (ap (λ (r : Refusal). with_wait port r c.asks.ledger) c.in-Err-WindowFull.field-0-is ∙ sym c.wait.ensures),
+      waits_full port 18446744073709551615 round rest ask next (first ∙ sym same) come full,
+    ))
+
+pub returns-in-Err-WindowFull-clause-others : goal.returns-in-Err-WindowFull-clause-others
+returns-in-Err-WindowFull-clause-others g c = λ q other knows. c.in_ok-ask.ensures.rest.knows q (c.asks.invariant.others q other knows)
 
 pub returns-in-Err : goal.returns-in-Err
-returns-in-Err c =
+returns-in-Err g c =
+    let w = c.first.new.self in
+    let more = g.R.Read.remaining c.first.new.reader in
+    let a = all_in c.args.stream.now (g.R.Read.remaining c.args.reader.now) in
     let s = state_of c.asks.world in
+    let next = state_of c.step.new.self in
     let ask = c.in-Some.ask in
+    let port = c.args.port in
+    let round = c.args.round in
+    let led = carries_read (λ all last. IsLed port round (state_of c.args.world.now) c.args.ledger.now s c.asks.ledger all last) a (all_in c.asks.stream (g.R.Read.remaining c.asks.reader)) (all_in w more) c.asks.invariant.led c.in_ok-ask.ensures.same in
+    let first = sym c.in-Some.is ∙ c.in_ok-ask.ensures.first in
     let answer = c.in-Err.ensures.answer in
-    let refused = ap (λ (a : Asked). step s (Submit c.args.port a)) (sym c.request.ensures) ∙ answer.refused in
+    let refused = ap (λ (q : Asked). step s (Submit port q)) (sym c.request.ensures) ∙ answer.refused in
+    let come : ask.at ≤ round = omega (arith, c.if-ask-from.false, c.from.ensures) in
+    let rest = c.in_ok-ask.ensures.rest in
     let kept = c.asks.invariant in
     record {
-      submitted = sym kept.submitted
-          ∙ submitted_refused c.args.port c.args.round c.asks.queue ask s c.asks.ledger c.in-Err.cause c.in-Some.ensures (omega (arith, c.if-ask-from.false, c.from.ensures)) refused
-          ∙ ap₂ (λ (t : State) (l : Ledger). record { state = t; ledger = l; rest = c.asks.queue }) (sym answer.err) (sym c.wait-in-Err.ensures);
-      waits = λ ahead. absurd (omega (arith, ahead));
+      submitted = led_end port round 0 (state_of c.args.world.now) c.args.ledger.now s c.asks.ledger next c.wait-in-Err.new.self w more a rest.sized
+          (port_within w c.args.stream.now.config port (rest.config ∙ kept.stream) c.requires.port) c.in_ok-ask.ensures.knows led
+          (λ left same. (
+            submitted_refused port round left ask s c.asks.ledger c.in-Err.cause (first ∙ sym same) come refused
+                ∙ ap₂ (λ (t : State) (l : Ledger). record { state = t; ledger = l; rest = left }) (sym answer.err) (sym c.wait-in-Err.ensures),
+            λ ahead. absurd (omega (arith, ahead)),
+          ));
+      knows = c.in_ok-ask.ensures.knows;
+      others = λ q other knows. rest.knows q (kept.others q other knows);
+      stream = rest.config ∙ kept.stream;
+      sized = rest.sized;
       config = answer.config ∙ kept.config;
       keeps = answer.keeps ∙ kept.keeps;
-      traces = λ d. submit_traces d c.asks.world c.step.new.self c.args.port _ _ answer ∙ kept.traces d;
-      count = ap (λ (t : State). length c.asks.queue + outstanding t) answer.err ∙ kept.count;
+      traces = λ d. submit_traces d c.asks.world c.step.new.self port _ _ answer ∙ kept.traces d;
+      count = omega (arith, kept.count, rest.taken, ap (λ (t : State). outstanding t) answer.err);
+      kind = tt;
+      fault = tt;
+      sure = λ never. absurd (let impossible = never in cc);
     }
 
 pub returns-clause-submitted : goal.returns-clause-submitted
-returns-clause-submitted c =
-    sym c.asks.invariant.submitted ∙ submitted_none c.args.port c.args.round c.asks.queue (state_of c.asks.world) c.asks.ledger c.in_default.ensures
+returns-clause-submitted g c =
+    let w = c.first.new.self in
+    let more = g.R.Read.remaining c.first.new.reader in
+    let a = all_in c.args.stream.now (g.R.Read.remaining c.args.reader.now) in
+    let s = state_of c.asks.world in
+    let port = c.args.port in
+    let round = c.args.round in
+    let led = carries_read (λ all last. IsLed port round (state_of c.args.world.now) c.args.ledger.now s c.asks.ledger all last) a (all_in c.asks.stream (g.R.Read.remaining c.asks.reader)) (all_in w more) c.asks.invariant.led c.in_ok-ask.ensures.same in
+    let none = sym c.in_default.is ∙ c.in_ok-ask.ensures.first in
+    led_end port round 18446744073709551615 (state_of c.args.world.now) c.args.ledger.now s c.asks.ledger s c.asks.ledger w more a c.in_ok-ask.ensures.rest.sized
+    (port_within w c.args.stream.now.config port (c.in_ok-ask.ensures.rest.config ∙ c.asks.invariant.stream) c.requires.port) c.in_ok-ask.ensures.knows led
+    (λ rest same. (submitted_none port round rest s c.asks.ledger (none ∙ sym same), waits_none port 18446744073709551615 round rest s (none ∙ sym same)))

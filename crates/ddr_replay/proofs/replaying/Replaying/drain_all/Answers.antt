@@ -20,7 +20,7 @@ loop-channel-preserved c =
       rest = record {
         config = drain.rest.config ∙ kept.rest.config;
         world = drain.rest.world ∙ kept.rest.world;
-        queues = drain.rest.queues ∙ kept.rest.queues;
+        stream = drain.rest.stream ∙ kept.rest.stream;
         round = drain.rest.round ∙ kept.rest.round;
       };
     }

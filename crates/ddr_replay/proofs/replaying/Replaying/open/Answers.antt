@@ -1,10 +1,8 @@
--- As many requests are left as the queues have, and none is outstanding.
-use Rattle.std.proofs.Common.{length, ap, arith, ◌∙◌}
-use Rattle.std.specs.List.{sum_by}
+-- No request was taken, and none is outstanding.
+use Rattle.std.proofs.Common.{ap, arith, ◌∙◌}
 use Rattle.ddr_world.specs.State.{State}
 use Rattle.ddr_rounds.specs.Rounds.{outstanding}
 use Rattle.ddr_rounds.proofs.StepCounts.{none_opened}
-use Rattle.ddr_stream.specs.Stream.{Queues}
 use Rattle.ddr_counting.proofs.NotingLemmas.{noted_new}
 use Rattle.ddr_world.specs.Kept.{state_of}
 use Rattle.ddr_replay.proofs.replaying.Replaying.open.Goals as goal
@@ -12,10 +10,10 @@ use Rattle.ddr_replay.proofs.replaying.Replaying.open.Goals as goal
 pub invariant_of-result : goal.invariant_of-result
 invariant_of-result c =
     let none = ap (λ (s : State). outstanding s) c.in_ok-open_as.ensures.state ∙ none_opened c.args.config.now 0 0 c.args.config.now.limits.ports in
-    let all = c.count_all-unserved.ensures ∙ ap (λ (qs : Queues). sum_by length qs) c.as_slice.ensures.value in
     record {
       config = (c.in_ok-open_as.ensures.stands).config;
-      ports = c.requires;
-      counted = omega (arith, all, none);
+      stream = c.requires.config;
+      sized = c.requires.sized;
+      counted = omega (arith, none, c.requires.new);
       noted = noted_new c.args.config.now (state_of c.in_ok-open_as.field-0) 0 0 c.in_ok-open.field-0 c.in_ok-open.ensures c.in_ok-open_as.ensures.state;
     }

@@ -12,17 +12,22 @@ use Rattle.ddr_replay.proofs.ReleaseLemmas.{front_taken, one_fewer}
 use Rattle.ddr_counting.proofs.NotingLemmas.{noted_heard}
 use Rattle.ddr_replay.proofs.replaying.Replaying.release_front.Goals as goal
 
-pub overflow_sub-self : goal.overflow_sub-self
-overflow_sub-self c =
-    omega (arith, c.self.invariant.counted, one_fewer c.self.inside.world c.release-2.new.world c.args.port c.release-2.result (said c.in-Some.reply) (sym c.in-Some.ensures.front) c.release-2.ensures.answer)
+pub overflow_add-self : goal.overflow_add-self
+overflow_add-self c =
+    let fewer = one_fewer c.self.inside.world c.release-2.new.world c.args.port c.release-2.result (said c.in-Some.reply) (sym c.in-Some.ensures.front) c.release-2.ensures.answer in
+    let sized = c.self.invariant.sized in
+    omega (arith, c.self.invariant.counted, fewer, sized.counted, sized.few)
 
 pub invariant_of-self-2 : goal.invariant_of-self-2
-invariant_of-self-2 c = record {
-  config = c.release-2.ensures.answer.config ∙ c.self.invariant.config;
-  ports = c.self.invariant.ports;
-  counted = omega (arith, c.self.invariant.counted, one_fewer c.self.inside.world c.release-2.new.world c.args.port c.release-2.result (said c.in-Some.reply) (sym c.in-Some.ensures.front) c.release-2.ensures.answer);
-  noted = noted_heard c.self.inside.config (state_of c.self.inside.world) (state_of c.release-2.new.world) c.self.inside.noting c.release-2.new.watcher c.self.invariant.noted c.release-2.ensures.heard;
-}
+invariant_of-self-2 c =
+    let fewer = one_fewer c.self.inside.world c.release-2.new.world c.args.port c.release-2.result (said c.in-Some.reply) (sym c.in-Some.ensures.front) c.release-2.ensures.answer in
+    record {
+      config = c.release-2.ensures.answer.config ∙ c.self.invariant.config;
+      stream = c.self.invariant.stream;
+      sized = c.self.invariant.sized;
+      counted = omega (arith, c.self.invariant.counted, fewer);
+      noted = noted_heard c.self.inside.config (state_of c.self.inside.world) (state_of c.release-2.new.world) c.self.inside.noting c.release-2.new.watcher c.self.invariant.noted c.release-2.ensures.heard;
+    }
 
 pub returns-clause-released : goal.returns-clause-released
 returns-clause-released c =

@@ -14,6 +14,7 @@ replies-preserved c =
     let there = subst (IsFrontReleased c.args.port now next) c.if-branch.true released.released in
     record {
       run = released_more c.args.port now next there.0 there.1 there.2 (released.fewer c.if-branch.true) ∙ kept.run;
+      stream = c.release_front.ensures.stream ∙ kept.stream;
       config = c.release_front.ensures.config ∙ kept.config;
       traces = c.release_front.ensures.traces ∙ kept.traces;
       round = c.release_front.ensures.round ∙ kept.round;
@@ -31,6 +32,9 @@ returns-clause-run c =
     let none = subst (IsFrontReleased c.args.port now (run_of c.release_front.new.self)) c.if-branch.false c.in_ok-release_front.ensures.released in
     let collected = same_run c.args.self.now c.collect.new.self collect.same ∙ ap (λ (s : State). record start { state = s }) collect.state in
     none.1 ∙ port_led c.args.port start (run_of c.collect.new.self) now collected kept.run none.0
+
+pub returns-clause-stream : goal.returns-clause-stream
+returns-clause-stream c = c.release_front.ensures.stream ∙ c.replies.invariant.stream ∙ c.collect.ensures.same.stream
 
 pub returns-clause-config : goal.returns-clause-config
 returns-clause-config c = c.release_front.ensures.config ∙ c.replies.invariant.config ∙ c.collect.ensures.same.config

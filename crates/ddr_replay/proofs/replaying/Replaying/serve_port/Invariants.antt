@@ -9,6 +9,7 @@ use Rattle.ddr_replay.proofs.replaying.Replaying.serve_port.Given as goal
 abbrev pub invariant-replies : goal.invariant-replies
 invariant-replies l = record {
   run : released (items_of (state_of l.self.world) (Release l.port)) l.port (run_of l.self) ≡ released (items_of (state_of l.initial.self.world) (Release l.port)) l.port (run_of l.initial.self);
+  stream : l.self.stream ≡ l.initial.self.stream;
   config : l.self.config ≡ l.initial.self.config;
   traces : l.self.world.keeps ≡ l.initial.self.world.keeps;
   round : l.self.round ≡ l.initial.self.round;

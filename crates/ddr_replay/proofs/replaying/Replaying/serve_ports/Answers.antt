@@ -11,6 +11,7 @@ loop-port-preserved c =
     let p = c.loop-port.port in
     record {
       run = c.in_ok-serve_port.ensures.run ∙ ap (port_served p) kept.run ∙ sym (ap (λ n. ports_served n (run_of c.args.self.now)) (add-one p));
+      stream = serve.stream ∙ kept.stream;
       config = serve.config ∙ kept.config;
       traces = serve.traces ∙ kept.traces;
       round = serve.round ∙ kept.round;

@@ -6,6 +6,7 @@ use Rattle.ddr_replay.proofs.replaying.Replaying.serve_ports.Given as goal
 abbrev pub invariant-loop-port : goal.invariant-loop-port
 invariant-loop-port l = record {
   run : run_of l.self ≡ ports_served l.port (run_of l.fn.self);
+  stream : l.self.stream ≡ l.fn.self.stream;
   config : l.self.config ≡ l.fn.self.config;
   traces : l.self.world.keeps ≡ l.fn.self.world.keeps;
   round : l.self.round ≡ l.fn.self.round;

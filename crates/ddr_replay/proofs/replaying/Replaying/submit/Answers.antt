@@ -1,44 +1,69 @@
--- As many requests are left, and no command was issued.
-use Rattle.std.proofs.Common.{◌<◌, length, arith, ◌∙◌}
-use Rattle.std.proofs.lemmas.List.{length-set}
+-- What was taken and not released is outstanding, and no command was issued.
+use Rattle.std.proofs.Common.{◌<◌, arith, refl, sym, subst, ◌∙◌}
 use Rattle.ddr_counting.proofs.NotingLemmas.{noted_still}
-use Rattle.ddr_rounds.specs.Rounds.{outstanding}
 use Rattle.ddr_world.specs.Kept.{state_of}
-use Rattle.ddr_replay.proofs.SubmitLemmas.{counted_on}
+use Rattle.ddr_stream.specs.Waiting.{all_in}
+use Rattle.ddr_replay.specs.Ahead.{Carries, Leads}
+use Rattle.ddr_replay.specs.Runs.{port_submitted}
+use Rattle.ddr_replay.specs.View.{Replay, replay_of, whole_run}
+use Rattle.ddr_replay.specs.Waits.{IsWaitingIn}
+use Rattle.ddr_replay.proofs.PortLemmas.{port_led}
+use Rattle.ddr_replay.proofs.SubmitLemmas.{port_within}
 use Rattle.ddr_replay.proofs.replaying.Replaying.submit.Goals as goal
 
 pub invariant_of-self : goal.invariant_of-self
-invariant_of-self c =
+invariant_of-self g c =
     let a = c.self.inside in
-    let within : c.args.port < length a.queues.items = omega (arith, rw (← c.self.view_is) at c.requires, c.self.invariant.ports) in
     record {
       config = c.submit_from.ensures.config ∙ c.self.invariant.config;
-      ports = length-set a.queues.items c.args.port c.submit_from.new.queue ∙ c.self.invariant.ports;
-      counted = counted_on a.unserved a.queues.items c.args.port c.index_mut-queue.result.now c.submit_from.new.queue (outstanding (state_of a.world)) (outstanding (state_of c.submit_from.new.world))
-          c.self.invariant.counted within c.index_mut-queue.ensures.value c.submit_from.ensures.count;
+      stream = c.submit_from.ensures.stream ∙ c.self.invariant.stream;
+      sized = c.submit_from.ensures.sized;
+      counted = omega (arith, c.submit_from.ensures.count, c.self.invariant.counted);
       noted = noted_still a.config (state_of a.world) (state_of c.submit_from.new.world) a.noting c.self.invariant.noted c.submit_from.ensures.traces;
     }
 
-pub invariant_of-self-then-len-left : goal.invariant_of-self-then-len-left
-invariant_of-self-then-len-left c =
+pub invariant_of-self-then-taken : goal.invariant_of-self-then-taken
+invariant_of-self-then-taken g c =
     let a = c.self.inside in
-    let within : c.args.port < length a.queues.items = omega (arith, rw (← c.self.view_is) at c.requires, c.self.invariant.ports) in
     record {
       config = c.submit_from.ensures.config ∙ c.self.invariant.config;
-      ports = length-set a.queues.items c.args.port c.submit_from.new.queue ∙ c.self.invariant.ports;
-      counted = counted_on a.unserved a.queues.items c.args.port c.index_mut-queue.result.now c.submit_from.new.queue (outstanding (state_of a.world)) (outstanding (state_of c.submit_from.new.world))
-          c.self.invariant.counted within c.index_mut-queue.ensures.value c.submit_from.ensures.count;
+      stream = c.submit_from.ensures.stream ∙ c.self.invariant.stream;
+      sized = c.submit_from.ensures.sized;
+      counted = omega (arith, c.submit_from.ensures.count, c.self.invariant.counted);
       noted = noted_still a.config (state_of a.world) (state_of c.submit_from.new.world) a.noting c.self.invariant.noted c.submit_from.ensures.traces;
     }
 
-pub invariant_of-self-else-len-left : goal.invariant_of-self-else-len-left
-invariant_of-self-else-len-left c =
+pub invariant_of-self-else-taken : goal.invariant_of-self-else-taken
+invariant_of-self-else-taken g c =
     let a = c.self.inside in
-    let within : c.args.port < length a.queues.items = omega (arith, rw (← c.self.view_is) at c.requires, c.self.invariant.ports) in
     record {
       config = c.submit_from.ensures.config ∙ c.self.invariant.config;
-      ports = length-set a.queues.items c.args.port c.submit_from.new.queue ∙ c.self.invariant.ports;
-      counted = counted_on a.unserved a.queues.items c.args.port c.index_mut-queue.result.now c.submit_from.new.queue (outstanding (state_of a.world)) (outstanding (state_of c.submit_from.new.world))
-          c.self.invariant.counted within c.index_mut-queue.ensures.value c.submit_from.ensures.count;
+      stream = c.submit_from.ensures.stream ∙ c.self.invariant.stream;
+      sized = c.submit_from.ensures.sized;
+      counted = omega (arith, c.submit_from.ensures.count, c.self.invariant.counted);
       noted = noted_still a.config (state_of a.world) (state_of c.submit_from.new.world) a.noting c.self.invariant.noted c.submit_from.ensures.traces;
     }
+
+pub returns-then-taken-clause-run : goal.returns-then-taken-clause-run
+returns-then-taken-clause-run g c =
+    let old = replay_of c.self.inside in
+    let new : Replay = record { config = old.config; world = c.submit_from.new.world; stream = c.submit_from.new.stream; ledger = c.submit_from.new.ledger; round = old.round } in
+    let p = c.args.port in
+    let until = c.in_ok-until.until in
+    let before = g.R.Read.remaining c.args.reader.now in
+    let behind = all_in new.stream (g.R.Read.remaining c.submit_from.new.reader) in
+    let within : p < old.config.limits.ports = subst (λ (r : Replay). p < r.config.limits.ports) (sym c.self.view_is) c.requires in
+    subst (λ (r : Replay). Carries (λ all next. Leads (port_submitted p) r new all next × IsWaitingIn p until (whole_run new next.queues)) (all_in r.stream before) behind) c.self.view_is
+    (port_led old new p until before behind c.self.invariant.sized (port_within old.stream old.config p c.self.invariant.stream within) refl c.in_ok-until.ensures.submitted)
+
+pub returns-else-taken-clause-run : goal.returns-else-taken-clause-run
+returns-else-taken-clause-run g c =
+    let old = replay_of c.self.inside in
+    let new : Replay = record { config = old.config; world = c.submit_from.new.world; stream = c.submit_from.new.stream; ledger = c.submit_from.new.ledger; round = old.round } in
+    let p = c.args.port in
+    let until = c.in_ok-until.until in
+    let before = g.R.Read.remaining c.args.reader.now in
+    let behind = all_in new.stream (g.R.Read.remaining c.submit_from.new.reader) in
+    let within : p < old.config.limits.ports = subst (λ (r : Replay). p < r.config.limits.ports) (sym c.self.view_is) c.requires in
+    subst (λ (r : Replay). Carries (λ all next. Leads (port_submitted p) r new all next × IsWaitingIn p until (whole_run new next.queues)) (all_in r.stream before) behind) c.self.view_is
+    (port_led old new p until before behind c.self.invariant.sized (port_within old.stream old.config p c.self.invariant.stream within) refl c.in_ok-until.ensures.submitted)

@@ -1,15 +1,15 @@
-use Rattle.std.proofs.Common.{◌≡◌}
-use Rattle.ddr_replay.specs.Runs.{ports_submitted, unserved}
-use Rattle.ddr_replay.specs.View.{run_of}
-use Rattle.ddr_replay.specs.Waits.{AreWaiting}
+use Rattle.std.proofs.Common.{◌≡◌, ◌<◌, ℕ}
+use Rattle.ddr_stream.specs.Waiting.{IsSized, Knows, all_in}
+use Rattle.ddr_replay.specs.Ahead.{AreSubmitted, Carries}
 use Rattle.ddr_replay.proofs.replaying.Replaying.submit_all.Given as goal
 
 abbrev pub invariant-loop-port : goal.invariant-loop-port
-invariant-loop-port l = record {
-  run : run_of l.self ≡ ports_submitted l.port (run_of l.fn.self);
-  waits : AreWaiting l.port l.until (run_of l.self);
+invariant-loop-port g l = record {
+  run : Carries (λ all next. AreSubmitted l.port l.until l.fn.self l.self all next) (all_in l.fn.self.stream (g.R.Read.remaining l.fn.reader)) (all_in l.self.stream (g.R.Read.remaining l.reader));
+  ahead : (q : ℕ) → q < l.port → Knows l.self.stream q;
+  sized : IsSized l.self.stream;
+  stream : l.self.stream.config ≡ l.self.config;
   config : l.self.config ≡ l.fn.self.config;
   traces : l.self.world.keeps ≡ l.fn.self.world.keeps;
   round : l.self.round ≡ l.fn.self.round;
-  count : unserved (run_of l.self) ≡ unserved (run_of l.fn.self);
 }

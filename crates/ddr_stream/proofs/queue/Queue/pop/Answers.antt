@@ -8,7 +8,12 @@ drop_one zero xs = refl
 drop_one (suc n) [] = refl
 drop_one (suc n) (x ∷ xs) = drop_one n xs
 
-pub returns : goal.returns
-returns c =
+pub returns-then-self-len : goal.returns-then-self-len
+returns-then-self-len c =
+    let a = c.self.inside in
+    c.move_to_front.ensures ∙ ap (λ (n : ℕ). drop n a.asks.items) (add-one a.taken) ∙ drop_one a.taken a.asks.items ∙ ap (λ (q : List Ask). drop 1 q) c.self.view_is
+
+pub returns-else-self-len : goal.returns-else-self-len
+returns-else-self-len c =
     let a = c.self.inside in
     ap (λ (n : ℕ). drop n a.asks.items) (add-one a.taken) ∙ drop_one a.taken a.asks.items ∙ ap (λ (q : List Ask). drop 1 q) c.self.view_is

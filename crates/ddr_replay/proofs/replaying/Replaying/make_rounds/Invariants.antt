@@ -1,0 +1,15 @@
+use Rattle.std.proofs.Common.{◌≡◌, ◌-◌}
+use Rattle.ddr_stream.specs.Waiting.{IsAhead, all_in}
+use Rattle.ddr_replay.specs.Ahead.{Carries, LeadsAlike}
+use Rattle.ddr_replay.proofs.replaying.Replaying.make_rounds.Given as goal
+
+abbrev pub invariant-rounds : goal.invariant-rounds
+invariant-rounds g l = record {
+  ahead : IsAhead l.self.stream;
+  leads : Carries (λ all next. LeadsAlike l.fn.self.config (4294967295 - l.fn.self.round) (4294967295 - l.self.round) l.fn.self l.self all next) (all_in l.fn.self.stream (g.R.Read.remaining l.fn.reader)) (all_in l.self.stream (g.R.Read.remaining l.reader));
+  config : l.self.config ≡ l.fn.self.config;
+  traces : l.self.world.keeps ≡ l.fn.self.world.keeps;
+}
+
+abbrev pub decreases-rounds : goal.decreases-rounds
+decreases-rounds g l = 4294967295 - l.self.round
