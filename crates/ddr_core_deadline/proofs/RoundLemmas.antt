@@ -22,12 +22,12 @@ use Rattle.ddr_core_deadline.proofs.EventLemmas.{core_in_time}
 use Rattle.ddr_core_deadline.proofs.NoneLemmas.{NoneIn, answer_none, begun_none, cycle_but, delivered_but, none_counted, none_whole, nothing_left, until_none}
 
 -- behind a record that came to one state these events come to another, and each cycle among them finds all taken
-record Led (h : History) (later : List Answered) (next : State) : Type 0 where
+pub record Led (h : History) (later : List Answered) (next : State) : Type 0 where
   pub is_record : IsRecord h later
   pub state : (fold after h later).state ≡ next
   pub takes : TakesAllIn h later
 
-abbrev Leads : State → List Answered → State → Type 0
+abbrev pub Leads : State → List Answered → State → Type 0
 Leads s later next = (h : History) → h.state ≡ s → Led h later next
 
 records_then : (h : History) (xs ys : List Answered) → IsRecord h xs → IsRecord (fold after h xs) ys → IsRecord h (xs ++ ys)
@@ -51,7 +51,7 @@ leads_then s mid next xs ys first second h is =
       takes = takes_then h xs ys one.takes two.takes;
     }
 
-leads_first : (s next : State) (event : Event) (m : Made) (later : List Answered) → step s event ≡ Ok m → FindsAllTakenIn s event → Leads m.state later next → Leads s (record { event = event; answer = Ok m.outcome } ∷ later) next
+pub leads_first : (s next : State) (event : Event) (m : Made) (later : List Answered) → step s event ≡ Ok m → FindsAllTakenIn s event → Leads m.state later next → Leads s (record { event = event; answer = Ok m.outcome } ∷ later) next
 leads_first s next event m later made finds rest h is =
     let at : step h.state event ≡ Ok m = ap (λ (t : State). step t event) is ∙ made in
     let behind = rest (after h (record { event = event; answer = Ok m.outcome })) (ap (λ (r : Step). (after_step event h r).state) at) in
@@ -69,14 +69,18 @@ repeated_leads event finds (suc n) s = by_step (step s event) refl (repeated_lea
     by_step (Ok m) is later = leads_first s (repeated n event m.state) event m (events_repeated n event m.state) is (finds s) (later m.state)
     by_step (Err cause) is later = leads_none s
 
-until_leads : (event : Event) (s : State) → ((t : State) → FindsAllTakenIn t event) → Leads s (events_until_refused event s) (until_refused event s)
+pub until_leads : (event : Event) (s : State) → ((t : State) → FindsAllTakenIn t event) → Leads s (events_until_refused event s) (until_refused event s)
 until_leads event s finds = repeated_leads event finds (items_of s event) s
 
 -- a state to which some record comes
-IsReached : Opening → State → Type 0
+pub IsReached : Opening → State → Type 0
 IsReached o s = (events : List Answered) × ((run o events).state ≡ s)
 
-reached_then : (o : Opening) (s next : State) (later : List Answered) → IsReached o s → Leads s later next → IsReached o next
+pub begun_reached : (o : Opening) → IsReached o (begun o).state
+unfolding IsReached
+begun_reached o = ([], refl)
+
+pub reached_then : (o : Opening) (s next : State) (later : List Answered) → IsReached o s → Leads s later next → IsReached o next
 unfolding IsReached
 reached_then o s next later r leads = (r.0 ++ later, ap (λ (x : History). x.state) (fold-append after (begun o) r.0 later) ∙ (leads (run o r.0) r.1).state)
 
@@ -98,11 +102,11 @@ delivered_none o (suc n) c s reached few side there = by_step (step s (Deliver c
     by_step (Err cause) is later there = nothing_left s c cause (fits o s c reached) is side there
 
 -- a part of a round
-record IsPart (s : State) (later : List Answered) (next : State) : Type 0 where
+pub record IsPart (s : State) (later : List Answered) (next : State) : Type 0 where
   pub leads : Leads s later next
   pub none : NoneDone next
 
-part_then : (s mid next : State) (xs ys : List Answered) → IsPart s xs mid → IsPart mid ys next → IsPart s (xs ++ ys) next
+pub part_then : (s mid next : State) (xs ys : List Answered) → IsPart s xs mid → IsPart mid ys next → IsPart s (xs ++ ys) next
 part_then s mid next xs ys first second = record { leads = leads_then s mid next xs ys first.leads second.leads; none = second.none }
 
 some_none : (x : Option ChannelSide) → ((side : ChannelSide) → x ≡ Some side → side.channel.done ≡ []) → IfSome x (λ side. side.channel.done ≡ [])
@@ -129,7 +133,7 @@ channel_part o c s next reached none served =
     part_then s popped next (events_until_refused (Take c) s) (made_then (events_until_refused (Deliver c)) (Cycle c) (step popped (Cycle c))) (record { leads = takes; none = left })
     (cycle_part o c popped next (step popped (Cycle c)) (reached_then o s popped (events_until_refused (Take c) s) reached takes) left refl served)
 
-none_part : (s : State) → NoneDone s → IsPart s [] s
+pub none_part : (s : State) → NoneDone s → IsPart s [] s
 none_part s none = record { leads = leads_none s; none = none }
 
 -- a part behind another, where both are made
@@ -140,7 +144,7 @@ behind o s next xs events part (Some mid) reached served first second =
     let one = first mid refl in
     part_then s mid next xs (events mid) one (second mid (reached_then o s mid xs reached one.leads) one.none served)
 
-channels_part : (o : Opening) (n : ℕ) (s next : State) → IsReached o s → NoneDone s → channels_served n s ≡ Some next → IsPart s (events_of_channels n s) next
+pub channels_part : (o : Opening) (n : ℕ) (s next : State) → IsReached o s → NoneDone s → channels_served n s ≡ Some next → IsPart s (events_of_channels n s) next
 channels_part o zero s next reached none served =
     let same : s ≡ next = cc in
     subst (IsPart s []) same (none_part s none)
@@ -215,7 +219,7 @@ made_all o earlier count (Some next) none is some =
     let state : (run o (earlier ++ later)).state ≡ next = ap (λ (h : History). h.state) (fold-append after (begun o) earlier later) ∙ all.state in
     (all.takes, subst NoneDone (sym state) all.none)
 
-no_cycle_finds : (s : State) (event : Event) → IsNoCycle event → FindsAllTakenIn s event
+pub no_cycle_finds : (s : State) (event : Event) → IsNoCycle event → FindsAllTakenIn s event
 no_cycle_finds s (Submit p asked) other = tt
 no_cycle_finds s (Take c) other = tt
 no_cycle_finds s (Cycle c) other = absurd other
