@@ -37,7 +37,7 @@ use Rattle.ddr_world.proofs.PlaceLemmas.{placed_in_range}
 use Rattle.ddr_core_deadline.specs.InCore.{FindsAllTakenIn, TakesAllIn, taken_by, call_of_step, call_of_answer, calls_of, IsChannelInTime}
 use Rattle.ddr_core_deadline.proofs.CallLemmas.{IsMadeBy, IsMadeAt, made_cycle, made_pop, made_admit, made_none, none_at, changed_at}
 
-abbrev IsMadeIn : Opening → ℕ → List Call → History → Type 0
+abbrev pub IsMadeIn : Opening → ℕ → List Call → History → Type 0
 IsMadeIn o c calls h = IsMadeAt o c (h.admitted c) calls h.state.channels
 
 -- behind a step
@@ -232,7 +232,7 @@ step_made o c h calls (Collect p) core finds k = collect_side o c p h calls (sli
 step_made o c h calls (Release p) core finds k = release_side o c p h calls (slice_get h.state.ports p) k
 step_made o c h calls (End p t) core finds k = end_side o c p t h calls (slice_get h.state.ports p) k
 
-answer_made : (o : Opening) (c : ℕ) (h : History) (calls : List Call) (event : Event) (answer : Result Outcome Refusal) → CoreKeeps o h → OnOk answer (FindsAllTakenIn h.state event) → IsMadeIn o c calls h
+pub answer_made : (o : Opening) (c : ℕ) (h : History) (calls : List Call) (event : Event) (answer : Result Outcome Refusal) → CoreKeeps o h → OnOk answer (FindsAllTakenIn h.state event) → IsMadeIn o c calls h
     → IsMadeIn o c (calls ++ call_of_answer h.state c event answer) (after_answer h event answer)
 answer_made o c h calls event (Ok out) core finds k = step_made o c h calls event core finds k
 answer_made o c h calls event (Err cause) core finds k = none_at o c (h.admitted c) calls h.state.channels k
@@ -252,7 +252,7 @@ at_replicate zero i x y is = cc
 at_replicate (suc n) zero x y is = let same : y ≡ x = cc in same
 at_replicate (suc n) (suc i) x y is = at_replicate n i x y is
 
-begun_made : (o : Opening) (c : ℕ) → IsMadeIn o c [] (begun o)
+pub begun_made : (o : Opening) (c : ℕ) → IsMadeIn o c [] (begun o)
 begun_made o c side is =
     subst (λ (s : ChannelSide). IsMadeBy o [] [] s.channel) (sym (at_replicate o.config.geometry.channels c (opened_channel o.config o.cycle) side is))
     (record { are = tt; takes = tt; state = refl; admitted_are = refl })

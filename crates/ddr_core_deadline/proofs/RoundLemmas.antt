@@ -228,7 +228,7 @@ no_cycle_finds s (Collect p) other = tt
 no_cycle_finds s (Release p) other = tt
 no_cycle_finds s (End p c) other = tt
 
-when_made : (answer : Result Outcome Refusal) (P : Type 0) → P → OnOk answer P
+pub when_made : (answer : Result Outcome Refusal) (P : Type 0) → P → OnOk answer P
 when_made (Ok o) P p = p
 when_made (Err cause) P p = tt
 

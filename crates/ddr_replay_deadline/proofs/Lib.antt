@@ -1,2 +1,7 @@
+mod AdmitLemmas
+mod ClockLemmas
+mod FitLemmas
 mod PartLemmas
+mod RefusedLemmas
+mod ReplayLemmas
 mod TurnLemmas

@@ -35,7 +35,7 @@ round_made_part o config run next reached none made = by_served (channels_served
         part_then run.state s next.state (events_of_channels config.geometry.channels run.state) (events_of_ports_served config.limits.ports counted) one
         (subst (λ (last : Run). IsPart s (events_of_ports_served config.limits.ports counted) last.state) same (ports_served_part config.limits.ports counted one.none))
 
-turn_part : (o : Opening) (config : Config) (run next : Run) → IsReached o run.state → NoneDone run.state → turn config run ≡ Some next → IsPart run.state (events_of_turn config run) next.state
+pub turn_part : (o : Opening) (config : Config) (run next : Run) → IsReached o run.state → NoneDone run.state → turn config run ≡ Some next → IsPart run.state (events_of_turn config run) next.state
 turn_part o config run next reached none made =
     let before = ports_submitted config.limits.ports run in
     let events = events_of_ports_submitted config.limits.ports run in
@@ -53,7 +53,7 @@ by_turn o config run last events later (Some next) reached none is made rest =
     part_then run.state next.state last.state (events_of_turn config run) (events next) one
     (rest next (reached_then o run.state next.state (events_of_turn config run) reached one.leads) one.none made)
 
-turns_part : (o : Opening) (config : Config) (n : ℕ) (run last : Run) → IsReached o run.state → NoneDone run.state → turns config n run ≡ Some last → IsPart run.state (events_of_turns config n run) last.state
+pub turns_part : (o : Opening) (config : Config) (n : ℕ) (run last : Run) → IsReached o run.state → NoneDone run.state → turns config n run ≡ Some last → IsPart run.state (events_of_turns config n run) last.state
 turns_part o config zero run last reached none made =
     let same : run ≡ last = cc in
     subst (λ (r : Run). IsPart run.state [] r.state) same (none_part run.state none)
@@ -87,6 +87,13 @@ replayed_ends config (suc n) run last made =
     over_ends config (suc n) run last (unserved run == 0) (option_map_or (replayed config n) (turn config run) (Err ClockSpent)) made
     (λ more. more_ends config n run last (turn config run) refl more (λ next is. replayed_ends config n next last is))
 
+-- what holds behind any number of turns holds at the end of a replay, behind as many as it made
+pub over_turns : (P : ℕ → Type 0) (config : Config) (n : ℕ) (run last : Run) → replayed config n run ≡ Ok last → ((m : ℕ) → turns config m run ≡ Some last → P m) → (m : ℕ) × (m ≤ n) × (turns config m run ≡ Some last) × P m
+unfolding EndsIn
+over_turns P config n run last made all =
+    let ends = replayed_ends config n run last made in
+    (ends.0, ends.1, ends.2, all ends.0 ends.2)
+
 -- each request is served in time
 
 served_in : (config : Config) (events : List Answered) (s : State) → IsPart (history.begun (replay_opening config)).state events s → leaves_room config ≡ true → (c : ℕ) (side : ChannelSide) → slice_get s.channels c ≡ Some side
@@ -110,7 +117,6 @@ turns_in_time config keeps queues n last leaves made =
 pub replay_in_time : (config : Config) (keeps : Bool) (queues : Queues) (n : ℕ) (last : Run) → leaves_room config ≡ true → replayed config n (begun config keeps queues) ≡ Ok last
     → (m : ℕ) × (m ≤ n) × (turns config m (begun config keeps queues) ≡ Some last)
     × ((c : ℕ) (side : ChannelSide) → slice_get last.state.channels c ≡ Some side → IsServedIn config (events_of_turns config m (begun config keeps queues)) last.state c side)
-unfolding EndsIn
 replay_in_time config keeps queues n last leaves made =
-    let ends = replayed_ends config n (begun config keeps queues) last made in
-    (ends.0, ends.1, ends.2, turns_in_time config keeps queues ends.0 last leaves ends.2)
+    over_turns (λ m. (c : ℕ) (side : ChannelSide) → slice_get last.state.channels c ≡ Some side → IsServedIn config (events_of_turns config m (begun config keeps queues)) last.state c side) config n (begun config keeps queues) last made
+    (λ m is. turns_in_time config keeps queues m last leaves is)

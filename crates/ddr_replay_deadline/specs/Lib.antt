@@ -1,1 +1,2 @@
 pub mod InReplay
+pub mod Waits
