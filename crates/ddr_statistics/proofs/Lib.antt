@@ -1,3 +1,4 @@
+mod BackgroundLemmas
 pub mod CountLemmas
 mod DebtLemmas
 pub mod FindingLemmas

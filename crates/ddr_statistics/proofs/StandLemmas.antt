@@ -7,6 +7,7 @@ use Rattle.ddr_trace.specs.declared.command.Command.{Command}
 use Rattle.ddr_trace.specs.declared.command.Command.TheVariants.{Act, Rd, Wr, RdAuto, WrAuto, Pre, PreAll, Refresh}
 use Rattle.ddr_trace.specs.declared.command.Entry.{Entry}
 use Rattle.ddr_trace.specs.Commands.{bank_of, group_of, is_column, rank_of}
+use Rattle.ddr_statistics.specs.declared.background.Background.{Background}
 use Rattle.ddr_statistics.specs.declared.bank.Bank.{Bank}
 use Rattle.ddr_statistics.specs.declared.counts.Counts.{Counts}
 use Rattle.ddr_statistics.specs.declared.counts.Finding.{Finding}
@@ -16,11 +17,12 @@ use Rattle.ddr_statistics.specs.declared.rank.TheConstants.{MOST_BANKS}
 use Rattle.ddr_statistics.specs.declared.statistics.TheConstants.{MOST_RANKS}
 use Rattle.ddr_statistics.specs.declared.turns.Turns.{Turns}
 use Rattle.ddr_statistics.specs.Counts.{count_behind, counts_of, is_any, is_of_one, is_of_one_bank, is_of_rank, kind_count}
-use Rattle.ddr_statistics.specs.Noted.{bank_closed, bank_noted, banks_noted, counts_noted, debt_noted, found_in, new_bank, new_rank, one_noted, no_counts, no_debt, no_turns, rank_noted, turns_noted}
-use Rattle.ddr_statistics.specs.Stands.{KeepsRank, StandsFor, bank_of_history, counted, debt_at, debt_behind, noted, owed, rank_at}
+use Rattle.ddr_statistics.specs.Noted.{background_noted, bank_closed, bank_noted, banks_noted, counts_noted, debt_noted, found_in, new_background, new_bank, new_rank, one_noted, no_counts, no_debt, no_turns, rank_noted, turns_noted}
+use Rattle.ddr_statistics.specs.Stands.{KeepsBackground, KeepsRank, StandsFor, background_at, bank_of_history, clocked, counted, debt_at, debt_behind, noted, owed, rank_at}
 use Rattle.ddr_statistics.specs.Tally.{Tally}
 use Rattle.ddr_statistics.specs.Turns.{last_column}
 use Rattle.ddr_statistics.specs.Visits.{finding, is_at, visit_after, visit_behind}
+use Rattle.ddr_statistics.proofs.BackgroundLemmas.{keeps_other_clocks, keeps_own_clocks, new_keeps_clocks}
 use Rattle.ddr_statistics.proofs.CountLemmas.{counts_skip, counts_step, turns_step, visit_behind-push}
 use Rattle.ddr_statistics.proofs.DebtLemmas.{debt_behind-push}
 use Rattle.ddr_statistics.proofs.PlaceLemmas.{and_false, apart, same_number}
@@ -139,7 +141,7 @@ keeps_other k history e r kept other = record {
 
 -- the statistics after a command
 abbrev pub after : Tally → Entry → Option Finding → Tally
-after tally e found = owed e (counted e.command found tally)
+after tally e found = clocked e (owed e (counted e.command found tally))
 
 -- the refreshes of a rank after a command of any rank
 debt_step : (refi start k : ℕ) (history : List Entry) (e : Entry) (w : Bool) → (rank_of e.command == k) ≡ w
@@ -161,6 +163,8 @@ stands_with tally history e stands short rank group bank = record {
   ranks = λ k below. by_test k below (rank_of e.command == k) refl;
   debts_size = length-set tally.debts _ _ ∙ stands.debts_size;
   debts = λ k below. debt_by_test k below (rank_of e.command == k) refl;
+  backgrounds_size = length-set tally.backgrounds _ _ ∙ stands.backgrounds_size;
+  backgrounds = λ k below. background_by_test k below (rank_of e.command == k) refl;
   turns = ap (turns_noted e.command) stands.turns ∙ turns_step history e short;
 }
   where
@@ -195,6 +199,27 @@ stands_with tally history e stands short rank group bank = record {
     debt_by_test k below false other =
         let apart : k ≢ rank_of e.command = grind (arith, nat_tests) in
         get_or-set_other tally.debts (rank_of e.command) k own_debt no_debt apart ∙ stands.debts k below ∙ debt_step tally.timing.refi tally.start k history e false other
+
+    own_background : Background
+    own_background = background_noted tally.timing tally.geometry e (background_at tally (rank_of e.command))
+
+    none : Background
+    none = new_background tally.start
+
+    background_by_test : (k : ℕ) → k < 2 → (w : Bool) → (rank_of e.command == k) ≡ w
+        → KeepsBackground tally.timing tally.geometry tally.start k (history ++ e ∷ []) (slice_index_or (slice_set tally.backgrounds (rank_of e.command) own_background) k none)
+    background_by_test k below true same =
+        let this : rank_of e.command ≡ k = grind (arith, nat_tests) in
+        let within : rank_of e.command < length tally.backgrounds = omega (arith, stands.backgrounds_size) in
+        let P : ℕ → Type 0 = λ j. KeepsBackground tally.timing tally.geometry tally.start j (history ++ e ∷ []) (slice_index_or (slice_set tally.backgrounds (rank_of e.command) own_background) j none) in
+        let Q : Background → Type 0 = λ kept. KeepsBackground tally.timing tally.geometry tally.start (rank_of e.command) (history ++ e ∷ []) kept in
+        subst P this (subst Q (sym (get_or-set_same tally.backgrounds (rank_of e.command) own_background none within))
+        (keeps_own_clocks tally.timing tally.geometry tally.start history e (background_at tally (rank_of e.command)) (stands.backgrounds (rank_of e.command) rank) group bank))
+    background_by_test k below false other =
+        let apart : k ≢ rank_of e.command = grind (arith, nat_tests) in
+        let Q : Background → Type 0 = λ kept. KeepsBackground tally.timing tally.geometry tally.start k (history ++ e ∷ []) kept in
+        subst Q (sym (get_or-set_other tally.backgrounds (rank_of e.command) k own_background none apart))
+        (keeps_other_clocks tally.timing tally.geometry tally.start k history e (background_at tally k) (stands.backgrounds k below) other)
 
 pub stands_after : (tally new : Tally) (history : List Entry) (e : Entry) (found : Option Finding) → new ≡ after tally e found → found ≡ finding history e.command → StandsFor tally history → length history + 1 < CLOCK_STOP
     → rank_of e.command < MOST_RANKS → group_of e.command < MOST_GROUPS → bank_of e.command < GROUP_BANKS
@@ -244,6 +269,15 @@ owed_is tally e place own is_place is_own =
     let own_is = is_own ∙ ap (λ n. debt_noted tally.timing.refi tally.start e (slice_index_or tally.debts n no_debt)) is_place in
     λ i. record tally { debts = slice_set tally.debts (is_place i) (own_is i) }
 
+pub clocked_is : (tally : Tally) (e : Entry) (place : ℕ) (own d : Background) → place ≡ rank_of e.command → place < length tally.backgrounds
+    → own ≡ background_noted tally.timing tally.geometry e (slice_index_or tally.backgrounds place d)
+    → record tally { backgrounds = slice_set tally.backgrounds place own } ≡ clocked e tally
+clocked_is tally e place own d is_place within is_own =
+    let old : slice_index_or tally.backgrounds place d ≡ background_at tally (rank_of e.command) =
+    get_or_default tally.backgrounds place d (new_background tally.start) within ∙ ap (λ n. slice_index_or tally.backgrounds n (new_background tally.start)) is_place in
+    let own_is = is_own ∙ ap (λ (kept : Background). background_noted tally.timing tally.geometry e kept) old in
+    λ i. record tally { backgrounds = slice_set tally.backgrounds (is_place i) (own_is i) }
+
 -- before the first command
 new_bank_keeps : (k g b : ℕ) → new_bank ≡ bank_of_history k g b []
 unfolding counts_of kind_count count_behind visit_behind
@@ -257,9 +291,9 @@ new_rank_keeps k = record {
   banks = λ g b group bank. get_or-replicate MOST_BANKS (g * GROUP_BANKS + b) new_bank new_bank (omega arith) ∙ new_bank_keeps k g b;
 }
 
-pub stands_new : (tally : Tally) → tally.total ≡ no_counts → tally.ranks ≡ replicate MOST_RANKS new_rank → tally.debts ≡ replicate MOST_RANKS no_debt → tally.turns ≡ no_turns → StandsFor tally []
+pub stands_new : (tally : Tally) → tally.total ≡ no_counts → tally.ranks ≡ replicate MOST_RANKS new_rank → tally.debts ≡ replicate MOST_RANKS no_debt → tally.backgrounds ≡ replicate MOST_RANKS (new_background tally.start) → tally.turns ≡ no_turns → StandsFor tally []
 unfolding counts_of kind_count count_behind last_column debt_behind
-stands_new tally total ranks debts turns = record {
+stands_new tally total ranks debts backgrounds turns = record {
   total = total;
   size = ap (λ (rs : List Rank). length rs) ranks ∙ length-replicate MOST_RANKS new_rank;
   ranks = λ k below.
@@ -268,5 +302,11 @@ stands_new tally total ranks debts turns = record {
       subst P (sym there) (new_rank_keeps k);
   debts_size = ap (λ (ds : List Debt). length ds) debts ∙ length-replicate MOST_RANKS no_debt;
   debts = λ k below. ap (λ (ds : List Debt). slice_index_or ds k no_debt) debts ∙ get_or-replicate MOST_RANKS k no_debt no_debt below;
+  backgrounds_size = ap (λ (bs : List Background). length bs) backgrounds ∙ length-replicate MOST_RANKS (new_background tally.start);
+  backgrounds = λ k below.
+      let new = new_background tally.start in
+      let there : background_at tally k ≡ new = ap (λ (bs : List Background). slice_index_or bs k new) backgrounds ∙ get_or-replicate MOST_RANKS k new new below in
+      let P : Background → Type 0 = λ kept. KeepsBackground tally.timing tally.geometry tally.start k [] kept in
+      subst P (sym there) (new_keeps_clocks tally.timing tally.geometry tally.start k);
   turns = turns;
 }

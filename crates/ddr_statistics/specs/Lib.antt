@@ -1,3 +1,4 @@
+pub mod Background
 pub mod Counts
 pub mod Debts
 pub mod Findings

@@ -1,10 +1,15 @@
 -- What is kept after a command.
-use Rattle.std.specs.Prelude.{ℕ, ◌+◌, ◌-◌, ◌*◌, ◌^◌, Bool, ◌&&◌, max, min, if◌then◌else◌, List, map, replicate, Option, Some, None, slice_index_or, slice_set}
+use Rattle.std.specs.Prelude.{ℕ, ◌+◌, ◌-◌, ◌*◌, ◌^◌, Bool, ◌&&◌, ◌||◌, ◌==◌, not, max, min, if◌then◌else◌, List, map, replicate, Option, Some, None, slice_index_or, slice_set}
+use Rattle.ddr_timing.specs.declared.geometry.Geometry.{Geometry}
+use Rattle.ddr_timing.specs.declared.timing.Timing.{Timing}
 use Rattle.ddr_timing.specs.declared.units.TheConstants.{BURST_CLOCKS, GROUP_BANKS}
 use Rattle.ddr_trace.specs.declared.command.Command.{Command}
 use Rattle.ddr_trace.specs.declared.command.Command.TheVariants.{PreAll, Refresh}
 use Rattle.ddr_trace.specs.declared.command.Entry.{Entry}
-use Rattle.ddr_trace.specs.Commands.{bank_of, group_of, is_activate, is_column, is_of_all_banks, is_refresh, is_same_kind, is_same_rank}
+use Rattle.ddr_trace.specs.Banks.{recovery}
+use Rattle.ddr_trace.specs.Commands.{bank_of, group_of, is_activate, is_auto, is_column, is_of_all_banks, is_precharge, is_refresh, is_same_kind, is_same_rank}
+use Rattle.ddr_statistics.specs.declared.background.Activity.{Activity}
+use Rattle.ddr_statistics.specs.declared.background.Background.{Background}
 use Rattle.ddr_statistics.specs.declared.bank.Bank.{Bank}
 use Rattle.ddr_statistics.specs.declared.counts.Counts.{Counts}
 use Rattle.ddr_statistics.specs.declared.counts.Finding.{Finding}
@@ -13,7 +18,7 @@ use Rattle.ddr_statistics.specs.declared.rank.Rank.{Rank}
 use Rattle.ddr_statistics.specs.declared.rank.TheConstants.{MOST_BANKS}
 use Rattle.ddr_statistics.specs.declared.turns.Turns.{Turns}
 use Rattle.ddr_statistics.specs.Counts.{is_pre, is_rd, is_rda, is_wr, is_wra}
-use Rattle.ddr_statistics.specs.Debts.{due_in}
+use Rattle.ddr_statistics.specs.Debts.{due_in, most_of}
 use Rattle.ddr_statistics.specs.Turns.{is_unlike}
 use Rattle.ddr_statistics.specs.Visits.{first_visit, is_conflict, is_hit, is_miss, visit_after}
 
@@ -121,3 +126,74 @@ debt_noted refi start e debt = if is_refresh e.command then debt_paid (due_in re
 
 abbrev pub new_rank : Rank
 new_rank = record { counts = no_counts; banks = replicate MOST_BANKS new_bank }
+
+-- a bank that is closed
+abbrev pub no_activity : Activity
+no_activity = record { since = 0; until = 0 }
+
+-- where an auto-precharge starts, by the cycle of its bank's ACT
+abbrev pub auto_until : Timing → ℕ → Entry → ℕ
+auto_until t since auto = max (raised (recovery t auto.command) auto.cycle) (raised t.ras since)
+
+-- when a bank is active after a command of it
+abbrev pub activity_noted : Timing → Entry → Activity → Activity
+activity_noted t e bank =
+    if is_activate e.command then record { since = e.cycle; until = 2 ^ 64 - 1 }
+    else if is_precharge e.command then no_activity
+    else if is_auto e.command && not (bank.until == 0) then record bank { until = auto_until t bank.since e }
+    else bank
+
+abbrev pub new_background : ℕ → Background
+new_background start = record {
+  counted_to = start;
+  active = 0;
+  refresh = 0;
+  active_until = 0;
+  refresh_until = 0;
+  banks = replicate MOST_BANKS no_activity;
+}
+
+-- the clocks of a rank before a cycle, if no command of it comes
+abbrev pub active_to : Background → ℕ → ℕ
+active_to kept end = raised (min kept.active_until end - kept.counted_to) kept.active
+
+abbrev pub refresh_to : Background → ℕ → ℕ
+refresh_to kept end = raised (min kept.refresh_until end - max kept.counted_to kept.active_until) kept.refresh
+
+-- with what comes before a cycle counted
+abbrev pub counted_before : ℕ → Background → Background
+counted_before cycle kept = record kept {
+  counted_to = max kept.counted_to cycle;
+  active = active_to kept cycle;
+  refresh = refresh_to kept cycle;
+}
+
+-- the cycle from which on no bank of the geometry is active
+abbrev pub latest_until : Geometry → List Activity → ℕ
+latest_until g banks = most_of (λ n. (slice_index_or banks n no_activity).until) (g.groups * GROUP_BANKS)
+
+-- the command opens or closes a bank, or all of its rank
+abbrev pub opens_or_closes : Command → Bool
+opens_or_closes command = is_activate command || is_precharge command || is_auto command
+
+-- when the banks of a rank are active after a command of it
+abbrev pub one_activity_noted : Timing → Entry → ℕ → List Activity → List Activity
+one_activity_noted t e number banks = slice_set banks number (activity_noted t e (slice_index_or banks number no_activity))
+
+abbrev pub activities_noted : Timing → Entry → List Activity → List Activity
+activities_noted t e banks =
+    if is_of_all_banks e.command then replicate MOST_BANKS no_activity
+    else if opens_or_closes e.command then one_activity_noted t e (group_of e.command * GROUP_BANKS + bank_of e.command) banks
+    else banks
+
+-- with what a command of the rank opens, closes or refreshes
+abbrev pub followed : Timing → Geometry → Entry → Background → Background
+followed t g e kept = record kept {
+  active_until = if opens_or_closes e.command then latest_until g (activities_noted t e kept.banks) else kept.active_until;
+  refresh_until = if is_refresh e.command then max kept.refresh_until (raised t.rfc e.cycle) else kept.refresh_until;
+  banks = activities_noted t e kept.banks;
+}
+
+-- a rank's clocks after a command of it
+abbrev pub background_noted : Timing → Geometry → Entry → Background → Background
+background_noted t g e kept = followed t g e (counted_before e.cycle kept)

@@ -1,18 +1,20 @@
 //! The statistics of a trace, whose commands come one by one.
 //!
-//! `rank`, `debt` and `turns` stand below, and `text` above.
+//! `rank`, `debt`, `background` and `turns` stand below, and `text` above.
 ghost use Rattle.std.specs.Prelude.{◌≡◌, ◌+◌, ◌-◌, ◌<◌, ◌∷◌, ◌++◌, [], length, List, IsTrue};
 ghost use Rattle.ddr_timing.specs.declared.units.TheConstants.{CLOCK_STOP, GROUP_BANKS};
 ghost use Rattle.ddr_trace.specs.declared.command.Entry.{Entry};
 ghost use Rattle.ddr_trace.specs.Commands.{rank_of};
 ghost use Rattle.ddr_trace.specs.Rules.{is_in};
+ghost use Rattle.ddr_statistics.specs.Background.{active_clocks, idle_clocks, refresh_clocks};
 ghost use Rattle.ddr_statistics.specs.Counts.{counts_of, is_any, is_of_one, is_of_rank};
 ghost use Rattle.ddr_statistics.specs.Debts.{IsInOrder, debt_most, debts_most};
 ghost use Rattle.ddr_statistics.specs.Noted.{bank_at, found_in};
-ghost use Rattle.ddr_statistics.specs.Stands.{StandsFor, counted, noted, owed, rank_at};
+ghost use Rattle.ddr_statistics.specs.Stands.{StandsFor, clocked, counted, noted, owed, rank_at};
 ghost use Rattle.ddr_statistics.specs.Turns.{rank_switches, turn_rounds};
 ghost use Rattle.ddr_statistics.specs.Visits.{finding};
 
+use crate::background::Background;
 use crate::counts::{Counts, Finding};
 use crate::debt::{Debt, due_in};
 use crate::rank::Rank;
@@ -39,6 +41,7 @@ pub struct Statistics {
     total: Counts,
     ranks: [Rank; MOST_RANKS],
     debts: [Debt; MOST_RANKS],
+    backgrounds: [Background; MOST_RANKS],
     turns: Turns,
 }
 
@@ -67,6 +70,7 @@ impl Statistics {
             total: Counts::NONE,
             ranks: [Rank::NEW; MOST_RANKS],
             debts: [Debt::NONE; MOST_RANKS],
+            backgrounds: [Background::open(start); MOST_RANKS],
             turns: Turns::NONE,
         }
     }
@@ -84,6 +88,7 @@ impl Statistics {
         let found = self.finding(&entry.command);
         self.count(&entry.command, found);
         self.owe(entry);
+        self.clock(entry);
     }
 
     /// Counts a command, which found its bank so if it is a read or a write.
@@ -102,6 +107,14 @@ impl Statistics {
         ensures { self.new ≡ owed entry.now self.old }
     {
         self.debts[entry.command.rank() as usize].note(&self.timing, self.start, entry);
+    }
+
+    /// Counts the clocks of the command's rank.
+    fn clock(&mut self, entry: &Entry)
+        requires { IsTrue (is_in self.old.geometry entry.now.command) }
+        ensures { self.new ≡ clocked entry.now self.old }
+    {
+        self.backgrounds[entry.command.rank() as usize].note(&self.timing, &self.geometry, entry);
     }
 
     /// How the next command of the trace finds its bank; `None` where it is no read or write.
@@ -179,6 +192,39 @@ impl Statistics {
             most = most.max(self.refresh_debt_most(rank, end));
         }
         most
+    }
+
+    /// In how many cycles of the trace, which ends before `end`, a bank of the rank was active: from the cycle of its ACT on, until
+    /// the PRE or PREA that closes it or the start of its auto-precharge.
+    pub fn active_clocks(&self, rank: u32, end: u64) -> u64
+        requires { rank < self.now.geometry.ranks }
+        ensures counted { (history : List Entry) → StandsFor self.entry.now history → IsInOrder end history
+            → result ≡ active_clocks self.entry.now.timing self.entry.now.geometry self.entry.now.start end rank history }
+    {
+        self.backgrounds[rank as usize].active_to(end)
+    }
+
+    /// In how many cycles of the trace, which ends before `end`, the rank was being refreshed: from the cycle of a REF on, fewer than
+    /// RFC behind it, while no bank was active.
+    pub fn refresh_clocks(&self, rank: u32, end: u64) -> u64
+        requires { rank < self.now.geometry.ranks }
+        ensures counted { (history : List Entry) → StandsFor self.entry.now history → IsInOrder end history
+            → result ≡ refresh_clocks self.entry.now.timing self.entry.now.geometry self.entry.now.start end rank history }
+    {
+        self.backgrounds[rank as usize].refresh_to(end)
+    }
+
+    /// In how many cycles of the trace, which ends before `end`, the rank was neither active nor being refreshed: the rest of
+    /// `cycles`.
+    pub fn idle_clocks(&self, rank: u32, end: u64) -> u64
+        requires { rank < self.now.geometry.ranks }
+        ensures counted { (history : List Entry) → StandsFor self.entry.now history → IsInOrder end history
+            → result ≡ idle_clocks self.entry.now.timing self.entry.now.geometry self.entry.now.start end rank history }
+    {
+        let busy = self
+            .active_clocks(rank, end)
+            .saturating_add(self.refresh_clocks(rank, end));
+        self.cycles(end).saturating_sub(busy)
     }
 
     /// The cycles of the trace, where it ends before this one; 0 where that is before its start.

@@ -231,3 +231,104 @@ fn debts_grow_until_they_are_paid(rt: HostRuntime) -> Result<(), Fail> {
     assert_eq!(rt; statistics.refresh_debts_most(901), 4);
     Ok(())
 }
+
+/// The statistics of these commands in their cycles, in a trace that begins in cycle 100.
+fn clocked(rt: &impl Abort, config: &Config, trace: &[(u64, Command)]) -> Statistics {
+    let mut statistics = Statistics::open(config, 100);
+    for (cycle, command) in trace {
+        let entry = Entry {
+            cycle: *cycle,
+            command: *command,
+        };
+        assert!(rt; entry.command.is_in(statistics.geometry()));
+        statistics.note(&entry);
+    }
+    statistics
+}
+
+/// The clocks in which a rank is active, is refreshed and is idle, in a trace that ends before this cycle.
+fn clocks_of_rank(statistics: &Statistics, rank: u32, end: u64) -> Option<[u64; 3]> {
+    if rank >= statistics.geometry().ranks {
+        return None;
+    }
+    Some([
+        statistics.active_clocks(rank, end),
+        statistics.refresh_clocks(rank, end),
+        statistics.idle_clocks(rank, end),
+    ])
+}
+
+// Of rank 0 one bank is active in cycles 110 to 129, another one in 115 to 139, and rank 1 from its ACT in cycle 150 on.
+#[test]
+fn active_clocks_count_once(rt: HostRuntime) -> Result<(), Fail> {
+    let config = Config::read(rt.alloc(), PROFILE_S2)?;
+    let other = Command::Act {
+        rank: 0,
+        group: 0,
+        bank: 0,
+        row: 1,
+    };
+    let close_other = Command::Pre {
+        rank: 0,
+        group: 0,
+        bank: 0,
+    };
+    let trace = [
+        (110u64, act(0)),
+        (115, other),
+        (130, pre(0)),
+        (140, close_other),
+        (150, act(1)),
+    ];
+    let statistics = clocked(&rt, &config, &trace);
+    assert_eq!(rt; clocks_of_rank(&statistics, 0, 200), Some([30, 0, 70]));
+    assert_eq!(rt; clocks_of_rank(&statistics, 0, 151), Some([30, 0, 21]));
+    assert_eq!(rt; clocks_of_rank(&statistics, 1, 200), Some([50, 0, 50]));
+    assert_eq!(rt; clocks_of_rank(&statistics, 1, 151), Some([1, 0, 50]));
+    Ok(())
+}
+
+// RAS is 10, RTP 3, and from a write to a precharge there are 3 + 4 + 5 clocks. The bank is active in cycles 100 to 109, until RAS is
+// over; in 120 to 132, RTP behind its RDA; in 150 to 165, 12 clocks behind its WRA; and in 170 to 175, where a PRE comes before its
+// auto-precharge would start, in cycle 180.
+#[test]
+fn auto_precharges_end_active_clocks(rt: HostRuntime) -> Result<(), Fail> {
+    let config = Config::read(rt.alloc(), PROFILE_S2)?;
+    let trace = [
+        (100u64, act(0)),
+        (104, rda(0)),
+        (120, act(0)),
+        (130, rda(0)),
+        (150, act(0)),
+        (154, wra(0)),
+        (170, act(0)),
+        (172, rda(0)),
+        (176, pre(0)),
+    ];
+    let statistics = clocked(&rt, &config, &trace);
+    assert_eq!(rt; clocks_of_rank(&statistics, 0, 200), Some([45, 0, 55]));
+    let closing = clocked(&rt, &config, &[(100u64, act(0)), (104, rda(0))]);
+    assert_eq!(rt; clocks_of_rank(&closing, 0, 109), Some([9, 0, 0]));
+    assert_eq!(rt; clocks_of_rank(&closing, 0, 111), Some([10, 0, 1]));
+    Ok(())
+}
+
+// RFC is 20. Rank 0 is refreshed in cycles 120 to 139, or up to the end where that comes before; in rank 1 a bank is active in cycles
+// 110 to 121, by a PREA, so of a REF in cycle 115 the cycles 122 to 134 count.
+#[test]
+fn refresh_clocks_are_those_behind_a_ref(rt: HostRuntime) -> Result<(), Fail> {
+    let config = Config::read(rt.alloc(), PROFILE_S2)?;
+    let trace = [
+        (110u64, act(1)),
+        (115, Command::Refresh { rank: 1 }),
+        (120, Command::Refresh { rank: 0 }),
+        (122, Command::PreAll { rank: 1 }),
+    ];
+    let statistics = clocked(&rt, &config, &trace);
+    assert_eq!(rt; clocks_of_rank(&statistics, 0, 123), Some([0, 3, 20]));
+    assert_eq!(rt; clocks_of_rank(&statistics, 0, 139), Some([0, 19, 20]));
+    assert_eq!(rt; clocks_of_rank(&statistics, 0, 141), Some([0, 20, 21]));
+    assert_eq!(rt; clocks_of_rank(&statistics, 1, 123), Some([12, 1, 10]));
+    assert_eq!(rt; clocks_of_rank(&statistics, 1, 200), Some([12, 13, 75]));
+    Ok(())
+}

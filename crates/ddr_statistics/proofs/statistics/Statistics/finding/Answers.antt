@@ -1,4 +1,4 @@
-use Rattle.std.proofs.Common.{◌≡◌, ◌<◌, Option, length, arith, sym, subst}
+use Rattle.std.proofs.Common.{◌≡◌, ◌<◌, length, arith, sym, subst}
 use Rattle.ddr_trace.specs.Commands.{rank_of}
 use Rattle.ddr_statistics.specs.Noted.{found_in}
 use Rattle.ddr_statistics.specs.Stands.{StandsFor, rank_at}
