@@ -1,6 +1,7 @@
 //! A core that a host drives by calls: that of `ddr_world`, with rounds, and with when its requests were accepted.
 //!
 //! `ddr_world` and `stamps` stand below, and `lib` above, whose exports call this.
+ghost use Rattle.std.proofs.Props.{props};
 ghost use Rattle.std.specs.Prelude.{◌≡◌, ◌+◌, ◌<◌, ◌≤◌, [], ◌∷◌, ◌++◌, List, true, false, IfNone, IfOk, IfSome, None, Ok, Some, length, replicate, slice_get};
 ghost use Rattle.std.specs.Option.{option_copied, option_map};
 ghost use Rattle.ddr_counting.specs.Noting.{AreNoted};
@@ -53,7 +54,7 @@ pub(crate) struct Core {
     pub(crate) drains: Vec<u64>,
     /// Of each port.
     pub(crate) traffic: Vec<Traffic>,
-    ghost follows: { AreNoted world.config (state_of world) noting },
+    ghost follows: { AreNoted world.config (state_of world) noting } by { Prim.hlevel props },
     ghost config_is: { config ≡ world.config },
     ghost ports_are: { ports ≡ world.config.limits.ports },
     ghost channels_are: { channels ≡ world.config.geometry.channels },
