@@ -6,7 +6,7 @@ mod PortLemmas
 mod QuietLemmas
 mod ReleaseLemmas
 mod ReplayLemmas
-mod RoundLemmas
+pub mod RoundLemmas
 mod RunLemmas
 mod SubmitLemmas
 mod TakenLemmas

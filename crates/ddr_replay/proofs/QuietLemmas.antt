@@ -21,8 +21,9 @@ use Rattle.ddr_rounds.proofs.EventLemmas.{nothing_popped}
 use Rattle.ddr_rounds.proofs.QuietLemmas.{channels_quiet, fewer_quiet, none_collected, passed_more}
 use Rattle.ddr_rounds.specs.Drains.{is_draining}
 use Rattle.ddr_replay.specs.Drains.{all_drained}
+use Rattle.ddr_replay.specs.declared.order.Asking.{Asking}
 use Rattle.ddr_replay.specs.Ledgers.{Ledger}
-use Rattle.ddr_replay.specs.Runs.{Run, channels_counted, port_served, ports_served, ports_submitted, released, replayed, round_closed, round_made, turn, unserved}
+use Rattle.ddr_replay.specs.Runs.{Run, all_submitted, channels_counted, port_served, ports_served, released, replayed, round_closed, round_made, turn, unserved}
 use Rattle.ddr_stream.specs.Stream.{queue_at}
 use Rattle.ddr_stream.specs.Waiting.{Waiting}
 use Rattle.ddr_replay.specs.View.{IsButLedger, IsCycleFault, IsRunFault, IsSame, Replay, run_of}
@@ -30,7 +31,7 @@ use Rattle.ddr_replay.specs.Waits.{AreQuiet, AreWaiting, all_full, come_of}
 use Rattle.ddr_rounds.proofs.DrainLemmas.{mode_settled}
 use Rattle.ddr_replay.proofs.DrainLemmas.{channels_again, channels_alike, ports_past}
 use Rattle.ddr_replay.proofs.ReleaseLemmas.{none_given, same_run}
-use Rattle.ddr_replay.proofs.WaitLemmas.{come_still, noted, ports_wait, waits_on}
+use Rattle.ddr_replay.proofs.WaitLemmas.{all_wait, come_still, noted, waits_on}
 use Rattle.ddr_replay.proofs.WaitedLemmas.{all_again, all_alike, all_none}
 
 -- after a quiet round
@@ -106,7 +107,7 @@ quiet_turns config n (suc k) until run are waits within busy =
     ap (λ o. option_map_or (replayed config (n + suc k)) o (Err faults.ClockSpent)) (round_quiet config (suc k) run are)
     ∙ ap (λ m. replayed config m next) more
     ∙ ap (λ (b : Bool). cond b (Ok next) (option_map_or (replayed config (n + k)) (turn config next) (Err faults.ClockSpent))) busy
-    ∙ ap (λ (r : Run). option_map_or (replayed config (n + k)) (round_made config r) (Err faults.ClockSpent)) (ports_wait config.limits.ports until next still (omega (arith, within)))
+    ∙ ap (λ (r : Run). option_map_or (replayed config (n + k)) (round_made config r) (Err faults.ClockSpent)) (all_wait config until next still (omega (arith, within)))
     ∙ quiet_turns config n k until waiting (quiet_on config (suc k) run.state are) still (omega (arith, within)) busy
     ∙ ap₂ (λ (xs : List ChannelSide) (r : ℕ). replayed config n (record run { state = record run.state { channels = xs }; ledger = all_drained (suc k) (is_draining (record run.state { channels = xs })) channels (all_full k come_next ports (all_full 1 come_next ports next.ledger)); round = r })) (passed_more (suc k) run.state.channels) last
     ∙ ap (λ (l : Ledger). replayed config n (record run { state = passed (suc (suc k)) run.state; ledger = l; round = run.round + suc (suc k) })) ledger_is
@@ -134,11 +135,11 @@ pub replayed_limit : (config : Config) (n : ℕ) (run : Run) → n ≡ 0 → (un
 replayed_limit config n run e busy = ap (λ k. replayed config k run) e ∙ ap (λ (b : Bool). cond b (Ok run) (Err faults.ReplayLimit)) busy
 
 -- a round was made
-pub turn_made : (config : Config) (n m : ℕ) (run next : Run) → n ≡ suc m → (unserved run == 0) ≡ false → round_made config (ports_submitted config.limits.ports run) ≡ Some next → replayed config n run ≡ replayed config m next
+pub turn_made : (config : Config) (n m : ℕ) (run next : Run) → n ≡ suc m → (unserved run == 0) ≡ false → round_made config (all_submitted config run) ≡ Some next → replayed config n run ≡ replayed config m next
 turn_made config n m run next e busy made = replayed_turn config n m run e busy ∙ ap (λ o. option_map_or (replayed config m) o (Err faults.ClockSpent)) made
 
 -- so many quiet ones were
-pub turns_passed : (config : Config) (n m k until : ℕ) (run ready : Run) → n ≡ suc (m + k) → (unserved run == 0) ≡ false → (unserved ready == 0) ≡ false → ready ≡ ports_submitted config.limits.ports run
+pub turns_passed : (config : Config) (n m k until : ℕ) (run ready : Run) → n ≡ suc (m + k) → (unserved run == 0) ≡ false → (unserved ready == 0) ≡ false → ready ≡ all_submitted config run
     → AreQuiet config (suc k) ready.state → AreWaiting config.limits.ports until ready → ready.round + suc k ≤ until → replayed config n run ≡ replayed config m (quietly config k ready)
 turns_passed config n m k until run ready e busy still is are waits within =
     replayed_turn config n (m + k) run e busy
@@ -146,7 +147,7 @@ turns_passed config n m k until run ready e busy still is are waits within =
     ∙ quiet_turns config m k until ready are waits within still
 
 -- the channels' part failed
-pub turn_failed : (config : Config) (n m : ℕ) (run ready : Run) (fault : Fault) → n ≡ suc m → (unserved run == 0) ≡ false → ready ≡ ports_submitted config.limits.ports run → IsCycleFault fault (channels_served config.geometry.channels ready.state) → IsRunFault config fault (replayed config n run)
+pub turn_failed : (config : Config) (n m : ℕ) (run ready : Run) (fault : Fault) → n ≡ suc m → (unserved run == 0) ≡ false → ready ≡ all_submitted config run → IsCycleFault fault (channels_served config.geometry.channels ready.state) → IsRunFault config fault (replayed config n run)
 turn_failed config n m run ready faults.ClockSpent e busy is fault =
     replayed_turn config n m run e busy
     ∙ ap (λ (r : Run). option_map_or (replayed config m) (round_made config r) (Err faults.ClockSpent)) (sym is)
@@ -158,8 +159,8 @@ turn_failed config n m run ready _ e busy is fault = absurd fault
 but_ledger : (old new : Replay) (ledger : Ledger) → IsButLedger old new → new.ledger ≡ ledger → run_of new ≡ record (run_of old) { ledger = ledger }
 but_ledger old new ledger rest is =
     ap (λ (l : Ledger). record (run_of new) { ledger = l }) is
-    ∙ ap (λ (w : Kept). record { state = state_of w; queues = new.stream.queues; ledger = ledger; round = new.round }) rest.world
-    ∙ ap₂ (λ (w : Waiting) (r : ℕ). record { state = state_of old.world; queues = w.queues; ledger = ledger; round = r }) rest.stream rest.round
+    ∙ ap₂ (λ (a : Asking) (w : Kept). record { asking = a; state = state_of w; queues = new.stream.queues; ledger = ledger; round = new.round }) rest.asking rest.world
+    ∙ ap₂ (λ (w : Waiting) (r : ℕ). record { asking = old.asking; state = state_of old.world; queues = w.queues; ledger = ledger; round = r }) rest.stream rest.round
 
 -- a round that was made: the channels' part, the count of those that drain writes, and the ports' part
 pub round_ok : (old served counted last : Replay) (new : Run) → channels_served old.config.geometry.channels (state_of old.world) ≡ Some (state_of served.world) → IsSame old served

@@ -1,5 +1,5 @@
 -- The replies in front of a port are released and noted, one after another.
-use Rattle.std.proofs.Common.{◌≡◌, ◌+◌, ℕ, zero, suc, Some, None, Result, Ok, Err, refl, sym, ap, subst, ◌∙◌, arith}
+use Rattle.std.proofs.Common.{◌≡◌, ◌+◌, ℕ, zero, suc, Some, None, Result, Ok, Err, refl, sym, ap, ap₂, subst, ◌∙◌, arith}
 use Rattle.std.specs.List.{slice_get}
 use Rattle.std.specs.Option.{option_map_or}
 use Rattle.ddr_reorder.specs.declared.reply.Service.{Service}
@@ -18,6 +18,7 @@ use Rattle.ddr_world.specs.Step.{Step, after_release, made, release, release_by,
 use Rattle.ddr_rounds.specs.Rounds.{after_step, items_of, outstanding, until_refused}
 use Rattle.ddr_rounds.proofs.EventLemmas.{front_answered}
 use Rattle.ddr_rounds.proofs.StepCounts.{Counted, at_port_has, made_counts, maybe_has}
+use Rattle.ddr_replay.specs.declared.order.Asking.{Asking}
 use Rattle.ddr_replay.specs.Ledgers.{Ledger, noted}
 use Rattle.ddr_replay.specs.Runs.{Run, port_served, released, released_by}
 use Rattle.ddr_stream.specs.Waiting.{Waiting}
@@ -27,9 +28,9 @@ use Rattle.ddr_replay.specs.View.{IsSame, Replay, run_of}
 pub same_run : (old new : Replay) → IsSame old new → run_of new ≡ record (run_of old) { state = state_of new.world }
 same_run old new same =
     let s = state_of new.world in
-    ap (λ (w : Waiting). record { state = s; queues = w.queues; ledger = new.ledger; round = new.round }) same.stream
-    ∙ ap (λ (l : Ledger). record { state = s; queues = old.stream.queues; ledger = l; round = new.round }) same.ledger
-    ∙ ap (λ (r : ℕ). record { state = s; queues = old.stream.queues; ledger = old.ledger; round = r }) same.round
+    ap₂ (λ (a : Asking) (w : Waiting). record { asking = a; state = s; queues = w.queues; ledger = new.ledger; round = new.round }) same.asking same.stream
+    ∙ ap (λ (l : Ledger). record { asking = old.asking; state = s; queues = old.stream.queues; ledger = l; round = new.round }) same.ledger
+    ∙ ap (λ (r : ℕ). record { asking = old.asking; state = s; queues = old.stream.queues; ledger = old.ledger; round = r }) same.round
 
 -- with no reply in front nothing is released
 pub none_given : (n p : ℕ) (run : Run) → front_service run.state p ≡ None → released n p run ≡ run

@@ -5,6 +5,7 @@ use Rattle.std.specs.Io.KnownBytes.{Appends}
 use Rattle.std.specs.Result.{IsErrOf}
 use Rattle.ddr_timing.specs.declared.config.Config.{Config}
 use Rattle.ddr_replay.specs.Taken.{IsTaken, IsTakenFault, all_of, taken_of}
+use Rattle.ddr_replay.specs.declared.order.Order.{Order}
 use Rattle.ddr_replay.specs.declared.taken.Taking.{Taking}
 use Rattle.ddr_replay.specs.declared.wanted.Wanted.{Wanted}
 use Rattle.ddr_text.specs.Body.{parts_of}
@@ -42,29 +43,29 @@ pub each_by : {P Q R : List ℕ → Type 0} (o : Option (List ℕ)) → IfSome o
 each_by None known more so = tt
 each_by (Some text) known more so = so text known more
 
-abbrev on_queues : Config → Wanted → Result Queues Fault → Result (List ℕ) Fault
-on_queues config told r = r >>> told_behind config told
+abbrev on_queues : Config → Order → Wanted → Result Queues Fault → Result (List ℕ) Fault
+on_queues config order told r = r >>> told_behind config order told
 
 abbrev on_run : Config → Wanted → Queues → Result Run Fault → Result (List ℕ) Fault
 on_run config told queues r = r >>> λ run. told_of config told (map requests_in queues) run
 
 abbrev on_channel : Config → Taking → Wanted → List ℕ → Bool → Result (List ℕ) Fault
-on_channel config taking told body b = cond b (Err faults.TraceNoSuch) (taken_of config taking body >>> told_behind config told)
+on_channel config taking told body b = cond b (Err faults.TraceNoSuch) (taken_of config taking body >>> told_behind config taking.order told)
 
 -- there is no such channel
 pub no_channel : (config : Config) (taking : Taking) (told : Wanted) (body : List ℕ) → names_no_channel config told ≡ true → report_of config taking told body ≡ Err faults.TraceNoSuch
 unfolding report_of
 no_channel config taking told body none = ap (on_channel config taking told body) none
 
-there : (config : Config) (taking : Taking) (told : Wanted) (body : List ℕ) → names_no_channel config told ≡ false → report_of config taking told body ≡ on_queues config told (taken_of config taking body)
+there : (config : Config) (taking : Taking) (told : Wanted) (body : List ℕ) → names_no_channel config told ≡ false → report_of config taking told body ≡ on_queues config taking.order told (taken_of config taking body)
 unfolding report_of
 there config taking told body some = ap (on_channel config taking told body) some
 
-behind : (config : Config) (taking : Taking) (told : Wanted) (body : List ℕ) (queues : Queues) → names_no_channel config told ≡ false → taken_of config taking body ≡ Ok queues → report_of config taking told body ≡ on_run config told queues (replayed config 4294967295 (begun config (keeps_served told) queues))
-behind config taking told body queues some read = there config taking told body some ∙ ap (on_queues config told) read
+behind : (config : Config) (taking : Taking) (told : Wanted) (body : List ℕ) (queues : Queues) → names_no_channel config told ≡ false → taken_of config taking body ≡ Ok queues → report_of config taking told body ≡ on_run config told queues (replayed config 4294967295 (begun config (keeps_served told) taking.order queues))
+behind config taking told body queues some read = there config taking told body some ∙ ap (on_queues config taking.order told) read
 
 -- the run comes to no end
-pub run_said : {Y : Type 0} (text : Y → List ℕ) (config : Config) (taking : Taking) (told : Wanted) (body : List ℕ) (queues : Queues) (fault : Fault) → names_no_channel config told ≡ false → taken_of config taking body ≡ Ok queues → IsRunFault config fault (replayed config 4294967295 (begun config (keeps_served told) queues)) → IsReported text config taking told body (Err fault)
+pub run_said : {Y : Type 0} (text : Y → List ℕ) (config : Config) (taking : Taking) (told : Wanted) (body : List ℕ) (queues : Queues) (fault : Fault) → names_no_channel config told ≡ false → taken_of config taking body ≡ Ok queues → IsRunFault config fault (replayed config 4294967295 (begun config (keeps_served told) taking.order queues)) → IsReported text config taking told body (Err fault)
 run_said text config taking told body queues faults.ReplayLimit some read is = behind config taking told body queues some read ∙ ap (on_run config told queues) is
 run_said text config taking told body queues faults.ClockSpent some read is = behind config taking told body queues some read ∙ ap (on_run config told queues) is
 run_said text config taking told body queues (faults.ReplayStuck cycle) some read is = record { queues = queues; read = read; stuck = is }
@@ -72,7 +73,7 @@ run_said text config taking told body queues faults.OutOfMemory some read is = t
 run_said text config taking told body queues _ some read is = absurd is
 
 -- what is told of the run
-pub told_said : (config : Config) (taking : Taking) (told : Wanted) (body : List ℕ) (queues : Queues) (run : Run) → names_no_channel config told ≡ false → taken_of config taking body ≡ Ok queues → replayed config 4294967295 (begun config (keeps_served told) queues) ≡ Ok run
+pub told_said : (config : Config) (taking : Taking) (told : Wanted) (body : List ℕ) (queues : Queues) (run : Run) → names_no_channel config told ≡ false → taken_of config taking body ≡ Ok queues → replayed config 4294967295 (begun config (keeps_served told) taking.order queues) ≡ Ok run
     → report_of config taking told body ≡ told_of config told (map requests_in queues) run
 told_said config taking told body queues run some read came = behind config taking told body queues some read ∙ ap (on_run config told queues) came
 
@@ -123,7 +124,7 @@ read_so (Ok queues) all is =
 
 module _ {Y : Type 0} (text : Y → List ℕ) (config : Config) (taking : Taking) (told : Wanted) (body : List ℕ) where
   refused : (e : Fault) → names_no_channel config told ≡ false → all_of config taking body ≡ Err e → report_of config taking told body ≡ Err e
-  refused e some is = there config taking told body some ∙ ap (on_queues config told) (refused_so (taken_of config taking body) e is)
+  refused e some is = there config taking told body some ∙ ap (on_queues config taking.order told) (refused_so (taken_of config taking body) e is)
 
   -- a line is at fault
   pub taken_said : (fault : Fault) → names_no_channel config told ≡ false → IsTakenFault config taking fault body → IsReported text config taking told body (Err fault)
@@ -135,31 +136,31 @@ module _ {Y : Type 0} (text : Y → List ℕ) (config : Config) (taking : Taking
   taken_said _ some is = absurd is
 
 -- a replay that has just begun
-pub record HasBegun (asked : Config) (keeps : Bool) (began : Replay) : Type 0 where
+pub record HasBegun (asked : Config) (keeps : Bool) (order : Order) (began : Replay) : Type 0 where
   pub config : began.config ≡ asked
-  pub run : run_of began ≡ begun asked keeps began.stream.queues
+  pub run : run_of began ≡ begun asked keeps order began.stream.queues
 
-begun_whole : (config : Config) (keeps : Bool) (began : Replay) (queues : Queues) → HasBegun config keeps began → whole_run began queues ≡ begun config keeps queues
-begun_whole config keeps began queues has = ap (with_queues queues) has.run
+begun_whole : (config : Config) (keeps : Bool) (order : Order) (began : Replay) (queues : Queues) → HasBegun config keeps order began → whole_run began queues ≡ begun config keeps order queues
+begun_whole config keeps order began queues has = ap (with_queues queues) has.run
 
-begun_left : (config : Config) (keeps : Bool) (began : Replay) → HasBegun config keeps began → 4294967295 - began.round ≡ 4294967295
-begun_left config keeps began has = ap (λ (r : Run). 4294967295 - r.round) has.run
+begun_left : (config : Config) (keeps : Bool) (order : Order) (began : Replay) → HasBegun config keeps order began → 4294967295 - began.round ≡ 4294967295
+begun_left config keeps order began has = ap (λ (r : Run). 4294967295 - r.round) has.run
 
 -- what is so of the run that all requests come to
-at_begun : (P : Config → Result Run Fault → Type 0) (config : Config) (keeps : Bool) (began : Replay) (queues : Queues) → HasBegun config keeps began → P began.config (replayed began.config (4294967295 - began.round) (whole_run began queues)) → P config (replayed config 4294967295 (begun config keeps queues))
-at_begun P config keeps began queues has so =
-    subst (P config) (ap (λ n. replayed config n (whole_run began queues)) (begun_left config keeps began has) ∙ ap (replayed config 4294967295) (begun_whole config keeps began queues has))
+at_begun : (P : Config → Result Run Fault → Type 0) (config : Config) (keeps : Bool) (order : Order) (began : Replay) (queues : Queues) → HasBegun config keeps order began → P began.config (replayed began.config (4294967295 - began.round) (whole_run began queues)) → P config (replayed config 4294967295 (begun config keeps order queues))
+at_begun P config keeps order began queues has so =
+    subst (P config) (ap (λ n. replayed config n (whole_run began queues)) (begun_left config keeps order began has) ∙ ap (replayed config 4294967295) (begun_whole config keeps order began queues has))
     (subst (λ (k : Config). P k (replayed k (4294967295 - began.round) (whole_run began queues))) has.config so)
 
 module _ {Y : Type 0} (text : Y → List ℕ) (config : Config) (taking : Taking) (told : Wanted) (began : Replay) (all : Option (Result All Fault)) (body : List ℕ) where
   abbrev Left : ℕ
   Left = 4294967295 - began.round
 
-  cut : (fault : Fault) → names_no_channel config told ≡ false → HasBegun config (keeps_served told) began → (x : All) → all_of config taking body ≡ Ok x → IsCutOff began.config Left began fault x → IsReported text config taking told body (Err fault)
+  cut : (fault : Fault) → names_no_channel config told ≡ false → HasBegun config (keeps_served told) taking.order began → (x : All) → all_of config taking body ≡ Ok x → IsCutOff began.config Left began fault x → IsReported text config taking told body (Err fault)
   cut fault some has x read is =
-      run_said text config taking told body x.queues fault some (read_so (taken_of config taking body) x read).0 (at_begun (λ (k : Config) (r : Result Run Fault). IsRunFault k fault r) config (keeps_served told) began x.queues has is)
+      run_said text config taking told body x.queues fault some (read_so (taken_of config taking body) x read).0 (at_begun (λ (k : Config) (r : Result Run Fault). IsRunFault k fault r) config (keeps_served told) taking.order began x.queues has is)
 
-  ended : (fault : Fault) → names_no_channel config told ≡ false → HasBegun config (keeps_served told) began → IsEnded began.config Left began fault (Some (all_of config taking body)) → IsReported text config taking told body (Err fault)
+  ended : (fault : Fault) → names_no_channel config told ≡ false → HasBegun config (keeps_served told) taking.order began → IsEnded began.config Left began fault (Some (all_of config taking body)) → IsReported text config taking told body (Err fault)
   ended (faults.ReplayLine line cause) some has is = taken_said text config taking told body (faults.ReplayLine line cause) some is
   ended (faults.ReplayRange line) some has is = taken_said text config taking told body (faults.ReplayRange line) some is
   ended faults.InputTooLong some has is = taken_said text config taking told body faults.InputTooLong some is
@@ -168,21 +169,21 @@ module _ {Y : Type 0} (text : Y → List ℕ) (config : Config) (taking : Taking
   ended fault some has is = cut fault some has is.0 is.1 is.2
 
   -- the run ended by a fault
-  pub run_ended : (fault : Fault) → names_no_channel config told ≡ false → HasBegun config (keeps_served told) began → IsEnded began.config Left began fault all → IsTaken config taking body all → IsReported text config taking told body (Err fault)
+  pub run_ended : (fault : Fault) → names_no_channel config told ≡ false → HasBegun config (keeps_served told) taking.order began → IsEnded began.config Left began fault all → IsTaken config taking body all → IsReported text config taking told body (Err fault)
   run_ended fault some has is taken = ended fault some has (subst (IsEnded began.config Left began fault) taken is)
 
   abbrev CameTo : Replay → Option (Result All Fault) → Type 0
   CameTo last o = IfSome o (λ said. (x : All) × (said ≡ Ok x) × IsOver began.config Left began last x)
 
   -- it came to its end, and this is told of it
-  pub run_told : (last : Replay) (requests : List Requests) (r : Result Y Fault) → names_no_channel config told ≡ false → HasBegun config (keeps_served told) began → CameTo last all → requests ≡ last.stream.asked → IsSaid text r (told_of config told requests (run_of last))
+  pub run_told : (last : Replay) (requests : List Requests) (r : Result Y Fault) → names_no_channel config told ≡ false → HasBegun config (keeps_served told) taking.order began → CameTo last all → requests ≡ last.stream.asked → IsSaid text r (told_of config told requests (run_of last))
       → IsTaken config taking body all → IsReported text config taking told body r
   run_told last requests r some has came same said taken =
       let here : CameTo last (Some (all_of config taking body)) = subst (CameTo last) taken came in
       let x = here.0 in
       let read = read_so (taken_of config taking body) x here.1 in
       let over = here.2 in
-      let run = at_begun (λ (k : Config) (q : Result Run Fault). q ≡ Ok (run_of last)) config (keeps_served told) began x.queues has over.run in
+      let run = at_begun (λ (k : Config) (q : Result Run Fault). q ≡ Ok (run_of last)) config (keeps_served told) taking.order began x.queues has over.run in
       let counts : map requests_in x.queues ≡ requests = read.1 ∙ over.requests ∙ sym same in
       reported_of text config taking told body r
       (subst (IsSaid text r) (sym (told_said config taking told body x.queues (run_of last) some read.0 run ∙ ap (λ (rs : List Requests). told_of config told rs (run_of last)) counts)) said)

@@ -1,9 +1,10 @@
 -- A round doesn't look at what is left to be submitted, and the ports that submit leave as many requests to be served.
-use Rattle.std.proofs.Common.{◌≡◌, ◌<◌, ◌≤◌, ◌+◌, ℕ, zero, suc, Bool, true, false, cond, List, [], ◌∷◌, Option, None, Some, Ok, Err, length, refl, ap, ◌∙◌, arith}
+use Rattle.std.proofs.Common.{◌≡◌, ◌<◌, ◌≤◌, ◌+◌, ◌-◌, ℕ, zero, suc, Bool, true, false, cond, List, [], ◌∷◌, Option, None, Some, Ok, Err, length, refl, ap, ◌∙◌, arith}
 use Rattle.std.specs.Prelude.{nat_lt}
 use Rattle.std.specs.List.{slice_set, sum_by}
 use Rattle.std.specs.Option.{option_map, option_map_or}
 use Rattle.std.proofs.lemmas.List.Sums.{sum_by-set}
+use Rattle.std.proofs.lemmas.Bool.Decides.{nat_tests}
 use Rattle.ddr_timing.specs.declared.config.Config.{Config}
 use Rattle.ddr_reorder.specs.declared.reply.Service.{Service}
 use Rattle.ddr_rounds.specs.Rounds.{channels_served, items_of, outstanding, until_refused}
@@ -15,8 +16,9 @@ use Rattle.ddr_world.specs.Events.{Collect, Release, Submit}
 use Rattle.ddr_world.specs.Served.{front_service}
 use Rattle.ddr_world.specs.State.{State}
 use Rattle.ddr_world.specs.Step.{Step, step}
+use Rattle.ddr_replay.specs.declared.order.Asking.{Asking}
 use Rattle.ddr_replay.specs.Ledgers.{Ledger, with_accepted, with_wait}
-use Rattle.ddr_replay.specs.Runs.{Run, Submitted, accepted_in, after_answer, channels_counted, port_served, port_submitted, ports_served, ports_submitted, released, released_by, round_closed, round_made, submitted, unserved}
+use Rattle.ddr_replay.specs.Runs.{Run, Submitted, accepted_in, after_answer, all_submitted, channels_counted, first_port, port_served, port_submitted, ports_served, ports_submitted, released, released_by, round_closed, round_made, submitted, unserved}
 use Rattle.ddr_replay.proofs.SubmitLemmas.{one_more}
 
 abbrev pub with_queues : Queues → Run → Run
@@ -52,7 +54,7 @@ round_beside config run new made queues = made_beside config run queues (channel
 
 -- ---- as many are to be served
 
-abbrev counted : Submitted → ℕ
+abbrev pub counted : Submitted → ℕ
 counted s = length s.rest + outstanding s.state
 
 abbrev onward : ℕ → ℕ → Ask → List Ask → Ledger → State → Submitted
@@ -71,7 +73,7 @@ by_cycle : (p round : ℕ) (ask : Ask) (more : List Ask) (s : State) (ledger : L
 by_cycle p round ask more s ledger true come = refl
 by_cycle p round ask more s ledger false come = come
 
-submitted_counts : (p round : ℕ) (queue : List Ask) (s : State) (ledger : Ledger) → counted (submitted p round queue s ledger) ≡ length queue + outstanding s
+pub submitted_counts : (p round : ℕ) (queue : List Ask) (s : State) (ledger : Ledger) → counted (submitted p round queue s ledger) ≡ length queue + outstanding s
 submitted_counts p round [] s ledger = refl
 submitted_counts p round (ask ∷ more) s ledger =
     by_cycle p round ask more s ledger (nat_lt round ask.at)
@@ -85,17 +87,31 @@ set_size [] p rest = refl
 set_size (q ∷ qs) zero rest = refl
 set_size (q ∷ qs) (suc p) rest = ap suc (set_size qs p rest)
 
-ports_size : (n : ℕ) (run : Run) → length (ports_submitted n run).queues ≡ length run.queues
-ports_size zero run = refl
-ports_size (suc p) run =
-    let before = ports_submitted p run in
-    set_size before.queues p (submitted p before.round (queue_at before.queues p) before.state before.ledger).rest ∙ ports_size p run
+ports_size : (first n : ℕ) (run : Run) → length (ports_submitted first n run).queues ≡ length run.queues
+ports_size first zero run = refl
+ports_size first (suc n) run =
+    let before = ports_submitted first n run in
+    let p = first + n in
+    set_size before.queues p (submitted p before.round (queue_at before.queues p) before.state before.ledger).rest ∙ ports_size first n run
 
 port_counts : (p : ℕ) (run : Run) → p < length run.queues → unserved (port_submitted p run) ≡ unserved run
 port_counts p run within =
     let s = submitted p run.round (queue_at run.queues p) run.state run.ledger in
     omega (arith, set_counts run.queues p s.rest within, submitted_counts p run.round (queue_at run.queues p) run.state run.ledger)
 
-pub ports_count : (n : ℕ) (run : Run) → n ≤ length run.queues → unserved (ports_submitted n run) ≡ unserved run
-ports_count zero run within = refl
-ports_count (suc p) run within = port_counts p (ports_submitted p run) (omega (arith, within, ports_size p run)) ∙ ports_count p run (omega (arith, within))
+ports_count : (first n : ℕ) (run : Run) → first + n ≤ length run.queues → unserved (ports_submitted first n run) ≡ unserved run
+ports_count first zero run within = refl
+ports_count first (suc n) run within =
+    port_counts (first + n) (ports_submitted first n run) (omega (arith, within, ports_size first n run)) ∙ ports_count first n run (omega (arith, within))
+
+-- the port that submits first is one of them
+pub first_within : (asking : Asking) (ports : ℕ) → first_port asking ports ≤ ports
+first_within asking ports = grind (arith, nat_tests)
+
+pub all_count : (config : Config) (run : Run) → config.limits.ports ≤ length run.queues → unserved (all_submitted config run) ≡ unserved run
+all_count config run within =
+    let ports = config.limits.ports in
+    let first = first_port run.asking ports in
+    let few = first_within run.asking ports in
+    ports_count 0 first (ports_submitted first (ports - first) run) (omega (arith, within, few, ports_size first (ports - first) run))
+    ∙ ports_count first (ports - first) run (omega (arith, within, few))

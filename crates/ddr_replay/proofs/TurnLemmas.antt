@@ -1,5 +1,5 @@
 -- How a turn leads on along a replay, also by the requests that were not read.
-use Rattle.std.proofs.Common.{◌≡◌, ◌<◌, ◌≤◌, ◌-◌, ◌+◌, ℕ, zero, suc, false, List, [], ◌∷◌, Option, Some, Result, Ok, Err, IfErr, OnOk, length, refl, sym, ap, subst, ◌∙◌, arith}
+use Rattle.std.proofs.Common.{◌≡◌, ◌<◌, ◌≤◌, ◌-◌, ◌+◌, ℕ, zero, suc, false, List, [], ◌∷◌, Option, Some, Result, Ok, Err, IfErr, OnOk, length, refl, sym, ap, ap₂, subst, ◌∙◌, arith}
 use Rattle.std.specs.Prelude.{◌==◌}
 use Rattle.std.specs.List.{slice_get, sum_by}
 use Rattle.std.proofs.lemmas.Bool.{eqb-false, ne_eqb}
@@ -15,15 +15,16 @@ use Rattle.ddr_stream.specs.declared.ask.Ask.{Ask}
 use Rattle.ddr_stream.specs.Stream.{Queues, queue_at}
 use Rattle.ddr_stream.specs.Waiting.{All, IsAhead, IsSized, Waiting, all_in}
 use Rattle.ddr_stream.proofs.AllLemmas.{all_first, all_least, all_sized}
-use Rattle.ddr_replay.specs.Ahead.{AreSubmitted, Carries, IsCutOff, IsStopped, Leads, LeadsAlike}
+use Rattle.ddr_replay.specs.Ahead.{AreAllSubmitted, Carries, IsCutOff, IsStopped, Leads, LeadsAlike}
+use Rattle.ddr_replay.specs.declared.order.Asking.{Asking}
 use Rattle.ddr_replay.specs.Drains.{all_drained}
 use Rattle.ddr_replay.specs.Ledgers.{Ledger}
-use Rattle.ddr_replay.specs.Runs.{Run, ports_submitted, replayed, round_made, unserved}
+use Rattle.ddr_replay.specs.Runs.{Run, all_submitted, replayed, round_made, unserved}
 use Rattle.ddr_replay.specs.View.{IsCycleFault, Replay, run_of, whole_run}
 use Rattle.ddr_replay.specs.Waits.{AreQuiet, all_full, come_of, has_come}
 use Rattle.ddr_replay.proofs.AheadLemmas.{carries_same, carries_with, same_itself}
 use Rattle.ddr_replay.proofs.QuietLemmas.{replayed_limit, turn_failed, turn_made, turns_passed}
-use Rattle.ddr_replay.proofs.RoundLemmas.{ports_count}
+use Rattle.ddr_replay.proofs.RoundLemmas.{all_count}
 use Rattle.ddr_replay.proofs.WaitedLemmas.{all_alike}
 
 abbrev MOST : ℕ
@@ -44,8 +45,8 @@ not_none n some = ne_eqb n 0 (λ none. omega (arith, some, none))
 busy_whole : (r : Replay) (queues : Queues) → sum_by length r.stream.queues ≤ sum_by length queues → (unserved (run_of r) == 0) ≡ false → (unserved (whole_run r queues) == 0) ≡ false
 busy_whole r queues most busy = not_none (unserved (whole_run r queues)) (omega (arith, most, is_some (unserved (run_of r)) busy))
 
-still_busy : (n : ℕ) (run next : Run) → n ≤ length run.queues → ports_submitted n run ≡ next → (unserved run == 0) ≡ false → (unserved next == 0) ≡ false
-still_busy n run next within is busy = ap (λ (r : Run). unserved r == 0) (sym is) ∙ ap (λ k. k == 0) (ports_count n run within) ∙ busy
+still_busy : (config : Config) (run next : Run) → config.limits.ports ≤ length run.queues → all_submitted config run ≡ next → (unserved run == 0) ≡ false → (unserved next == 0) ≡ false
+still_busy config run next within is busy = ap (λ (r : Run). unserved r == 0) (sym is) ∙ ap (λ k. k == 0) (all_count config run within) ∙ busy
 
 -- a port whose next request is the same
 come_first : (round : ℕ) (a b : List Ask) → slice_get a 0 ≡ slice_get b 0 → has_come round a ≡ has_come round b
@@ -73,7 +74,7 @@ is_busy old more all sized config busy is = record {
 }
 
 -- a round was made
-made_on : (old ready new : Replay) (all next : All) → IsReady old ready → IsBusy old all → Leads (ports_submitted old.config.limits.ports) old ready all next → round_made ready.config (whole_run ready next.queues) ≡ Some (whole_run new next.queues) → ready.round < MOST → new.round ≡ ready.round + 1
+made_on : (old ready new : Replay) (all next : All) → IsReady old ready → IsBusy old all → Leads (all_submitted old.config) old ready all next → round_made ready.config (whole_run ready next.queues) ≡ Some (whole_run new next.queues) → ready.round < MOST → new.round ≡ ready.round + 1
     → LeadsAlike old.config (MOST - old.round) (MOST - new.round) old new all next
 made_on old ready new all next is busy led made some behind =
     let one : MOST - old.round ≡ suc (MOST - new.round) = omega (arith, is.round, some, behind) in
@@ -84,12 +85,12 @@ made_on old ready new all next is busy led made some behind =
     }
 
 -- so many quiet ones were
-passed_on : (old ready new : Replay) (count until : ℕ) (all next : All) → IsReady old ready → IsBusy old all → AreSubmitted old.config.limits.ports until old ready all next → 0 < count → AreQuiet ready.config count (state_of ready.world) → ready.round + count ≤ until → count ≤ MOST - ready.round
+passed_on : (old ready new : Replay) (count until : ℕ) (all next : All) → IsReady old ready → IsBusy old all → AreAllSubmitted old.config until old ready all next → 0 < count → AreQuiet ready.config count (state_of ready.world) → ready.round + count ≤ until → count ≤ MOST - ready.round
     → ((p : ℕ) → p < old.config.limits.ports → come_of ready.round ready.stream.queues p ≡ come_of ready.round next.queues p)
-    → state_of new.world ≡ passed count (state_of ready.world) → new.round ≡ ready.round + count → new.ledger ≡ all_drained count (is_draining (state_of new.world)) ready.config.geometry.channels (all_full (count - 1) (come_of ready.round ready.stream.queues) ready.config.limits.ports ready.ledger)
+    → new.asking ≡ ready.asking → state_of new.world ≡ passed count (state_of ready.world) → new.round ≡ ready.round + count → new.ledger ≡ all_drained count (is_draining (state_of new.world)) ready.config.geometry.channels (all_full (count - 1) (come_of ready.round ready.stream.queues) ready.config.limits.ports ready.ledger)
     → LeadsAlike old.config (MOST - old.round) (MOST - new.round) old new all next
-passed_on old ready new zero until all next is busy led some are within most alike state round ledger = absurd (omega (arith, some))
-passed_on old ready new (suc k) until all next is busy led some are within most alike state round ledger =
+passed_on old ready new zero until all next is busy led some are within most alike asking state round ledger = absurd (omega (arith, some))
+passed_on old ready new (suc k) until all next is busy led some are within most alike asking state round ledger =
     let ports = old.config.limits.ports in
     let read = come_of ready.round ready.stream.queues in
     let come = come_of ready.round next.queues in
@@ -103,21 +104,21 @@ passed_on old ready new (suc k) until all next is busy led some are within most 
     ∙ ap (all_drained (suc k) (is_draining (state_of new.world)) old.config.geometry.channels) (all_alike k ports read come ready.ledger alike)
     ∙ ap counted state in
     let all_left : MOST - old.round ≡ suc ((MOST - new.round) + k) = omega (arith, is.round, most, round) in
-    let still = still_busy ports (whole_run old all.queues) (whole_run ready next.queues) (omega (arith, busy.size)) led.leads.run busy.some in
+    let still = still_busy old.config (whole_run old all.queues) (whole_run ready next.queues) (omega (arith, busy.size)) led.leads.run busy.some in
     record {
       requests = led.leads.requests;
       run = turns_passed old.config (MOST - old.round) (MOST - new.round) k until (whole_run old all.queues) (whole_run ready next.queues) all_left busy.some still (sym led.leads.run)
           (subst (λ (c : Config). AreQuiet c (suc k) (state_of ready.world)) is.config are) led.waits within
-          ∙ ap (λ (s : State). replayed old.config (MOST - new.round) (record { state = s; queues = next.queues; ledger = after; round = ready.round + suc k })) (sym state)
-          ∙ ap (λ (r : ℕ). replayed old.config (MOST - new.round) (record { state = state_of new.world; queues = next.queues; ledger = after; round = r })) (sym round)
-          ∙ ap (λ (l : Ledger). replayed old.config (MOST - new.round) (record { state = state_of new.world; queues = next.queues; ledger = l; round = new.round })) (sym ledger_is);
+          ∙ ap (λ (s : State). replayed old.config (MOST - new.round) (record { asking = ready.asking; state = s; queues = next.queues; ledger = after; round = ready.round + suc k })) (sym state)
+          ∙ ap₂ (λ (a : Asking) (r : ℕ). replayed old.config (MOST - new.round) (record { asking = a; state = state_of new.world; queues = next.queues; ledger = after; round = r })) (sym asking) (sym round)
+          ∙ ap (λ (l : Ledger). replayed old.config (MOST - new.round) (record { asking = new.asking; state = state_of new.world; queues = next.queues; ledger = l; round = new.round })) (sym ledger_is);
     }
 
 -- ---- of all requests, where those are known
 
 module _ (old ready : Replay) (until : ℕ) (before behind : Option (List ℕ)) where
   abbrev pub AreReady : Type 0
-  AreReady = Carries (λ all next. AreSubmitted old.config.limits.ports until old ready all next) (all_in old.stream before) (all_in ready.stream behind)
+  AreReady = Carries (λ all next. AreAllSubmitted old.config until old ready all next) (all_in old.stream before) (all_in ready.stream behind)
 
   abbrev Alike : Replay → All → All → Type 0
   Alike new = λ all next. LeadsAlike old.config (MOST - old.round) (MOST - new.round) old new all next
@@ -128,28 +129,28 @@ module _ (old ready : Replay) (until : ℕ) (before behind : Option (List ℕ)) 
   -- quiet rounds were made
   pub passed_turn : (new : Replay) (count : ℕ) → AreReady → IsReady old ready → IsSized old.stream → old.stream.config ≡ old.config → (unserved (run_of old) == 0) ≡ false → IsSized ready.stream → ready.stream.config ≡ ready.config → IsAhead ready.stream
       → 0 < count → AreQuiet ready.config count (state_of ready.world) → ready.round + count ≤ until → count ≤ MOST - ready.round
-      → state_of new.world ≡ passed count (state_of ready.world) → new.round ≡ ready.round + count → new.stream ≡ ready.stream → new.ledger ≡ all_drained count (is_draining (state_of new.world)) ready.config.geometry.channels (all_full (count - 1) (come_of ready.round ready.stream.queues) ready.config.limits.ports ready.ledger)
+      → new.asking ≡ ready.asking → state_of new.world ≡ passed count (state_of ready.world) → new.round ≡ ready.round + count → new.stream ≡ ready.stream → new.ledger ≡ all_drained count (is_draining (state_of new.world)) ready.config.geometry.channels (all_full (count - 1) (come_of ready.round ready.stream.queues) ready.config.limits.ports ready.ledger)
       → Carries (Alike new) (all_in old.stream before) (all_in new.stream behind)
-  passed_turn new count led is sized config busy ready_sized ready_config ahead some are within most state round stream ledger =
+  passed_turn new count led is sized config busy ready_sized ready_config ahead some are within most asking state round stream ledger =
       let ports_are : ready.stream.config.limits.ports ≡ old.config.limits.ports = ap (λ (c : Config). c.limits.ports) (ready_config ∙ is.config) in
       same_stream new stream
-      (carries_with (λ all next. AreSubmitted old.config.limits.ports until old ready all next) (Alike new) (all_in old.stream before) (all_in ready.stream behind) led (λ all next here there submitted.
+      (carries_with (λ all next. AreAllSubmitted old.config until old ready all next) (Alike new) (all_in old.stream before) (all_in ready.stream behind) led (λ all next here there submitted.
       passed_on old ready new count until all next is (is_busy old before all sized config busy here) submitted some are within most
       (λ p below.
       let within_ports : p < ready.stream.config.limits.ports = omega (arith, below, ports_are) in
       come_first ready.round (queue_at ready.stream.queues p) (queue_at next.queues p) (sym (all_first ready.stream behind next p ready_sized within_ports (ahead p within_ports) there)))
-      state round ledger))
+      asking state round ledger))
 
   -- by what making a round answered
   pub made_turn : (new : Replay) (r : Result (Unit {0}) Fault) → AreReady → IsReady old ready → IsSized old.stream → old.stream.config ≡ old.config → (unserved (run_of old) == 0) ≡ false → ready.round < 4294967295
       → OnOk r ((queues : Queues) → round_made ready.config (whole_run ready queues) ≡ Some (whole_run new queues)) → OnOk r (new.round ≡ ready.round + 1) → new.stream ≡ ready.stream → OnOk r (Carries (Alike new) (all_in old.stream before) (all_in new.stream behind))
   made_turn new (Ok v) led is sized config busy some made next stream =
       same_stream new stream
-      (carries_with (λ all next. AreSubmitted old.config.limits.ports until old ready all next) (Alike new) (all_in old.stream before) (all_in ready.stream behind) led (λ all after here there submitted.
+      (carries_with (λ all next. AreAllSubmitted old.config until old ready all next) (Alike new) (all_in old.stream before) (all_in ready.stream behind) led (λ all after here there submitted.
       made_on old ready new all after is (is_busy old before all sized config busy here) submitted.leads (made after.queues) some next))
   made_turn new (Err fault) led is sized config busy some made next stream = tt
 
-  failed_on : (fault : Fault) (all next : All) → IsReady old ready → IsBusy old all → Leads (ports_submitted old.config.limits.ports) old ready all next → ready.round < MOST → IsCycleFault fault (channels_served ready.config.geometry.channels (state_of ready.world)) → IsCutOff old.config (MOST - old.round) old fault all
+  failed_on : (fault : Fault) (all next : All) → IsReady old ready → IsBusy old all → Leads (all_submitted old.config) old ready all next → ready.round < MOST → IsCycleFault fault (channels_served ready.config.geometry.channels (state_of ready.world)) → IsCutOff old.config (MOST - old.round) old fault all
   failed_on fault all next is busy led some failed =
       let one : MOST - old.round ≡ suc (MOST - old.round - 1) = omega (arith, is.round, some) in
       turn_failed old.config (MOST - old.round) (MOST - old.round - 1) (whole_run old all.queues) (whole_run ready next.queues) fault one busy.some (sym led.run)
@@ -159,7 +160,7 @@ module _ (old ready : Replay) (until : ℕ) (before behind : Option (List ℕ)) 
       → Carries (λ all next. IsCutOff old.config (MOST - old.round) old fault all) (all_in old.stream before) (all_in new.stream behind)
   cut_at new fault led is sized config busy some stream failed =
       subst (λ (w : Waiting). Carries (λ all next. IsCutOff old.config (MOST - old.round) old fault all) (all_in old.stream before) (all_in w behind)) (sym stream)
-      (carries_with (λ all next. AreSubmitted old.config.limits.ports until old ready all next) (λ all next. IsCutOff old.config (MOST - old.round) old fault all) (all_in old.stream before) (all_in ready.stream behind) led (λ all next here there submitted.
+      (carries_with (λ all next. AreAllSubmitted old.config until old ready all next) (λ all next. IsCutOff old.config (MOST - old.round) old fault all) (all_in old.stream before) (all_in ready.stream behind) led (λ all next here there submitted.
       failed_on fault all next is (is_busy old before all sized config busy here) submitted.leads some failed))
 
   stopped_at : (new : Replay) (fault : Fault) → AreReady → IsReady old ready → IsSized old.stream → old.stream.config ≡ old.config → (unserved (run_of old) == 0) ≡ false → ready.round < MOST → new.stream ≡ ready.stream → IsCycleFault fault (channels_served ready.config.geometry.channels (state_of ready.world))

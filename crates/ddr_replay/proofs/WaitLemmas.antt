@@ -1,10 +1,11 @@
 -- Ports that wait go on waiting while others submit, and while the core is quiet.
-use Rattle.std.proofs.Common.{◌≡◌, ◌≢◌, ◌<◌, ◌≤◌, ◌⊎◌, ◌+◌, ℕ, zero, suc, true, false, cond, if◌then◌else◌, List, [], ◌∷◌, Option, None, Some, IfSome, inl, inr, refl, sym, ap, subst, ◌∙◌, arith}
+use Rattle.std.proofs.Common.{◌≡◌, ◌≢◌, ◌<◌, ◌≤◌, ◌⊎◌, ◌+◌, ◌-◌, ℕ, zero, suc, Bool, true, false, cond, if◌then◌else◌, List, [], ◌∷◌, Option, None, Some, IfSome, inl, inr, refl, sym, ap, ap₂, length, subst, ◌∙◌, arith}
 use Rattle.std.specs.List.{slice_get, slice_set}
-use Rattle.std.specs.Prelude.{nat_le}
+use Rattle.std.specs.Prelude.{◌==◌, nat_le}
 use Rattle.std.proofs.lemmas.Bool.{le-ltb, lt-ltb}
 use Rattle.std.proofs.lemmas.Bool.Decides.{nat_tests}
 use Rattle.std.proofs.lemmas.List.{get_or-set_other, set-get_or}
+use Rattle.ddr_timing.specs.declared.config.Config.{Config}
 use Rattle.ddr_world.specs.declared.event.Refusal.{Refusal}
 use Rattle.ddr_world.specs.Events.{Submit}
 use Rattle.ddr_world.specs.State.{State}
@@ -12,10 +13,12 @@ use Rattle.ddr_world.specs.Step.{step}
 use Rattle.ddr_stream.specs.declared.ask.Ask.{Ask}
 use Rattle.ddr_stream.specs.Asks.{asked_by}
 use Rattle.ddr_replay.specs.Ledgers.{Ledger, with_accepted, with_full, with_wait}
-use Rattle.ddr_replay.specs.Runs.{Run, Submitted, accepted_in, after_answer, port_submitted, ports_submitted, submitted, with_submitted}
+use Rattle.ddr_replay.specs.Runs.{Run, Submitted, accepted_in, after_answer, all_submitted, first_behind, first_port, port_submitted, ports_submitted, submitted, with_submitted}
 use Rattle.ddr_stream.specs.Stream.{Queues, queue_at}
 use Rattle.ddr_replay.specs.Waits.{AreWaiting, IsFull, IsWaiting, IsWaitingIn, all_full, come_of, filled, has_come}
+use Rattle.ddr_replay.proofs.RoundLemmas.{first_within}
 use Rattle.ddr_replay.proofs.SubmitLemmas.{others_kept, refused_full}
+use Rattle.ddr_replay.proofs.WaitedLemmas.{all_beside}
 
 -- for a shorter while, in the same round or a later one, and where the port is the same
 pub waits_on : (until less p round next : ℕ) (s t : State) (o : Option Ask) → less ≤ until → round ≤ next → slice_get t.ports p ≡ slice_get s.ports p → IfSome o (λ ask. (until ≤ ask.at) ⊎ ((ask.at ≤ round) × IsFull p ask s)) → IfSome o (λ ask. (less ≤ ask.at) ⊎ ((ask.at ≤ next) × IsFull p ask t))
@@ -61,17 +64,63 @@ nothing_submitted p until round (ask ∷ more) s ledger (inr is) ahead =
 abbrev pub noted : Run → Ledger → Run
 noted run ledger = record run { ledger = ledger }
 
+same_number : (n : ℕ) → (n == n) ≡ true
+same_number n = grind (arith, nat_tests)
+
 port_waits : (p until : ℕ) (run : Run) → IsWaitingIn p until run → run.round < until → port_submitted p run ≡ noted run (filled 1 (come_of run.round run.queues) p run.ledger)
 port_waits p until run is ahead =
     ap (with_submitted p run) (nothing_submitted p until run.round (queue_at run.queues p) run.state run.ledger (is ahead) ahead)
-    ∙ ap (λ (queues : Queues). record run { queues = queues; ledger = filled 1 (come_of run.round run.queues) p run.ledger }) (set-get_or run.queues p [])
+    ∙ ap₂ (λ (same : Bool) (queues : Queues). record run { asking = first_behind p same run.asking; queues = queues; ledger = filled 1 (come_of run.round run.queues) p run.ledger }) (same_number (length (queue_at run.queues p))) (set-get_or run.queues p [])
 
--- nor by all of them
-pub ports_wait : (n until : ℕ) (run : Run) → AreWaiting n until run → run.round < until → ports_submitted n run ≡ noted run (all_full 1 (come_of run.round run.queues) n run.ledger)
-ports_wait zero until run are ahead = refl
-ports_wait (suc p) until run are ahead =
-    let before = noted run (all_full 1 (come_of run.round run.queues) p run.ledger) in
-    ap (port_submitted p) (ports_wait p until run (λ q below. are q (omega (arith, below))) ahead) ∙ port_waits p until before (are p (omega arith)) ahead
+-- nor by some of them
+
+-- the waits of so many ports from this one on
+abbrev full_from : ℕ → (ℕ → Bool) → ℕ → ℕ → Ledger → Ledger
+full_from rounds come first zero ledger = ledger
+full_from rounds come first (suc n) ledger = filled rounds come (first + n) (full_from rounds come first n ledger)
+
+ports_wait : (first n until : ℕ) (run : Run) → ((p : ℕ) → first ≤ p → p < first + n → IsWaitingIn p until run) → run.round < until
+    → ports_submitted first n run ≡ noted run (full_from 1 (come_of run.round run.queues) first n run.ledger)
+ports_wait first zero until run are ahead = refl
+ports_wait first (suc n) until run are ahead =
+    let p = first + n in
+    let before = noted run (full_from 1 (come_of run.round run.queues) first n run.ledger) in
+    ap (port_submitted p) (ports_wait first n until run (λ q from below. are q from (omega (arith, below))) ahead)
+    ∙ port_waits p until before (are p (omega arith) (omega arith)) ahead
+
+-- those from port 0 on, and behind them those from another one on
+from_none : (come : ℕ → Bool) (n : ℕ) (ledger : Ledger) → full_from 1 come 0 n ledger ≡ all_full 1 come n ledger
+from_none come zero ledger = refl
+from_none come (suc n) ledger =
+    let same : 0 + n ≡ n = omega arith in
+    ap (λ p. filled 1 come p (full_from 1 come 0 n ledger)) same ∙ ap (filled 1 come n) (from_none come n ledger)
+
+full_on : (come : ℕ → Bool) (first n : ℕ) (ledger : Ledger) → full_from 1 come first n (all_full 1 come first ledger) ≡ all_full 1 come (first + n) ledger
+full_on come first zero ledger =
+    let same : first ≡ first + 0 = omega arith in
+    ap (λ k. all_full 1 come k ledger) same
+full_on come first (suc n) ledger =
+    let same : suc (first + n) ≡ first + suc n = omega arith in
+    ap (filled 1 come (first + n)) (full_on come first n ledger) ∙ ap (λ k. all_full 1 come k ledger) same
+
+full_beside : (come : ℕ → Bool) (first n : ℕ) (ledger : Ledger) → all_full 1 come first (full_from 1 come first n ledger) ≡ full_from 1 come first n (all_full 1 come first ledger)
+full_beside come first zero ledger = refl
+full_beside come first (suc n) ledger =
+    all_beside 1 (first + n) first come (full_from 1 come first n ledger) (omega arith) ∙ ap (filled 1 come (first + n)) (full_beside come first n ledger)
+
+-- nor by all of them, whichever submits first
+pub all_wait : (config : Config) (until : ℕ) (run : Run) → AreWaiting config.limits.ports until run → run.round < until
+    → all_submitted config run ≡ noted run (all_full 1 (come_of run.round run.queues) config.limits.ports run.ledger)
+all_wait config until run are ahead =
+    let ports = config.limits.ports in
+    let first = first_port run.asking ports in
+    let few = first_within run.asking ports in
+    let come = come_of run.round run.queues in
+    let later = noted run (full_from 1 come first (ports - first) run.ledger) in
+    let all : first + (ports - first) ≡ ports = omega (arith, few) in
+    ap (ports_submitted 0 first) (ports_wait first (ports - first) until run (λ p from below. are p (omega (arith, below, few))) ahead)
+    ∙ ports_wait 0 first until later (λ p from below. are p (omega (arith, below, few))) ahead
+    ∙ ap (noted run) (from_none come first later.ledger ∙ full_beside come first (ports - first) run.ledger ∙ full_on come first (ports - first) run.ledger ∙ ap (λ k. all_full 1 come k run.ledger) all)
 
 -- a round later, and still before the end, the same requests have come
 pub come_still : (p until round : ℕ) (queue : List Ask) (s : State) → IfSome (slice_get queue 0) (λ ask. (until ≤ ask.at) ⊎ ((ask.at ≤ round) × IsFull p ask s)) → round + 1 < until

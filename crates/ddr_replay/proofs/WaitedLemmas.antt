@@ -53,7 +53,7 @@ filled_again rounds p true ledger = ap (with_waited ledger) (port_again rounds p
 filled_again rounds p false ledger = refl
 
 -- of the first so many ports, and one behind them
-all_beside : (rounds p n : ℕ) (come : ℕ → Bool) (ledger : Ledger) → n ≤ p → all_full rounds come n (filled 1 come p ledger) ≡ filled 1 come p (all_full rounds come n ledger)
+pub all_beside : (rounds p n : ℕ) (come : ℕ → Bool) (ledger : Ledger) → n ≤ p → all_full rounds come n (filled 1 come p ledger) ≡ filled 1 come p (all_full rounds come n ledger)
 all_beside rounds p zero come ledger below = refl
 all_beside rounds p (suc n) come ledger below =
     ap (filled rounds come n) (all_beside rounds p n come ledger (omega (arith, below)))

@@ -1,5 +1,5 @@
 -- What becomes of all requests that are left of a stream, also of those that were not read.
-use Rattle.std.specs.Prelude.{◌≡◌, ℕ, Bool, true, false, List, slice_set, Option, Some, None, IfSome, Result, Ok, Err}
+use Rattle.std.specs.Prelude.{◌≡◌, ◌<◌, ◌≤◌, ◌+◌, ◌⊎◌, ℕ, Bool, true, false, List, slice_set, Option, Some, None, IfSome, Result, Ok, Err}
 use Rattle.ddr_timing.specs.declared.config.Config.{Config}
 use Rattle.ddr_text.specs.declared.fault.Fault.{Fault}
 use Rattle.ddr_text.specs.declared.fault.Fault.TheVariants as faults
@@ -8,9 +8,9 @@ use Rattle.ddr_stream.specs.declared.ask.Ask.{Ask}
 use Rattle.ddr_stream.specs.Stream.{queue_at}
 use Rattle.ddr_stream.specs.Waiting.{All, IsSaidFault}
 use Rattle.ddr_replay.specs.Ledgers.{Ledger}
-use Rattle.ddr_replay.specs.Runs.{Run, ports_submitted, replayed, submitted}
+use Rattle.ddr_replay.specs.Runs.{Run, all_submitted, ports_submitted, replayed, submitted}
 use Rattle.ddr_replay.specs.View.{IsRunFault, Replay, whole_run}
-use Rattle.ddr_replay.specs.Waits.{AreWaiting, IsWaiting}
+use Rattle.ddr_replay.specs.Waits.{AreWaiting, IsWaiting, IsWaitingIn}
 
 -- where all requests are known, so are those that are left of them, and they keep to this; a fault of the lines stays
 abbrev pub Carries : (All → All → Type 0) → Option (Result All Fault) → Option (Result All Fault) → Type 0
@@ -31,10 +31,16 @@ pub record IsSubmitted (port round until : ℕ) (before : State) (old : Ledger) 
   pub submitted : submitted port round (queue_at all.queues port) before old ≡ record { state = after; ledger = new; rest = rest }
   pub waits : IsWaiting port until round rest after
 
--- the first so many ports submitted, and wait until this cycle
-pub record AreSubmitted (ports until : ℕ) (old new : Replay) (all next : All) : Type 0 where
-  pub leads : Leads (ports_submitted ports) old new all next
-  pub waits : AreWaiting ports until (whole_run new next.queues)
+-- so many ports from this one on submitted, and wait until this cycle; the others wait on as they did
+pub record AreSubmitted (first count until : ℕ) (old new : Replay) (all next : All) : Type 0 where
+  pub leads : Leads (ports_submitted first count) old new all next
+  pub waits : (p : ℕ) → first ≤ p → p < first + count → IsWaitingIn p until (whole_run new next.queues)
+  pub others : (p less : ℕ) → (p < first) ⊎ (first + count ≤ p) → IsWaitingIn p less (whole_run old all.queues) → IsWaitingIn p less (whole_run new next.queues)
+
+-- all of them did
+pub record AreAllSubmitted (config : Config) (until : ℕ) (old new : Replay) (all next : All) : Type 0 where
+  pub leads : Leads (all_submitted config) old new all next
+  pub waits : AreWaiting config.limits.ports until (whole_run new next.queues)
 
 -- what they lead to in so many rounds is what the rest does in so many
 pub record LeadsAlike (config : Config) (left behind : ℕ) (old new : Replay) (all next : All) : Type 0 where

@@ -7,10 +7,12 @@ use Rattle.ddr_timing.specs.declared.config.Config.{Config}
 use Rattle.ddr_timing.specs.declared.units.TheConstants.{GROUP_BANKS}
 use Rattle.ddr_trace.specs.declared.command.Entry.{Entry}
 use Rattle.ddr_statistics.specs.declared.counts.Counts.{Counts}
+use Rattle.ddr_statistics.specs.Background.{active_clocks, idle_clocks, refresh_clocks}
 use Rattle.ddr_statistics.specs.Counts.{counts_of, is_of_one, is_of_rank}
 use Rattle.ddr_statistics.specs.Debts.{debt_most}
 use Rattle.ddr_statistics.specs.Text.{counts_text, is_unused, line}
 use Rattle.ddr_world.specs.State.{State}
+use Rattle.ddr_replay.specs.declared.places.RankNumbers.{RankNumbers}
 
 unfoldable pub rank_title : ℕ → ℕ → List ℕ
 rank_title channel rank = 10 ∷ (codes "[channel." ++ (decimal channel ++ (codes ".rank." ++ (decimal rank ++ (codes "]" ++ 10 ∷ [])))))
@@ -27,19 +29,34 @@ bank_head channel title = 10 ∷ (codes "[channel." ++ (decimal channel ++ (code
 unfoldable pub debt_line : ℕ → List ℕ
 debt_line most = line (codes "refresh_debt_most = ") most []
 
+-- in how many clocks it was active, was refreshed and was idle
+unfoldable pub clocks_lines : RankNumbers → List ℕ
+clocks_lines numbers =
+    line (codes "active_clocks = ") numbers.active_clocks
+    (line (codes "refresh_clocks = ") numbers.refresh_clocks
+    (line (codes "idle_clocks = ") numbers.idle_clocks []))
+
 -- the table of a rank of these numbers
-unfoldable pub rank_table : ℕ → ℕ → ℕ → Counts → List ℕ
-rank_table channel rank most counts = rank_title channel rank ++ debt_line most ++ counts_text counts
+unfoldable pub rank_table : ℕ → ℕ → RankNumbers → List ℕ
+rank_table channel rank numbers = rank_title channel rank ++ debt_line numbers.refresh_debt_most ++ clocks_lines numbers ++ counts_text numbers.counts
 
 -- the table of a bank of these numbers, if it had a command
 unfoldable pub bank_table : ℕ → ℕ → ℕ → ℕ → Counts → List ℕ
 bank_table channel rank group bank counts =
     if is_unused counts then [] else bank_head channel (bank_title rank group bank) ++ counts_text counts
 
--- of all commands of a rank, in a trace that begins in cycle 0 and ends before this one
+-- the numbers of a rank, in a trace that begins in cycle 0 and ends before this one
+abbrev pub rank_numbers : Config → ℕ → List Entry → ℕ → RankNumbers
+rank_numbers config end trace rank = record {
+  refresh_debt_most = debt_most config.timing.refi 0 end rank trace;
+  active_clocks = active_clocks config.timing config.geometry 0 end rank trace;
+  refresh_clocks = refresh_clocks config.timing config.geometry 0 end rank trace;
+  idle_clocks = idle_clocks config.timing config.geometry 0 end rank trace;
+  counts = counts_of (is_of_rank rank) trace;
+}
+
 abbrev pub rank_table_of : Config → ℕ → ℕ → List Entry → ℕ → List ℕ
-rank_table_of config channel end trace rank =
-    rank_table channel rank (debt_most config.timing.refi 0 end rank trace) (counts_of (is_of_rank rank) trace)
+rank_table_of config channel end trace rank = rank_table channel rank (rank_numbers config end trace rank)
 
 -- of the commands of one bank alone
 abbrev pub bank_table_of : ℕ → List Entry → ℕ → ℕ → ℕ → List ℕ

@@ -6,6 +6,7 @@ use Rattle.ddr_timing.specs.declared.config.Config.{Config}
 use Rattle.ddr_text.specs.declared.fault.Fault.{Fault}
 use Rattle.ddr_text.specs.declared.fault.Fault.TheVariants as faults
 use Rattle.ddr_replay.specs.Taken.{taken_of}
+use Rattle.ddr_replay.specs.declared.order.Order.{Order}
 use Rattle.ddr_replay.specs.declared.taken.Taking.{Taking}
 use Rattle.ddr_replay.specs.declared.wanted.Wanted.{Wanted}
 use Rattle.ddr_replay.specs.declared.wanted.Wanted.TheVariants as told
@@ -92,16 +93,16 @@ names_no_channel config (told.Drampower channel) = nat_le config.geometry.channe
 names_no_channel config _ = false
 
 -- what is told of the run that these requests come to, or why it ends before
-abbrev pub told_behind : Config → Wanted → Queues → Result (List ℕ) Fault
-told_behind config told queues =
-    replayed config MOST_ROUNDS (begun config (keeps_served told) queues) >>> λ run. told_of config told (map requests_in queues) run
+abbrev pub told_behind : Config → Order → Wanted → Queues → Result (List ℕ) Fault
+told_behind config order told queues =
+    replayed config MOST_ROUNDS (begun config (keeps_served told) order queues) >>> λ run. told_of config told (map requests_in queues) run
 
 -- What is told of a body: of the run that its requests come to. Or that the channel isn't there, the body's first line at fault,
 -- or why the run ends before.
 unfoldable pub report_of : Config → Taking → Wanted → List ℕ → Result (List ℕ) Fault
 report_of config taking told body =
     if names_no_channel config told then Err faults.TraceNoSuch
-    else taken_of config taking body >>> told_behind config told
+    else taken_of config taking body >>> told_behind config taking.order told
 
 -- what is answered, seen by the view, is what the body says, unless memory ran out
 abbrev pub IsSaid : {X : Type 0} → (X → List ℕ) → Result X Fault → Result (List ℕ) Fault → Type 0

@@ -1,5 +1,5 @@
 -- A replay: before each round each port submits what it may, then comes the round, in which it releases its replies.
-use Rattle.std.specs.Prelude.{ℕ, Bool, ◌+◌, ◌==◌, suc, zero, nat_lt, if◌then◌else◌, List, [], ◌∷◌, length, slice_set, sum_by, Option, Result, Ok, Err}
+use Rattle.std.specs.Prelude.{ℕ, Bool, ◌+◌, ◌-◌, ◌==◌, suc, zero, nat_lt, if◌then◌else◌, List, [], ◌∷◌, length, slice_set, sum_by, Option, Result, Ok, Err}
 use Rattle.std.specs.Option.{option_map, option_map_or}
 use Rattle.ddr_timing.specs.declared.config.Config.{Config}
 use Rattle.ddr_world.specs.Events.{Submit, Collect, Release}
@@ -12,6 +12,9 @@ use Rattle.ddr_world.specs.Served.{front_service}
 use Rattle.ddr_reorder.specs.declared.reply.Service.{Service}
 use Rattle.ddr_rounds.specs.Rounds.{after, channels_served, items_of, outstanding, until_refused}
 use Rattle.ddr_stream.specs.declared.ask.Ask.{Ask}
+use Rattle.ddr_replay.specs.declared.order.Asking.{Asking}
+use Rattle.ddr_replay.specs.declared.order.Order.{Order}
+use Rattle.ddr_replay.specs.declared.order.Order.TheVariants as orders
 use Rattle.ddr_replay.specs.declared.times.Accepted.{Accepted}
 use Rattle.ddr_stream.specs.Asks.{asked_by}
 use Rattle.ddr_rounds.specs.Drains.{is_draining}
@@ -19,9 +22,10 @@ use Rattle.ddr_replay.specs.Drains.{all_drained}
 use Rattle.ddr_replay.specs.Ledgers.{Ledger, no_ledger, noted, with_accepted, with_wait}
 use Rattle.ddr_stream.specs.Stream.{Queues, queue_at}
 
--- what a replay has come to: the core's state, what each port has still to submit, what is known of the times of requests, and
--- how many rounds were made
+-- what a replay has come to: in which order its ports submit next, the core's state, what each port has still to submit, what is known of the
+-- times of requests, and how many rounds were made
 pub record Run : Type 0 where
+  pub asking : Asking
   pub state : State
   pub queues : Queues
   pub ledger : Ledger
@@ -49,16 +53,35 @@ submitted p round (ask ∷ more) s ledger =
     if nat_lt round ask.at then record { state = s; ledger = ledger; rest = ask ∷ more }
     else after_answer (λ next. submitted p round more next (with_accepted p (accepted_in round ask) ledger)) (λ cause. record { state = s; ledger = with_wait p cause ledger; rest = ask ∷ more }) (step s (Submit p (asked_by ask)))
 
+-- once a request of a port was accepted, the port behind it is first, where they go in turn
+abbrev pub with_first : Order → ℕ → Asking → Asking
+with_first orders.Fixed p a = a
+with_first orders.InTurn p a = record a { first = p + 1 }
+
+-- so it is unless as many requests are left as were
+abbrev pub first_behind : ℕ → Bool → Asking → Asking
+first_behind p same a = if same then a else with_first a.order p a
+
 abbrev pub with_submitted : ℕ → Run → Submitted → Run
-with_submitted p run s = record run { state = s.state; queues = slice_set run.queues p s.rest; ledger = s.ledger }
+with_submitted p run s = record run { asking = first_behind p (length s.rest == length (queue_at run.queues p)) run.asking; state = s.state; queues = slice_set run.queues p s.rest; ledger = s.ledger }
 
 abbrev pub port_submitted : ℕ → Run → Run
 port_submitted p run = with_submitted p run (submitted p run.round (queue_at run.queues p) run.state run.ledger)
 
--- the first so many ports, in order
-abbrev pub ports_submitted : ℕ → Run → Run
-ports_submitted zero run = run
-ports_submitted (suc p) run = port_submitted p (ports_submitted p run)
+-- so many ports from this one on, in order
+abbrev pub ports_submitted : ℕ → ℕ → Run → Run
+ports_submitted first zero run = run
+ports_submitted first (suc n) run = port_submitted (first + n) (ports_submitted first n run)
+
+-- the port that submits first, of so many
+abbrev pub first_port : Asking → ℕ → ℕ
+first_port a ports = if nat_lt a.first ports then a.first else 0
+
+-- all of them: from the one that submits first on, and then those before it
+abbrev pub all_submitted : Config → Run → Run
+all_submitted config run =
+    let first = first_port run.asking config.limits.ports in
+    ports_submitted 0 first (ports_submitted first (config.limits.ports - first) run)
 
 -- the reply in front of a port, whose request was served so, is released
 abbrev pub released_by : ℕ → Run → Service → Run
@@ -93,7 +116,7 @@ round_made config run = option_map (round_closed config run) (channels_served co
 
 -- each port submits, then the round is made
 abbrev pub turn : Config → Run → Option Run
-turn config run = round_made config (ports_submitted config.limits.ports run)
+turn config run = round_made config (all_submitted config run)
 
 -- how many requests are to be submitted, or wait for their replies to be released
 abbrev pub unserved : Run → ℕ
@@ -105,5 +128,5 @@ replayed config zero run = if unserved run == 0 then Ok run else Err ReplayLimit
 replayed config (suc n) run = if unserved run == 0 then Ok run else option_map_or (replayed config n) (turn config run) (Err ClockSpent)
 
 -- before the first round; served requests are kept where that is asked for
-abbrev pub begun : Config → Bool → Queues → Run
-begun config keeps queues = record { state = opened config 0 0; queues = queues; ledger = no_ledger config.geometry.channels config.limits.ports keeps; round = 0 }
+abbrev pub begun : Config → Bool → Order → Queues → Run
+begun config keeps order queues = record { asking = record { order = order; first = 0 }; state = opened config 0 0; queues = queues; ledger = no_ledger config.geometry.channels config.limits.ports keeps; round = 0 }

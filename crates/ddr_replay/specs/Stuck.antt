@@ -27,4 +27,4 @@ pub record IsStuckIn (config : Config) (said : Result Run Fault) (cycle : ℕ) :
 pub record IsStuckBody (config : Config) (taking : Taking) (keeps : Bool) (body : List ℕ) (cycle : ℕ) : Type 0 where
   pub queues : Queues
   pub read : taken_of config taking body ≡ Ok queues
-  pub stuck : IsStuckIn config (replayed config MOST_ROUNDS (begun config keeps queues)) cycle
+  pub stuck : IsStuckIn config (replayed config MOST_ROUNDS (begun config keeps taking.order queues)) cycle

@@ -8,6 +8,7 @@ use Rattle.ddr_world.specs.State.{State}
 use Rattle.ddr_reorder.specs.declared.reply.Service.{Service}
 use Rattle.ddr_text.specs.declared.fault.Fault.{Fault}
 use Rattle.ddr_text.specs.declared.fault.Fault.TheVariants as faults
+use Rattle.ddr_replay.specs.declared.order.Asking.{Asking}
 use Rattle.ddr_replay.specs.declared.replaying.Replaying.TheInside.{Inside}
 use Rattle.ddr_replay.specs.Ledgers.{Ledger}
 use Rattle.ddr_rounds.specs.Rounds.{outstanding}
@@ -18,6 +19,7 @@ use Rattle.ddr_stream.specs.Waiting.{IsSized, Waiting}
 
 pub record Replay : Type 0 where
   pub config : Config
+  pub asking : Asking
   pub world : Kept
   pub stream : Waiting
   pub ledger : Ledger
@@ -25,11 +27,11 @@ pub record Replay : Type 0 where
   pub round : ℕ
 
 abbrev pub replay_of : Inside → Replay
-replay_of a = record { config = a.config; world = a.world; stream = a.stream; ledger = a.ledger; round = a.round }
+replay_of a = record { config = a.config; asking = a.asking; world = a.world; stream = a.stream; ledger = a.ledger; round = a.round }
 
 -- a run that a replay has come to, where these requests are left to be submitted
 abbrev pub whole_run : Replay → Queues → Run
-whole_run r queues = record { state = state_of r.world; queues = queues; ledger = r.ledger; round = r.round }
+whole_run r queues = record { asking = r.asking; state = state_of r.world; queues = queues; ledger = r.ledger; round = r.round }
 
 -- as far as its requests were read
 abbrev pub run_of : Replay → Run
@@ -47,6 +49,7 @@ pub record IsWhole (a : Inside) : Type 0 where
 -- all but the core is as it was
 pub record IsSame (old new : Replay) : Type 0 where
   pub config : new.config ≡ old.config
+  pub asking : new.asking ≡ old.asking
   pub stream : new.stream ≡ old.stream
   pub ledger : new.ledger ≡ old.ledger
   pub round : new.round ≡ old.round
@@ -55,6 +58,7 @@ pub record IsSame (old new : Replay) : Type 0 where
 -- all but the ledger is as it was
 pub record IsButLedger (old new : Replay) : Type 0 where
   pub config : new.config ≡ old.config
+  pub asking : new.asking ≡ old.asking
   pub world : new.world ≡ old.world
   pub stream : new.stream ≡ old.stream
   pub round : new.round ≡ old.round

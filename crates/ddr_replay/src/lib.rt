@@ -4,7 +4,7 @@
 //! (`front` of `ddr_capture`), the core (`ddr_world`) and the parts of its rounds (`ddr_rounds`), the statistics of a trace
 //! (`ddr_statistics`) and the numbers of requests (`ddr_measure`). Above stands `ddr_tool`, whose command line asks for `replay`.
 //!
-//! `taken` takes the stream's requests, `submitting` lets a port submit, `replaying` makes all the rounds, `ledger` keeps when requests were
+//! `taken` takes the stream's requests, `order` says which port submits first, `submitting` lets a port submit, `replaying` makes all the rounds, `ledger` keeps when requests were
 //! accepted, how long they took (`times`), for how long ports waited (`waited`) and, where that is asked for, each of them (`served`), with
 //! how it found its bank (`found`), and `measured` hands them to `ddr_measure`. `numbers` counts what they come to, `report` is the text of
 //! that and `places` that of ranks and banks, `times_report` that of how long requests took, `drampower` is the text of a channel's
@@ -17,6 +17,7 @@ mod found;
 mod ledger;
 mod measured;
 mod numbers;
+pub mod order;
 mod places;
 pub mod replay;
 mod replaying;

@@ -1,12 +1,12 @@
 //! The numbers of each rank and of each bank, as text.
 //!
 //! `ddr_counting` and `ddr_statistics` stand below, and `telling` above. `specs/Places.antt` has the text, byte for byte.
-ghost use Rattle.std.specs.Prelude.{◌≡◌, ◌≢◌, false, IfOk, string_bytes};
+ghost use Rattle.std.specs.Prelude.{◌≡◌, ◌≢◌, ◌<◌, false, IfOk, string_bytes};
 ghost use Rattle.ddr_timing.specs.declared.units.TheConstants.{CLOCK_STOP};
 ghost use Rattle.ddr_counting.specs.Noting.{AreNoted, IsNotedOf};
 ghost use Rattle.ddr_world.specs.Kept.{state_of};
 ghost use Rattle.ddr_replay.specs.Numbers.{is_any_spent, is_spent};
-ghost use Rattle.ddr_replay.specs.Places.{bank_head, bank_table, bank_title, banks_tables, channel_places, debt_line, places_at, places_tables, rank_table, rank_title, ranks_tables};
+ghost use Rattle.ddr_replay.specs.Places.{bank_head, bank_table, bank_title, banks_tables, channel_places, clocks_lines, debt_line, places_at, places_tables, rank_numbers, rank_table, rank_title, ranks_tables};
 
 use ddr_channel::channel::Channel;
 use ddr_counting::noting::{Noting, all_are_counted};
@@ -18,8 +18,22 @@ use ddr_timing::units::GROUP_BANKS;
 use ddr_world::world::World;
 use std::alloc::{AllocError, Global};
 
-/// A table `channel.C.rank.R` of each rank of each channel, with the key `refresh_debt_most` before those of its commands, and behind those of a channel a table `channel.C.bank.R.G.B` of each
-/// bank that had a command of its own.
+/// The numbers of a rank.
+#[derive(Clone, Copy)]
+pub struct RankNumbers {
+    /// The most refreshes that it owed in a cycle.
+    pub refresh_debt_most: u64,
+    /// In how many cycles a bank of it was active, in how many it was refreshed with none active, and in how many it was neither.
+    pub active_clocks: u64,
+    pub refresh_clocks: u64,
+    pub idle_clocks: u64,
+    /// Those of its commands.
+    pub counts: Counts,
+}
+
+/// A table `channel.C.rank.R` of each rank of each channel, with the keys `refresh_debt_most`, `active_clocks`, `refresh_clocks` and
+/// `idle_clocks` before those of its commands, and behind those of a channel a table `channel.C.bank.R.G.B` of each bank that had a
+/// command of its own.
 #[tactic(auto, unfolding(crate::specs::Places::places_tables))]
 pub fn places_tables(
     alloc: Global,
@@ -89,11 +103,29 @@ fn ranks_tables(
     all_are_counted(channel, statistics);
     let mut text = String::new(alloc);
     for rank in 0..statistics.geometry().ranks {
-        let most = statistics.refresh_debt_most(rank, channel.now());
-        let table = rank_table(alloc, number, rank, most, &statistics.rank(rank))?;
+        let numbers = rank_numbers(channel, statistics, rank);
+        let table = rank_table(alloc, number, rank, &numbers)?;
         text.push_str(table.as_str())?;
     }
     Ok(text)
+}
+
+/// The numbers of a channel's rank.
+fn rank_numbers(channel: &Channel, statistics: &Statistics, rank: u32) -> RankNumbers
+    requires running { channel.now.now ≢ CLOCK_STOP }
+    requires noted { IsNotedOf channel.now.config channel.now.trace statistics.now }
+    requires rank_in { rank < statistics.now.geometry.ranks }
+    ensures { result ≡ rank_numbers channel.now.config channel.now.now channel.now.trace rank }
+{
+    all_are_counted(channel, statistics);
+    let end = channel.now();
+    RankNumbers {
+        refresh_debt_most: statistics.refresh_debt_most(rank, end),
+        active_clocks: statistics.active_clocks(rank, end),
+        refresh_clocks: statistics.refresh_clocks(rank, end),
+        idle_clocks: statistics.idle_clocks(rank, end),
+        counts: statistics.rank(rank),
+    }
 }
 
 /// The table of a rank of these numbers, behind an empty line.
@@ -102,17 +134,31 @@ fn rank_table(
     alloc: Global,
     channel: u32,
     rank: u32,
-    most: u64,
-    counts: &Counts,
+    numbers: &RankNumbers,
 ) -> Result<String, AllocError>
-    ensures { IfOk result (λ text. string_bytes text ≡ rank_table channel rank most counts.now) }
+    ensures { IfOk result (λ text. string_bytes text ≡ rank_table channel rank numbers.now) }
 {
     let mut text = rank_title(alloc, channel, rank)?;
-    let debt = debt_line(alloc, most)?;
+    let debt = debt_line(alloc, numbers.refresh_debt_most)?;
     text.push_str(debt.as_str())?;
-    let lines = counts_text(alloc, counts)?;
+    let clocks = clocks_lines(alloc, numbers)?;
+    text.push_str(clocks.as_str())?;
+    let lines = counts_text(alloc, &numbers.counts)?;
     text.push_str(lines.as_str())?;
     Ok(text)
+}
+
+/// In how many clocks a rank was active, was refreshed and was idle.
+#[tactic(auto, unfolding(crate::specs::Places::clocks_lines))]
+fn clocks_lines(alloc: Global, numbers: &RankNumbers) -> Result<String, AllocError>
+    ensures { IfOk result (λ text. string_bytes text ≡ clocks_lines numbers.now) }
+{
+    let active_clocks = numbers.active_clocks;
+    let refresh_clocks = numbers.refresh_clocks;
+    let idle_clocks = numbers.idle_clocks;
+    format!(in alloc;
+        "active_clocks = {active_clocks}\nrefresh_clocks = {refresh_clocks}\nidle_clocks = {idle_clocks}\n"
+    )
 }
 
 /// The most refreshes that a rank owed in a cycle.

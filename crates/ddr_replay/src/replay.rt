@@ -26,10 +26,10 @@ use std::alloc::Global;
 ///
 /// With `sample` the whole input is the stream, on the sample configuration; else the input is a configuration of either
 /// version, a line `---` and the stream. `taking` says how its lines are read, each of which asks for the whole line of the memory that
-/// holds an address, and whether their cycles count from the first one's. Before each round every port, from port 0 on, submits its next
-/// requests in order while their cycle is at most the rounds made so far and they aren't refused; then comes the round of `sim`; until every
-/// request was submitted and its reply released. Then `told` says what is written: statistics as TOML, the requests as CSV, a channel's
-/// trace in one of two forms, numbers of the requests as TOML, or those of each interval as CSV.
+/// holds an address, whether their cycles count from the first one's, and in which order the ports submit. Before each round every port, in
+/// that order, submits its next requests in order while their cycle is at most the rounds made so far and they aren't refused; then comes
+/// the round of `sim`; until every request was submitted and its reply released. Then `told` says what is written: statistics as TOML, the
+/// requests as CSV, a channel's trace in one of two forms, numbers of the requests as TOML, or those of each interval as CSV.
 ///
 /// The input is read as the replay goes on: of the lines that were read the requests are kept that their ports have not submitted, so that
 /// memory follows how far one port lags behind another, and where cycles count from the first one's, or requests or traces are told, how many
@@ -108,7 +108,7 @@ fn report_of<R: Source, V: Watch>(
     }
     let stream = taken_of(alloc, config, taking, feed, reader)?;
     let (served, traces) = (keeps_served(told), keeps_traces(told));
-    let mut replaying = Replaying::open(alloc, config, served, traces, stream)?;
+    let mut replaying = Replaying::open(alloc, config, served, traces, taking.order, stream)?;
     replaying.run(reader, watch)?;
     told_of(alloc, config, told, replaying.requests(), &replaying)
 }

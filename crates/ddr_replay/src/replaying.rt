@@ -10,9 +10,9 @@ ghost use Rattle.ddr_world.specs.Quiet.{passed};
 ghost use Rattle.ddr_rounds.specs.Drains.{is_draining};
 ghost use Rattle.ddr_stream.specs.Stream.{Queues, queue_at};
 ghost use Rattle.ddr_stream.specs.Waiting.{All, IsAhead, IsSaidFault, IsSized, IsStreamFault, Knows, all_in};
-ghost use Rattle.ddr_replay.specs.Ahead.{AreSubmitted, Carries, IsEnded, IsOver, IsReplayFault, IsStopped, Leads, LeadsAlike, is_of_run};
+ghost use Rattle.ddr_replay.specs.Ahead.{AreAllSubmitted, AreSubmitted, Carries, IsEnded, IsOver, IsReplayFault, IsStopped, Leads, LeadsAlike, is_of_run};
 ghost use Rattle.ddr_replay.specs.Drains.{all_drained, drained};
-ghost use Rattle.ddr_replay.specs.Runs.{begun, port_served, port_submitted, ports_served, round_made, unserved};
+ghost use Rattle.ddr_replay.specs.Runs.{begun, first_port, port_served, port_submitted, ports_served, round_made, unserved};
 ghost use Rattle.ddr_replay.specs.Stuck.{CannotGoOn};
 ghost use Rattle.ddr_timing.specs.declared.config.Config.{Config};
 ghost use Rattle.ddr_text.specs.declared.fault.Fault.{Fault};
@@ -20,6 +20,7 @@ ghost use Rattle.ddr_replay.specs.View.{IsButLedger, IsCycleFault, IsFrontReleas
 ghost use Rattle.ddr_replay.specs.Waits.{AreQuiet, IsWaitingIn, all_full, come_of, filled};
 
 use crate::ledger::Ledger;
+use crate::order::{Asking, Order};
 use crate::submitting::submit_from;
 use crate::watch::Watch;
 use ddr_counting::noting::Noting;
@@ -51,6 +52,8 @@ const TOLD_EVERY: u32 = 4096;
 #[derive(Drop)]
 pub struct Replaying {
     config: Config,
+    /// In which order the ports submit next.
+    asking: Asking,
     world: World,
     /// What the channels' commands come to.
     noting: Noting,
@@ -81,19 +84,20 @@ impl Model for Replaying {
 }
 
 impl Replaying {
-    /// A replay before its first round. `keeps` says whether the requests that were served are kept, and `traces` whether the channels'
+    /// A replay before its first round, whose ports submit in this order. `keeps` says whether the requests that were served are kept, and `traces` whether the channels'
     /// traces are. Of the stream no request was taken, and of each port the next is known.
     pub fn open(
         alloc: Global,
         config: &Config,
         keeps: bool,
         traces: bool,
+        order: Order,
         stream: Stream,
     ) -> Result<Replaying, AllocError>
         requires config { stream.config ≡ config.now }
         requires sized { IsSized stream }
         requires new { stream.taken ≡ 0 }
-        ensures begun { IfOk result (λ replay. run_of replay ≡ begun config.now keeps stream.queues) }
+        ensures begun { IfOk result (λ replay. run_of replay ≡ begun config.now keeps order stream.queues) }
         ensures stream { IfOk result (λ replay. replay.stream ≡ stream) }
         ensures config { IfOk result (λ replay. replay.config ≡ config.now) }
         ensures traces { IfOk result (λ replay. replay.world.keeps ≡ traces) }
@@ -101,6 +105,7 @@ impl Replaying {
         let ledger = Ledger::open(alloc, config.geometry.channels, config.limits.ports, keeps)?;
         Ok(Replaying {
             config: *config,
+            asking: Asking { order, first: 0 },
             world: World::open_as(alloc, config, 0, 0, traces)?,
             noting: Noting::open(alloc, config)?,
             stream,
@@ -245,9 +250,10 @@ impl Replaying {
         self.make_round()
     }
 
-    /// Lets each port submit, in order. Tells the cycle until which all of them surely wait.
+    /// Lets each port submit: the one that submits first and those behind it, and then those before it. Tells the cycle until which all of
+    /// them surely wait.
     fn submit_all<R: Source>(&mut self, reader: &mut R) -> Result<u64, Fault>
-        ensures run { IfOk result (λ until. Carries (λ all next. AreSubmitted self.old.config.limits.ports until self.old self.new all next) (all_in self.old.stream (R.remaining reader.old)) (all_in self.new.stream (R.remaining reader.new))) }
+        ensures run { IfOk result (λ until. Carries (λ all next. AreAllSubmitted self.old.config until self.old self.new all next) (all_in self.old.stream (R.remaining reader.old)) (all_in self.new.stream (R.remaining reader.new))) }
         ensures ahead { OnOk result (IsAhead self.new.stream) }
         ensures sized { IsSized self.new.stream }
         ensures stream { self.new.stream.config ≡ self.new.config }
@@ -258,14 +264,51 @@ impl Replaying {
         ensures traces { self.new.world.keeps ≡ self.old.world.keeps }
         ensures round { self.new.round ≡ self.old.round }
     {
+        let first = self.first_port();
+        let ports = self.config.limits.ports;
+        let until = self.submit_from_to(reader, first, ports)?;
+        Ok(until.min(self.submit_from_to(reader, 0, first)?))
+    }
+
+    /// The port that submits first before the next round.
+    fn first_port(&self) -> u32
+        ensures first { result ≡ first_port self.now.asking self.now.config.limits.ports }
+        ensures within { result ≤ self.now.config.limits.ports }
+    {
+        self.asking.first_port(self.config.limits.ports)
+    }
+
+    /// Lets the ports from this one on submit, in order, before that one. Tells the cycle until which all of these surely wait.
+    fn submit_from_to<R: Source>(
+        &mut self,
+        reader: &mut R,
+        from: u32,
+        to: u32,
+    ) -> Result<u64, Fault>
+        requires ordered { from ≤ to }
+        requires within { to ≤ self.old.config.limits.ports }
+        ensures run { IfOk result (λ until. Carries (λ all next. AreSubmitted from (to - from) until self.old self.new all next) (all_in self.old.stream (R.remaining reader.old)) (all_in self.new.stream (R.remaining reader.new))) }
+        ensures knows { OnOk result ((q : ℕ) → from ≤ q → q < to → Knows self.new.stream q) }
+        ensures others { OnOk result ((q : ℕ) → (q < from) ⊎ (to ≤ q) → Knows self.old.stream q → Knows self.new.stream q) }
+        ensures sized { IsSized self.new.stream }
+        ensures stream { self.new.stream.config ≡ self.new.config }
+        ensures fault { IfErr result (λ fault. IsSaidFault fault (all_in self.old.stream (R.remaining reader.old))) }
+        ensures kind { IfErr result IsStreamFault }
+        ensures sure { IsErrOf result Fault.Read → IsTrue R.may_fail }
+        ensures config { self.new.config ≡ self.old.config }
+        ensures traces { self.new.world.keeps ≡ self.old.world.keeps }
+        ensures round { self.new.round ≡ self.old.round }
+    {
+        let _ = &self.config;
         let mut until = u64::MAX;
-        for port in 0..self.config.limits.ports {
+        for port in from..to {
             until = until.min(self.submit(reader, port)?);
         }
         Ok(until)
     }
 
-    /// Lets a port submit. Tells the cycle until which it surely waits.
+    /// Lets a port submit, behind which another one is first if one of its requests was accepted. Tells the cycle until which it surely
+    /// waits.
     fn submit<R: Source>(&mut self, reader: &mut R, port: u32) -> Result<u64, Fault>
         requires { port < self.old.config.limits.ports }
         ensures run { IfOk result (λ until. Carries (λ all next. Leads (port_submitted port) self.old self.new all next × IsWaitingIn port until (whole_run self.new next.queues)) (all_in self.old.stream (R.remaining reader.old)) (all_in self.new.stream (R.remaining reader.new))) }
@@ -291,6 +334,7 @@ impl Replaying {
         )?;
         if self.stream.taken() != taken {
             self.went_on = true;
+            self.asking.note(port);
         }
         Ok(until)
     }
@@ -321,6 +365,7 @@ impl Replaying {
         ensures ledger { self.new.ledger ≡ all_drained count (is_draining (state_of self.new.world)) self.old.config.geometry.channels (all_full (count - 1) (come_of self.old.round self.old.stream.queues) self.old.config.limits.ports self.old.ledger) }
         ensures config { self.new.config ≡ self.old.config }
         ensures traces { self.new.world.keeps ≡ self.old.world.keeps }
+        ensures asking { self.new.asking ≡ self.old.asking }
     {
         self.fill_all(u64::from(count.saturating_sub(1)));
         pass(&mut self.world, u64::from(count), &mut self.noting);

@@ -6,6 +6,7 @@ ghost use Rattle.ddr_capture.specs.Feed.{IsWell, left};
 ghost use Rattle.ddr_stream.specs.Waiting.{IsAhead, IsSized, IsStreamFault, all_in};
 ghost use Rattle.ddr_replay.specs.Taken.{IsTaken, IsTakenFault, first_from, first_of, shifted, shifted_ask};
 
+use crate::order::Order;
 use ddr_capture::feed::Feed;
 use ddr_stream::ask::Ask;
 use ddr_stream::queue::Queue;
@@ -23,6 +24,8 @@ pub struct Taking {
     pub reading: Reading,
     /// Whether its first cycle, the least of all requests, is taken as cycle 0.
     pub from_first: bool,
+    /// In which order the ports submit its requests.
+    pub order: Order,
 }
 
 /// The requests of a stream, whose lines begin in this feed, as far as of each port the next is known; where they count from the first one,

@@ -90,6 +90,10 @@ wrap_rule = flag_rule (codes "wrap")
 abbrev pub from_first_rule : Rule
 from_first_rule = flag_rule (codes "from-first")
 
+-- the flag `--fair`
+abbrev pub fair_rule : Rule
+fair_rule = flag_rule (codes "fair")
+
 -- the flag `--requests`
 abbrev pub requests_rule : Rule
 requests_rule = flag_rule (codes "requests")
@@ -158,9 +162,9 @@ with_capture app = with_rule (with_rule (with_rule (with_rule (with_rule app str
 abbrev pub check_app : App
 check_app = with_capture (with_faults (with_sample (codes "check")))
 
--- a subcommand with the options that say how a stream is read
+-- a subcommand with the options that say how a stream is taken
 abbrev pub with_reading : App → App
-with_reading app = with_rule (with_rule (with_rule (with_rule (with_rule app dramsim3_rule) ramulator2_rule) spread_rule) wrap_rule) from_first_rule
+with_reading app = with_rule (with_rule (with_rule (with_rule (with_rule (with_rule app dramsim3_rule) ramulator2_rule) spread_rule) wrap_rule) from_first_rule) fair_rule
 
 -- a subcommand with the options that say what is told of a replay
 abbrev pub with_telling : App → App
@@ -276,6 +280,7 @@ pub record AreTaken (options : List Row) : Type 0 where
   pub spread : IfSome (one_of (codes "spread") options) (IsTaken (filled spread_rule))
   pub wrap : IfSome (one_of (codes "wrap") options) (IsTaken (filled wrap_rule))
   pub from_first : IfSome (one_of (codes "from-first") options) (IsTaken (filled from_first_rule))
+  pub fair : IfSome (one_of (codes "fair") options) (IsTaken (filled fair_rule))
   pub requests : IfSome (one_of (codes "requests") options) (IsTaken (filled requests_rule))
   pub drampower : IfSome (one_of (codes "drampower") options) (IsTaken (filled drampower_rule))
   pub progress : IfSome (one_of (codes "progress") options) (IsTaken (filled progress_rule))
@@ -297,8 +302,8 @@ is_subcommand name = bytes_eq name (codes "sim") || bytes_eq name (codes "run") 
 -- the job of the subcommand `replay`
 abbrev pub replay_job : List Row → Bool → Job
 replay_job options sample =
-    if is_used (codes "numbers") options then Measure sample (reading_of options) (is_used (codes "from-first") options) (unwrap_or (number_in (codes "skip") options) 0) (number_in (codes "tck") options) (number_in (codes "every") options) (is_used (codes "progress") options)
-    else Replay sample (reading_of options) (is_used (codes "from-first") options) (told_of options) (is_used (codes "progress") options)
+    if is_used (codes "numbers") options then Measure sample (reading_of options) (is_used (codes "from-first") options) (is_used (codes "fair") options) (unwrap_or (number_in (codes "skip") options) 0) (number_in (codes "tck") options) (number_in (codes "every") options) (is_used (codes "progress") options)
+    else Replay sample (reading_of options) (is_used (codes "from-first") options) (is_used (codes "fair") options) (told_of options) (is_used (codes "progress") options)
 
 -- the job of `check` on a whole trace; who asks for the first faults asks for all, which tell more than an explanation
 abbrev pub faults_job : List Row → Bool → Job

@@ -23,6 +23,8 @@ pub enum Job {
         reading: Reading,
         /// Whether the first cycle of the stream is taken as cycle 0.
         from_first: bool,
+        /// Whether the ports submit first in turn, and not port 0 always.
+        fair: bool,
         told: Told,
         /// Whether a line on standard error tells how far it is, about each second.
         progress: bool,
@@ -33,6 +35,7 @@ pub enum Job {
         sample: bool,
         reading: Reading,
         from_first: bool,
+        fair: bool,
         skip: u32,
         clock: Option<u32>,
         every: Option<u32>,

@@ -54,7 +54,9 @@ Input: a configuration, a line `---` and a stream of requests; with --sample the
   0x, and AT a cycle. Such requests are for port 0, or with --spread for each port in turn.
   With --wrap an address is taken modulo the capacity, with --from-first the least AT of
   the stream as cycle 0.
-  Each port submits its requests in order, and waits where one is not taken.
+  Each port submits its requests in order, and waits where one is not taken. Before each
+  round port 0 submits first, then port 1 and so on; with --fair the first one is that behind
+  the last port that submitted, so that none is behind all others where queues are full.
 Output: statistics as TOML, once all requests are served: tables of all channels and of
   each, of each port, and of how long requests took, from all ports and from each.
   With --requests a line of comma-separated values for each request in their place, in the

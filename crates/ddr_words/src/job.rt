@@ -10,10 +10,10 @@ use crate::command::{Job, Picture};
 use crate::help;
 use crate::misuse::{Misuse, misuse_of};
 use crate::options::{
-    channel_of, clock_of, drampower_of, every_of, from_of, is_all, is_explained, is_from_first,
-    is_of_bound, is_of_dramsim3, is_of_numbers, is_of_ramulator2, is_of_requests, is_progress,
-    is_sample, is_spread, is_streamed, is_svg, is_wrapped, most_of, skip_of, start_of, to_of,
-    trace_of,
+    channel_of, clock_of, drampower_of, every_of, from_of, is_all, is_explained, is_fair,
+    is_from_first, is_of_bound, is_of_dramsim3, is_of_numbers, is_of_ramulator2, is_of_requests,
+    is_progress, is_sample, is_spread, is_streamed, is_svg, is_wrapped, most_of, skip_of, start_of,
+    to_of, trace_of,
 };
 use clap::{Arg, ArgAction, ArgMatches, Command, Error, value_parser};
 use ddr_text::command::{Format, Reading, Told};
@@ -32,7 +32,7 @@ pub enum JobError {
 ///
 /// The subcommands are `sim`, `run`, `replay`, `check`, `draw`, `map` and `lint`. Each has the flag `--sample`, `sim` the option `--trace C`
 /// with the number of a channel, a `u32`, and `check` the flags `--explain` and `--all` and the option `--most N` with a `u32`, which
-/// asks for all faults too. `replay` has the flags `--dramsim3`, `--ramulator2`, `--spread`, `--wrap`, `--from-first`, `--requests`, `--progress` and
+/// asks for all faults too. `replay` has the flags `--dramsim3`, `--ramulator2`, `--spread`, `--wrap`, `--from-first`, `--fair`, `--requests`, `--progress` and
 /// `--numbers`, and `--trace C`, `--drampower C`, `--skip N`, `--tck PICOSECONDS` and `--every CYCLES`, each with a `u32`. `check` has the flags `--stream`, `--dramsim3` and `--ramulator2` and the options `--start CYCLE` with a `u64` and
 /// `--channel C` with a `u32` too: each of them asks for captured commands. `draw` has the flag `--svg` and the options `--from CYCLE` and
 /// `--to CYCLE`, and `lint` the flag `--bound`. No words, or the name alone, are read as `sim --sample`.
@@ -115,6 +115,7 @@ fn replay_job(options: &ArgMatches<'_>, sample: bool) -> Job
             sample,
             reading: reading_of(options),
             from_first: is_from_first(options),
+            fair: is_fair(options),
             skip: skip_of(options).unwrap_or(0),
             clock: clock_of(options),
             every: every_of(options),
@@ -125,6 +126,7 @@ fn replay_job(options: &ArgMatches<'_>, sample: bool) -> Job
             sample,
             reading: reading_of(options),
             from_first: is_from_first(options),
+            fair: is_fair(options),
             told: told_of(options),
             progress: is_progress(options),
         }
@@ -292,7 +294,7 @@ fn with_replay<'a>(alloc: Global, command: Command<'a>) -> Result<Command<'a>, A
     command.subcommand(with_numbers(alloc, telling)?)
 }
 
-/// The command with the options that say how a stream is read.
+/// The command with the options that say how a stream is taken.
 fn with_reading<'a>(alloc: Global, command: Command<'a>) -> Result<Command<'a>, AllocError>
     requires local { (settings_of command).has_globals ≡ false }
     ensures app { IfOk result (λ all. app_of all ≡ with_reading (app_of command.entry)) }
@@ -307,7 +309,9 @@ fn with_reading<'a>(alloc: Global, command: Command<'a>) -> Result<Command<'a>, 
     let about = "Takes an address modulo the capacity";
     let with_wrap = with_spread.arg(flag(alloc, "wrap", about))?;
     let about = "Takes the first cycle of the stream as cycle 0";
-    with_wrap.arg(flag(alloc, "from-first", about))
+    let with_from_first = with_wrap.arg(flag(alloc, "from-first", about))?;
+    let about = "Lets the ports submit first in turn, and not port 0 always";
+    with_from_first.arg(flag(alloc, "fair", about))
 }
 
 /// The command with the options that say what is told of a replay.

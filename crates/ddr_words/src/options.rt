@@ -131,6 +131,14 @@ pub(crate) fn is_from_first(options: &ArgMatches<'_>) -> bool
     options.get_flag("from-first")
 }
 
+/// Whether the flag `--fair` was used.
+pub(crate) fn is_fair(options: &ArgMatches<'_>) -> bool
+    requires { AreTaken (rows_of (found_of options.now)) }
+    ensures { result ≡ is_used (codes "fair") (rows_of (found_of options.now)) }
+{
+    options.get_flag("fair")
+}
+
 /// Whether the flag `--requests` was used.
 pub(crate) fn is_of_requests(options: &ArgMatches<'_>) -> bool
     requires { AreTaken (rows_of (found_of options.now)) }

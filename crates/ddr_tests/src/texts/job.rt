@@ -132,6 +132,7 @@ const ERRORS: &[(&str, ErrorKind)] = &[
     ("ddr replay --channel 1", ErrorKind::UnknownArgument),
     ("ddr check --numbers", ErrorKind::UnknownArgument),
     ("ddr sim --from-first", ErrorKind::UnknownArgument),
+    ("ddr sim --fair", ErrorKind::UnknownArgument),
     ("ddr sim --skip 1", ErrorKind::UnknownArgument),
     ("ddr draw --tck 1", ErrorKind::UnknownArgument),
     ("ddr sim --drampower 0", ErrorKind::UnknownArgument),
@@ -253,6 +254,7 @@ fn replays(rt: HostRuntime) -> Result<(), Fail> {
             sample: true,
             reading: *reading,
             from_first: false,
+            fair: false,
             told: *told,
             progress: false,
         };
@@ -263,14 +265,25 @@ fn replays(rt: HostRuntime) -> Result<(), Fail> {
         sample: false,
         reading: OWN,
         from_first: true,
+        fair: false,
         told: Told::Requests,
         progress: false,
     };
     states(&rt, alloc, "ddr replay --requests --from-first", shifted)?;
+    let in_turn = Job::Replay {
+        sample: false,
+        reading: OWN,
+        from_first: false,
+        fair: true,
+        told: Told::Statistics,
+        progress: false,
+    };
+    states(&rt, alloc, "ddr replay --fair", in_turn)?;
     let plain = Job::Replay {
         sample: false,
         reading: OWN,
         from_first: false,
+        fair: false,
         told: Told::Statistics,
         progress: false,
     };
@@ -297,6 +310,7 @@ fn numbers(rt: HostRuntime) -> Result<(), Fail> {
             sample: true,
             reading: OWN,
             from_first: false,
+            fair: false,
             skip,
             clock,
             every,
@@ -313,13 +327,14 @@ fn numbers(rt: HostRuntime) -> Result<(), Fail> {
             wrap: true,
         },
         from_first: true,
+        fair: true,
         skip: 3,
         clock: Some(625),
         every: None,
         progress: true,
     };
     let line =
-        "ddr replay --tck 625 --dramsim3 --spread --progress --from-first --wrap --skip 3 --numbers";
+        "ddr replay --tck 625 --dramsim3 --fair --spread --progress --from-first --wrap --skip 3 --numbers";
     states(&rt, alloc, line, watched)
 }
 
@@ -329,6 +344,7 @@ fn progress(rt: HostRuntime) -> Result<(), Fail> {
         sample: false,
         reading: OWN,
         from_first: false,
+        fair: false,
         told: Told::Requests,
         progress: true,
     };

@@ -37,9 +37,9 @@ returns-in_err-run-clause-said g c =
     let p = err_from_is_err_and c.from_residual-in_err-run.result c.from_residual-in_err-run.ensures.1 in
     let some = sym c.names_no_channel.ensures ∙ c.if-names_no_channel.false in
     let same = sym c.in_ok-replaying.ensures.stream in
-    let has : HasBegun config (keeps_served told) began = record {
+    let has : HasBegun config (keeps_served told) c.args.taking.order began = record {
       config = c.in_ok-replaying.ensures.config;
-      run = c.in_ok-replaying.ensures.begun ∙ ap (λ k. begun config k c.in_ok-stream.stream.queues) c.keeps_served-served.ensures ∙ ap (λ (w : Waiting). begun config (keeps_served told) w.queues) same;
+      run = c.in_ok-replaying.ensures.begun ∙ ap (λ k. begun config k c.args.taking.order c.in_ok-stream.stream.queues) c.keeps_served-served.ensures ∙ ap (λ (w : Waiting). begun config (keeps_served told) c.args.taking.order w.queues) same;
     } in
     rw (p.1, p.2) (each_with front (subst (λ (w : Waiting). IfSome front (λ body. IsTaken config c.args.taking body (all_in w more))) same c.in_ok-stream.ensures.said) (λ body taken.
     run_ended {Y = Vec ℕ Global} (λ v. v.items) config c.args.taking told began (all_in began.stream more) body c.in_err-run.field-0.0 some has c.in_err-run.ensures.fault taken))
@@ -53,9 +53,9 @@ returns-clause-said g c =
     let more = g.R.Read.remaining c.taken_of.new.reader in
     let some = sym c.names_no_channel.ensures ∙ c.if-names_no_channel.false in
     let same = sym c.in_ok-replaying.ensures.stream in
-    let has : HasBegun config (keeps_served told) began = record {
+    let has : HasBegun config (keeps_served told) c.args.taking.order began = record {
       config = c.in_ok-replaying.ensures.config;
-      run = c.in_ok-replaying.ensures.begun ∙ ap (λ k. begun config k c.in_ok-stream.stream.queues) c.keeps_served-served.ensures ∙ ap (λ (w : Waiting). begun config (keeps_served told) w.queues) same;
+      run = c.in_ok-replaying.ensures.begun ∙ ap (λ k. begun config k c.args.taking.order c.in_ok-stream.stream.queues) c.keeps_served-served.ensures ∙ ap (λ (w : Waiting). begun config (keeps_served told) c.args.taking.order w.queues) same;
     } in
     each_with front (subst (λ (w : Waiting). IfSome front (λ body. IsTaken config c.args.taking body (all_in w more))) same c.in_ok-stream.ensures.said) (λ body taken.
     run_told {Y = Vec ℕ Global} (λ v. v.items) config c.args.taking told began (all_in began.stream more) body c.run.new.self c.requests.result.now c.told_of.result some has c.in_ok-run.ensures.ok c.requests.ensures c.told_of.ensures taken)

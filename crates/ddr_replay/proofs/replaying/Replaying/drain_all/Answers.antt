@@ -19,6 +19,7 @@ loop-channel-preserved c =
           ∙ ap (λ k. all_drained c.args.cycles (is_draining (state_of start.world)) k start.ledger) more;
       rest = record {
         config = drain.rest.config ∙ kept.rest.config;
+        asking = drain.rest.asking ∙ kept.rest.asking;
         world = drain.rest.world ∙ kept.rest.world;
         stream = drain.rest.stream ∙ kept.rest.stream;
         round = drain.rest.round ∙ kept.rest.round;

@@ -1,5 +1,5 @@
 -- What was taken and not released is outstanding, and no command was issued.
-use Rattle.std.proofs.Common.{◌<◌, arith, refl, sym, subst, ◌∙◌}
+use Rattle.std.proofs.Common.{◌<◌, arith, false, refl, sym, subst, true, ◌∙◌}
 use Rattle.ddr_counting.proofs.NotingLemmas.{noted_still}
 use Rattle.ddr_world.specs.Kept.{state_of}
 use Rattle.ddr_stream.specs.Waiting.{all_in}
@@ -47,23 +47,23 @@ invariant_of-self-else-taken g c =
 pub returns-then-taken-clause-run : goal.returns-then-taken-clause-run
 returns-then-taken-clause-run g c =
     let old = replay_of c.self.inside in
-    let new : Replay = record { config = old.config; world = c.submit_from.new.world; stream = c.submit_from.new.stream; ledger = c.submit_from.new.ledger; round = old.round } in
+    let new : Replay = record { config = old.config; asking = c.note.new.self; world = c.submit_from.new.world; stream = c.submit_from.new.stream; ledger = c.submit_from.new.ledger; round = old.round } in
     let p = c.args.port in
     let until = c.in_ok-until.until in
     let before = g.R.Read.remaining c.args.reader.now in
     let behind = all_in new.stream (g.R.Read.remaining c.submit_from.new.reader) in
     let within : p < old.config.limits.ports = subst (λ (r : Replay). p < r.config.limits.ports) (sym c.self.view_is) c.requires in
     subst (λ (r : Replay). Carries (λ all next. Leads (port_submitted p) r new all next × IsWaitingIn p until (whole_run new next.queues)) (all_in r.stream before) behind) c.self.view_is
-    (port_led old new p until before behind c.self.invariant.sized (port_within old.stream old.config p c.self.invariant.stream within) refl c.in_ok-until.ensures.submitted)
+    (port_led old new p until before behind c.self.invariant.sized (port_within old.stream old.config p c.self.invariant.stream within) refl false (λ same. c.if-taken.true (c.taken.ensures.value ∙ same ∙ sym c.taken-taken.ensures.value)) c.submit_from.ensures.count c.note.ensures c.in_ok-until.ensures.submitted)
 
 pub returns-else-taken-clause-run : goal.returns-else-taken-clause-run
 returns-else-taken-clause-run g c =
     let old = replay_of c.self.inside in
-    let new : Replay = record { config = old.config; world = c.submit_from.new.world; stream = c.submit_from.new.stream; ledger = c.submit_from.new.ledger; round = old.round } in
+    let new : Replay = record { config = old.config; asking = old.asking; world = c.submit_from.new.world; stream = c.submit_from.new.stream; ledger = c.submit_from.new.ledger; round = old.round } in
     let p = c.args.port in
     let until = c.in_ok-until.until in
     let before = g.R.Read.remaining c.args.reader.now in
     let behind = all_in new.stream (g.R.Read.remaining c.submit_from.new.reader) in
     let within : p < old.config.limits.ports = subst (λ (r : Replay). p < r.config.limits.ports) (sym c.self.view_is) c.requires in
     subst (λ (r : Replay). Carries (λ all next. Leads (port_submitted p) r new all next × IsWaitingIn p until (whole_run new next.queues)) (all_in r.stream before) behind) c.self.view_is
-    (port_led old new p until before behind c.self.invariant.sized (port_within old.stream old.config p c.self.invariant.stream within) refl c.in_ok-until.ensures.submitted)
+    (port_led old new p until before behind c.self.invariant.sized (port_within old.stream old.config p c.self.invariant.stream within) refl true (sym c.taken.ensures.value ∙ c.if-taken.false ∙ c.taken-taken.ensures.value) c.submit_from.ensures.count refl c.in_ok-until.ensures.submitted)

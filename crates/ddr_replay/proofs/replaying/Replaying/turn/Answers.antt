@@ -19,7 +19,7 @@ returns-then-quiet-gt0-clause-leads g c =
     let some = c.if-quiet-gt0.true in
     passed_turn c.args.self.now c.submit_all.new.self c.in_ok-until.until (g.R.Read.remaining c.args.reader.now) (g.R.Read.remaining c.submit_all.new.reader) c.pass.new.self c.quiet_rounds-quiet.result
     c.in_ok-until.ensures.run (record { config = submit.config; round = submit.round }) (subst (λ (r : Replay). IsSized r.stream) is c.self.invariant.sized) (subst (λ (r : Replay). r.stream.config ≡ r.config) is c.self.invariant.stream) c.requires
-    submit.sized submit.stream c.in_ok-until.ensures.ahead some (quiet.quiet some) (quiet.waits some) quiet.within c.pass.ensures.state c.pass.ensures.round c.pass.ensures.stream c.pass.ensures.ledger
+    submit.sized submit.stream c.in_ok-until.ensures.ahead some (quiet.quiet some) (quiet.waits some) quiet.within c.pass.ensures.asking c.pass.ensures.state c.pass.ensures.round c.pass.ensures.stream c.pass.ensures.ledger
 
 pub returns-clause-leads : goal.returns-clause-leads
 returns-clause-leads g c =
