@@ -80,7 +80,7 @@ step_counted c h side (Release p) (Ok m) there = by_front (front_of h.state p)
     by_front (Some a) = omega arith
 step_counted c h side (End p t) (Ok m) there = omega arith
 
-answer_counted : (c : ℕ) (h : History) (side : ChannelSide) (event : Event) (answer : Result Outcome Refusal) → slice_get h.state.channels c ≡ Some side
+pub answer_counted : (c : ℕ) (h : History) (side : ChannelSide) (event : Event) (answer : Result Outcome Refusal) → slice_get h.state.channels c ≡ Some side
     → length ((after_answer h event answer).accepted c) ≡ length (h.accepted c) + length (accepted_by_answer h.state c event answer)
 answer_counted c h side event (Ok o) there = step_counted c h side event (step h.state event) there
 answer_counted c h side event (Err cause) there = omega arith
@@ -228,7 +228,7 @@ by_admit o came calls r w bounded =
         subst (Waits o.config.limits.intake (latency o.config) came (admitted_of o calls ++ h.state.now ∷ [])) (sym same)
         (waits_leave o.config.limits.intake (latency o.config) came (admitted_of o calls) h.state.now w now)
 
-cycle_clock : (s : channel_state.State) → (after_cycle s).now ≡ s.now + 1
+pub cycle_clock : (s : channel_state.State) → (after_cycle s).now ≡ s.now + 1
 cycle_clock s = served_alike (λ t. t.now + 1) (λ t place r. refl) (choice_of (at_choice s)) (recorded (command_of (at_choice s).pending (choice_of (at_choice s))) (at_choice s))
 
 by_cycle : (o : Opening) (came : List ℕ) (calls : List Call) → ((x : ℕ) → slice_get came (length (admitted_of o calls)) ≡ Some x → IsNext (latency o.config) (admitted_of o calls) (length (admitted_of o calls)) (clock_of o calls + 1))
@@ -312,7 +312,7 @@ pub record IsWaiting (o : Opening) (c : ℕ) (h : History) (came : List ℕ) (ca
   pub bounded : IsBoundedBy o came calls
   pub waits : WaitsBy o came calls
 
-there_is : (o : Opening) (c : ℕ) (h : History) → CoreKeeps o h → c < o.config.geometry.channels → (side : ChannelSide) × (slice_get h.state.channels c ≡ Some side)
+pub there_is : (o : Opening) (c : ℕ) (h : History) → CoreKeeps o h → c < o.config.geometry.channels → (side : ChannelSide) × (slice_get h.state.channels c ≡ Some side)
 there_is o c h core inside = at_place h.state.channels c (omega (arith, inside, core.channels_are))
 
 waiting_then : (o : Opening) (c : ℕ) (h : History) (came : List ℕ) (calls : List Call) (a : Answered) → leaves_room o.config ≡ true → c < o.config.geometry.channels → CoreKeeps o h → CoreKeeps o (after h a)

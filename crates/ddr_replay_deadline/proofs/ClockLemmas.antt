@@ -8,7 +8,7 @@ use Rattle.ddr_channel.proofs.PlaceLemmas.{at_place, pushed}
 
 -- lists that grow at the end
 
-still_there : {X : Type 0} (xs ys : List X) (k : ℕ) (x : X) → slice_get xs k ≡ Some x → slice_get (xs ++ ys) k ≡ Some x
+pub still_there : {X : Type 0} (xs ys : List X) (k : ℕ) (x : X) → slice_get xs k ≡ Some x → slice_get (xs ++ ys) k ≡ Some x
 still_there [] ys k x is = let never : ⊥ = cc in absurd never
 still_there (z ∷ zs) ys zero x is = is
 still_there (z ∷ zs) ys (suc k) x is = still_there zs ys k x is
@@ -24,7 +24,7 @@ IsRising xs = (i j x y : ℕ) → i ≤ j → slice_get xs i ≡ Some x → slic
 abbrev pub IsUntil : List ℕ → ℕ → Type 0
 IsUntil xs now = (i x : ℕ) → slice_get xs i ≡ Some x → x ≤ now
 
-until_push : (xs : List ℕ) (now : ℕ) → IsUntil xs now → IsUntil (xs ++ now ∷ []) now
+pub until_push : (xs : List ℕ) (now : ℕ) → IsUntil xs now → IsUntil (xs ++ now ∷ []) now
 until_push xs now until i x at = elim (pushed xs now i x at) [
   | inl old ↦ until i x old.1
   | inr new ↦ omega (arith, new.1)

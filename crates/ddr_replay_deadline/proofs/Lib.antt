@@ -1,7 +1,16 @@
 mod AdmitLemmas
 mod ClockLemmas
 mod FitLemmas
+mod FollowLemmas
+mod GrowthLemmas
+mod LedgerLemmas
+mod NowLemmas
+mod OrderLemmas
 mod PartLemmas
 mod RefusedLemmas
 mod ReplayLemmas
+mod RowLemmas
+mod RowsLemmas
+mod ServiceLemmas
+mod TellLemmas
 mod TurnLemmas

@@ -1,7 +1,8 @@
 -- What a port submits and what it releases: the events lead from one state to another, and leave nothing done.
-use Rattle.std.proofs.Common.{◌≡◌, ℕ, zero, suc, Bool, true, false, cond, List, [], ◌∷◌, ◌++◌, Option, Some, None, Ok, Err, refl, sym, subst}
+use Rattle.std.proofs.Common.{◌≡◌, ◌+◌, ◌-◌, ℕ, zero, suc, Bool, true, false, cond, List, [], ◌∷◌, ◌++◌, Option, Some, None, Ok, Err, refl, sym, subst}
 use Rattle.std.specs.Prelude.{nat_lt}
 use Rattle.std.specs.Option.{option_map_or}
+use Rattle.ddr_timing.specs.declared.config.Config.{Config}
 use Rattle.ddr_reorder.specs.declared.reply.Service.{Service}
 use Rattle.ddr_rounds.specs.Rounds.{items_of, until_refused}
 use Rattle.ddr_rounds.specs.Rounds as rounds
@@ -18,8 +19,8 @@ use Rattle.ddr_stream.specs.declared.ask.Ask.{Ask}
 use Rattle.ddr_stream.specs.Asks.{asked_by}
 use Rattle.ddr_stream.specs.Stream.{queue_at}
 use Rattle.ddr_replay.specs.Ledgers.{Ledger, with_accepted, with_wait}
-use Rattle.ddr_replay.specs.Runs.{Run, Submitted, accepted_in, after_answer, port_served, ports_served, ports_submitted, released, released_by, submitted}
-use Rattle.ddr_replay_deadline.specs.InReplay.{events_of_port_served, events_of_ports_served, events_of_ports_submitted, events_released, events_submitted}
+use Rattle.ddr_replay.specs.Runs.{Run, Submitted, accepted_in, after_answer, all_submitted, first_port, port_served, ports_served, ports_submitted, released, released_by, submitted}
+use Rattle.ddr_replay_deadline.specs.InReplay.{events_of_all_submitted, events_of_port_served, events_of_ports_served, events_of_ports_submitted, events_released, events_submitted}
 
 -- one event
 
@@ -69,13 +70,22 @@ submitted_part p round (ask ∷ more) s ledger none =
     time_part s (nat_lt round ask.at) [] (made_then (events_submitted p round more) (Submit p (asked_by ask)) r) (record { state = s; ledger = ledger; rest = ask ∷ more }) (after_answer on wait r) (none_part s none)
     (answer_part p ask s (events_submitted p round more) on wait r none refl (λ next left. submitted_part p round more next noted left) (λ cause. refl))
 
-pub ports_submitted_part : (n : ℕ) (run : Run) → NoneDone run.state → IsPart run.state (events_of_ports_submitted n run) (ports_submitted n run).state
-ports_submitted_part zero run none = none_part run.state none
-ports_submitted_part (suc p) run none =
-    let before = ports_submitted p run in
-    let one = ports_submitted_part p run none in
-    part_then run.state before.state (ports_submitted (suc p) run).state (events_of_ports_submitted p run) (events_submitted p before.round (queue_at before.queues p) before.state) one
+ports_submitted_part : (first n : ℕ) (run : Run) → NoneDone run.state → IsPart run.state (events_of_ports_submitted first n run) (ports_submitted first n run).state
+ports_submitted_part first zero run none = none_part run.state none
+ports_submitted_part first (suc n) run none =
+    let p = first + n in
+    let before = ports_submitted first n run in
+    let one = ports_submitted_part first n run none in
+    part_then run.state before.state (ports_submitted first (suc n) run).state (events_of_ports_submitted first n run) (events_submitted p before.round (queue_at before.queues p) before.state) one
     (submitted_part p before.round (queue_at before.queues p) before.state before.ledger one.none)
+
+pub all_submitted_part : (config : Config) (run : Run) → NoneDone run.state → IsPart run.state (events_of_all_submitted config run) (all_submitted config run).state
+all_submitted_part config run none =
+    let first = first_port run.asking config.limits.ports in
+    let later = config.limits.ports - first in
+    let mid = ports_submitted first later run in
+    let one = ports_submitted_part first later run none in
+    part_then run.state mid.state (all_submitted config run).state (events_of_ports_submitted first later run) (events_of_ports_submitted 0 first mid) one (ports_submitted_part 0 first mid one.none)
 
 -- what is released
 

@@ -1,5 +1,5 @@
 -- Each cycle of a replay finds that its channel takes no more.
-use Rattle.std.proofs.Common.{◌≡◌, ◌≤◌, ℕ, zero, suc, Bool, true, false, cond, List, [], ◌∷◌, ◌++◌, Option, Some, None, Ok, Err, OnOk, refl, sym, ap, subst, arith}
+use Rattle.std.proofs.Common.{◌≡◌, ◌≤◌, ◌+◌, ◌-◌, ℕ, zero, suc, Bool, true, false, cond, List, [], ◌∷◌, ◌++◌, Option, Some, None, Ok, Err, OnOk, refl, sym, ap, subst, arith}
 use Rattle.std.specs.Prelude.{nat_lt}
 use Rattle.std.specs.List.{fold}
 use Rattle.std.specs.Option.{option_map, option_map_or, option_and_then}
@@ -19,9 +19,9 @@ use Rattle.ddr_core_deadline.proofs.RoundLemmas.{IsReached, Leads, channels_part
 use Rattle.ddr_stream.specs.declared.ask.Ask.{Ask}
 use Rattle.ddr_stream.specs.Asks.{asked_by}
 use Rattle.ddr_stream.specs.Stream.{queue_at}
-use Rattle.ddr_replay.specs.Runs.{Run, channels_counted, ports_served, ports_submitted, round_closed, round_made, turn}
-use Rattle.ddr_replay_deadline.specs.InReplay.{events_of_port_served, events_of_ports_served, events_of_ports_submitted, events_of_round_made, events_of_turn, events_of_turns, events_released, events_submitted, turns}
-use Rattle.ddr_replay_deadline.proofs.PartLemmas.{ports_submitted_part}
+use Rattle.ddr_replay.specs.Runs.{Run, all_submitted, channels_counted, first_port, ports_served, ports_submitted, round_closed, round_made, turn}
+use Rattle.ddr_replay_deadline.specs.InReplay.{events_of_all_submitted, events_of_port_served, events_of_ports_served, events_of_ports_submitted, events_of_round_made, events_of_turn, events_of_turns, events_released, events_submitted, turns}
+use Rattle.ddr_replay_deadline.proofs.PartLemmas.{all_submitted_part}
 use Rattle.ddr_replay_deadline.proofs.TurnLemmas.{turn_part}
 
 -- a cycle finds that its channel takes nothing more
@@ -89,11 +89,19 @@ submitted_none p round (ask ∷ more) s =
     time_none (nat_lt round ask.at) (made_then (events_submitted p round more) (Submit p (asked_by ask)) (step s (Submit p (asked_by ask))))
     (made_none (events_submitted p round more) (Submit p (asked_by ask)) (step s (Submit p (asked_by ask))) tt (λ next. submitted_none p round more next))
 
-ports_submitted_none : (n : ℕ) (run : Run) → AreNoCycles (events_of_ports_submitted n run)
-ports_submitted_none zero run = tt
-ports_submitted_none (suc p) run =
-    let before = ports_submitted p run in
-    none_then (events_of_ports_submitted p run) (events_submitted p before.round (queue_at before.queues p) before.state) (ports_submitted_none p run) (submitted_none p before.round (queue_at before.queues p) before.state)
+ports_submitted_none : (first n : ℕ) (run : Run) → AreNoCycles (events_of_ports_submitted first n run)
+ports_submitted_none first zero run = tt
+ports_submitted_none first (suc n) run =
+    let p = first + n in
+    let before = ports_submitted first n run in
+    none_then (events_of_ports_submitted first n run) (events_submitted p before.round (queue_at before.queues p) before.state) (ports_submitted_none first n run) (submitted_none p before.round (queue_at before.queues p) before.state)
+
+all_submitted_none : (config : Config) (run : Run) → AreNoCycles (events_of_all_submitted config run)
+all_submitted_none config run =
+    let first = first_port run.asking config.limits.ports in
+    let later = config.limits.ports - first in
+    let mid = ports_submitted first later run in
+    none_then (events_of_ports_submitted first later run) (events_of_ports_submitted 0 first mid) (ports_submitted_none first later run) (ports_submitted_none 0 first mid)
 
 released_none : (n p : ℕ) (s : State) → AreNoCycles (events_released n p s)
 released_none zero p s = tt
@@ -165,10 +173,10 @@ round_made_refuses o config run next reached none made = by_served (channels_ser
 
 turn_refuses : (o : Opening) (config : Config) (run next : Run) → IsReached o run.state → NoneDone run.state → turn config run ≡ Some next → Refuses run.state (events_of_turn config run)
 turn_refuses o config run next reached none made =
-    let before = ports_submitted config.limits.ports run in
-    let events = events_of_ports_submitted config.limits.ports run in
-    let one = ports_submitted_part config.limits.ports run none in
-    refuses_then run.state before.state events (events_of_round_made config before) one.leads (λ h is. none_refuse h events (ports_submitted_none config.limits.ports run))
+    let before = all_submitted config run in
+    let events = events_of_all_submitted config run in
+    let one = all_submitted_part config run none in
+    refuses_then run.state before.state events (events_of_round_made config before) one.leads (λ h is. none_refuse h events (all_submitted_none config run))
     (round_made_refuses o config before next (reached_then o run.state before.state events reached one.leads) one.none made)
 
 -- so many of them

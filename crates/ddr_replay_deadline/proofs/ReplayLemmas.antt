@@ -15,6 +15,7 @@ use Rattle.ddr_core_deadline.specs.InCore.{calls_of}
 use Rattle.ddr_core_deadline.proofs.NoneLemmas.{begun_none}
 use Rattle.ddr_core_deadline.proofs.RoundLemmas.{IsPart, begun_reached}
 use Rattle.ddr_stream.specs.Stream.{Queues}
+use Rattle.ddr_replay.specs.declared.order.Order.{Order}
 use Rattle.ddr_replay.specs.Runs.{Run, begun, replayed}
 use Rattle.ddr_replay_deadline.specs.InReplay.{events_of_turns, replay_opening, turns}
 use Rattle.ddr_replay_deadline.specs.Waits.{IsAdmittedIn, acceptances, admitted_in}
@@ -49,16 +50,16 @@ admits_in config events s part refuses leaves c side there =
       };
     }
 
-pub turns_admit : (config : Config) (keeps : Bool) (queues : Queues) (n : ℕ) (last : Run) → leaves_room config ≡ true → turns config n (begun config keeps queues) ≡ Some last → (c : ℕ) (side : ChannelSide)
-    → slice_get last.state.channels c ≡ Some side → IsAdmittedIn config (events_of_turns config n (begun config keeps queues)) last.state c side
-turns_admit config keeps queues n last leaves made =
+pub turns_admit : (config : Config) (keeps : Bool) (order : Order) (queues : Queues) (n : ℕ) (last : Run) → leaves_room config ≡ true → turns config n (begun config keeps order queues) ≡ Some last → (c : ℕ) (side : ChannelSide)
+    → slice_get last.state.channels c ≡ Some side → IsAdmittedIn config (events_of_turns config n (begun config keeps order queues)) last.state c side
+turns_admit config keeps order queues n last leaves made =
     let o = replay_opening config in
-    let run = begun config keeps queues in
+    let run = begun config keeps order queues in
     admits_in config (events_of_turns config n run) last.state (turns_part o config n run last (begun_reached o) (begun_none o) made) (turns_refuse o config n run last (begun_reached o) (begun_none o) made) leaves
 
-pub replay_admits : (config : Config) (keeps : Bool) (queues : Queues) (n : ℕ) (last : Run) → leaves_room config ≡ true → replayed config n (begun config keeps queues) ≡ Ok last
-    → (m : ℕ) × (m ≤ n) × (turns config m (begun config keeps queues) ≡ Some last)
-    × ((c : ℕ) (side : ChannelSide) → slice_get last.state.channels c ≡ Some side → IsAdmittedIn config (events_of_turns config m (begun config keeps queues)) last.state c side)
-replay_admits config keeps queues n last leaves made =
-    over_turns (λ m. (c : ℕ) (side : ChannelSide) → slice_get last.state.channels c ≡ Some side → IsAdmittedIn config (events_of_turns config m (begun config keeps queues)) last.state c side) config n (begun config keeps queues) last made
-    (λ m is. turns_admit config keeps queues m last leaves is)
+pub replay_admits : (config : Config) (keeps : Bool) (order : Order) (queues : Queues) (n : ℕ) (last : Run) → leaves_room config ≡ true → replayed config n (begun config keeps order queues) ≡ Ok last
+    → (m : ℕ) × (m ≤ n) × (turns config m (begun config keeps order queues) ≡ Some last)
+    × ((c : ℕ) (side : ChannelSide) → slice_get last.state.channels c ≡ Some side → IsAdmittedIn config (events_of_turns config m (begun config keeps order queues)) last.state c side)
+replay_admits config keeps order queues n last leaves made =
+    over_turns (λ m. (c : ℕ) (side : ChannelSide) → slice_get last.state.channels c ≡ Some side → IsAdmittedIn config (events_of_turns config m (begun config keeps order queues)) last.state c side) config n (begun config keeps order queues) last made
+    (λ m is. turns_admit config keeps order queues m last leaves is)

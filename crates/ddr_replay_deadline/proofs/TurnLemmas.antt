@@ -16,9 +16,10 @@ use Rattle.ddr_core_deadline.proofs.EventLemmas.{core_in_time}
 use Rattle.ddr_core_deadline.proofs.NoneLemmas.{begun_none}
 use Rattle.ddr_core_deadline.proofs.RoundLemmas.{IsPart, IsReached, begun_reached, channels_part, none_part, part_then, reached_then}
 use Rattle.ddr_stream.specs.Stream.{Queues}
-use Rattle.ddr_replay.specs.Runs.{Run, begun, channels_counted, ports_submitted, replayed, round_closed, round_made, turn, unserved}
-use Rattle.ddr_replay_deadline.specs.InReplay.{IsServedIn, events_of_ports_served, events_of_ports_submitted, events_of_round_made, events_of_turn, events_of_turns, replay_opening, turns}
-use Rattle.ddr_replay_deadline.proofs.PartLemmas.{ports_served_part, ports_submitted_part}
+use Rattle.ddr_replay.specs.declared.order.Order.{Order}
+use Rattle.ddr_replay.specs.Runs.{Run, all_submitted, begun, channels_counted, replayed, round_closed, round_made, turn, unserved}
+use Rattle.ddr_replay_deadline.specs.InReplay.{IsServedIn, events_of_all_submitted, events_of_ports_served, events_of_round_made, events_of_turn, events_of_turns, replay_opening, turns}
+use Rattle.ddr_replay_deadline.proofs.PartLemmas.{all_submitted_part, ports_served_part}
 
 -- a turn
 
@@ -37,9 +38,9 @@ round_made_part o config run next reached none made = by_served (channels_served
 
 pub turn_part : (o : Opening) (config : Config) (run next : Run) → IsReached o run.state → NoneDone run.state → turn config run ≡ Some next → IsPart run.state (events_of_turn config run) next.state
 turn_part o config run next reached none made =
-    let before = ports_submitted config.limits.ports run in
-    let events = events_of_ports_submitted config.limits.ports run in
-    let one = ports_submitted_part config.limits.ports run none in
+    let before = all_submitted config run in
+    let events = events_of_all_submitted config run in
+    let one = all_submitted_part config run none in
     part_then run.state before.state next.state events (events_of_round_made config before) one
     (round_made_part o config before next (reached_then o run.state before.state events reached one.leads) one.none made)
 
@@ -107,16 +108,16 @@ served_in config events s part leaves c side there =
       in_time = core_in_time o events led.takes leaves c side (ap (λ (t : State). slice_get t.channels c) led.state ∙ there);
     }
 
-pub turns_in_time : (config : Config) (keeps : Bool) (queues : Queues) (n : ℕ) (last : Run) → leaves_room config ≡ true → turns config n (begun config keeps queues) ≡ Some last → (c : ℕ) (side : ChannelSide)
-    → slice_get last.state.channels c ≡ Some side → IsServedIn config (events_of_turns config n (begun config keeps queues)) last.state c side
-turns_in_time config keeps queues n last leaves made =
+pub turns_in_time : (config : Config) (keeps : Bool) (order : Order) (queues : Queues) (n : ℕ) (last : Run) → leaves_room config ≡ true → turns config n (begun config keeps order queues) ≡ Some last → (c : ℕ) (side : ChannelSide)
+    → slice_get last.state.channels c ≡ Some side → IsServedIn config (events_of_turns config n (begun config keeps order queues)) last.state c side
+turns_in_time config keeps order queues n last leaves made =
     let o = replay_opening config in
-    let run = begun config keeps queues in
+    let run = begun config keeps order queues in
     served_in config (events_of_turns config n run) last.state (turns_part o config n run last (begun_reached o) (begun_none o) made) leaves
 
-pub replay_in_time : (config : Config) (keeps : Bool) (queues : Queues) (n : ℕ) (last : Run) → leaves_room config ≡ true → replayed config n (begun config keeps queues) ≡ Ok last
-    → (m : ℕ) × (m ≤ n) × (turns config m (begun config keeps queues) ≡ Some last)
-    × ((c : ℕ) (side : ChannelSide) → slice_get last.state.channels c ≡ Some side → IsServedIn config (events_of_turns config m (begun config keeps queues)) last.state c side)
-replay_in_time config keeps queues n last leaves made =
-    over_turns (λ m. (c : ℕ) (side : ChannelSide) → slice_get last.state.channels c ≡ Some side → IsServedIn config (events_of_turns config m (begun config keeps queues)) last.state c side) config n (begun config keeps queues) last made
-    (λ m is. turns_in_time config keeps queues m last leaves is)
+pub replay_in_time : (config : Config) (keeps : Bool) (order : Order) (queues : Queues) (n : ℕ) (last : Run) → leaves_room config ≡ true → replayed config n (begun config keeps order queues) ≡ Ok last
+    → (m : ℕ) × (m ≤ n) × (turns config m (begun config keeps order queues) ≡ Some last)
+    × ((c : ℕ) (side : ChannelSide) → slice_get last.state.channels c ≡ Some side → IsServedIn config (events_of_turns config m (begun config keeps order queues)) last.state c side)
+replay_in_time config keeps order queues n last leaves made =
+    over_turns (λ m. (c : ℕ) (side : ChannelSide) → slice_get last.state.channels c ≡ Some side → IsServedIn config (events_of_turns config m (begun config keeps order queues)) last.state c side) config n (begun config keeps order queues) last made
+    (λ m is. turns_in_time config keeps order queues m last leaves is)

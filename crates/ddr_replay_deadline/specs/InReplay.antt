@@ -1,5 +1,5 @@
 -- The events of a replay, and how long its requests take in their channels.
-use Rattle.std.specs.Prelude.{◌≡◌, ℕ, suc, zero, true, nat_lt, if◌then◌else◌, List, [], ◌∷◌, ◌++◌, Option, Some, option_and_then}
+use Rattle.std.specs.Prelude.{◌≡◌, ℕ, ◌+◌, ◌-◌, suc, zero, true, nat_lt, if◌then◌else◌, List, [], ◌∷◌, ◌++◌, Option, Some, option_and_then}
 use Rattle.std.specs.Option.{option_map_or}
 use Rattle.ddr_timing.specs.declared.config.Config.{Config}
 use Rattle.ddr_rounds.specs.Rounds.{channels_served, items_of, until_refused}
@@ -15,7 +15,7 @@ use Rattle.ddr_core_deadline.specs.InRounds.{events_of_channels, events_until_re
 use Rattle.ddr_stream.specs.declared.ask.Ask.{Ask}
 use Rattle.ddr_stream.specs.Asks.{asked_by}
 use Rattle.ddr_stream.specs.Stream.{queue_at}
-use Rattle.ddr_replay.specs.Runs.{Run, channels_counted, ports_served, ports_submitted, turn}
+use Rattle.ddr_replay.specs.Runs.{Run, all_submitted, channels_counted, first_port, ports_served, ports_submitted, turn}
 
 -- a replay begins at cycle 0, and numbers the requests of each port from 0; whether traces are kept changes no state
 abbrev pub replay_opening : Config → Opening
@@ -33,12 +33,19 @@ events_submitted p round (ask ∷ more) s =
     if nat_lt round ask.at then []
     else made_then (events_submitted p round more) (Submit p (asked_by ask)) (step s (Submit p (asked_by ask)))
 
--- of the first so many ports, in order (`ports_submitted`)
-abbrev pub events_of_ports_submitted : ℕ → Run → List Answered
-events_of_ports_submitted zero run = []
-events_of_ports_submitted (suc p) run =
-    let before = ports_submitted p run in
-    events_of_ports_submitted p run ++ events_submitted p before.round (queue_at before.queues p) before.state
+-- of so many ports from this one on, in order (`ports_submitted`)
+abbrev pub events_of_ports_submitted : ℕ → ℕ → Run → List Answered
+events_of_ports_submitted first zero run = []
+events_of_ports_submitted first (suc n) run =
+    let before = ports_submitted first n run in
+    events_of_ports_submitted first n run ++ events_submitted (first + n) before.round (queue_at before.queues (first + n)) before.state
+
+-- of all of them: from the one that submits first on, and then those before it (`all_submitted`)
+abbrev pub events_of_all_submitted : Config → Run → List Answered
+events_of_all_submitted config run =
+    let first = first_port run.asking config.limits.ports in
+    let later = config.limits.ports - first in
+    events_of_ports_submitted first later run ++ events_of_ports_submitted 0 first (ports_submitted first later run)
 
 -- each reply in front of a port is released, so many at most (`released`)
 abbrev pub events_released : ℕ → ℕ → State → List Answered
@@ -65,7 +72,7 @@ events_of_round_made config run =
 
 -- of a turn: what each port submits, then the round
 abbrev pub events_of_turn : Config → Run → List Answered
-events_of_turn config run = events_of_ports_submitted config.limits.ports run ++ events_of_round_made config (ports_submitted config.limits.ports run)
+events_of_turn config run = events_of_all_submitted config run ++ events_of_round_made config (all_submitted config run)
 
 -- of so many turns, one behind another
 abbrev pub events_of_turns : Config → ℕ → Run → List Answered

@@ -1,2 +1,3 @@
 pub mod InReplay
+pub mod Rows
 pub mod Waits

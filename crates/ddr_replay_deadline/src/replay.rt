@@ -4,6 +4,7 @@ ghost use Rattle.ddr_timing.specs.declared.config.Config.{Config};
 ghost use Rattle.ddr_latency.specs.Bound.{leaves_room};
 ghost use Rattle.ddr_stream.specs.Stream.{Queues};
 ghost use Rattle.ddr_world.specs.State.{ChannelSide};
+ghost use Rattle.ddr_replay.specs.declared.order.Order.{Order};
 ghost use Rattle.ddr_replay.specs.Runs.{Run, begun, replayed};
 ghost use Rattle.ddr_replay_deadline.specs.InReplay.{IsServedIn, events_of_turns, turns};
 
@@ -17,6 +18,6 @@ ghost use Rattle.ddr_replay_deadline.specs.InReplay.{IsServedIn, events_of_turns
 /// A law: it does nothing. It counts from the admission: the time that a request waits for its port to accept it, or in the queue that
 /// leads to its channel, is not counted, and neither is that in which its reply waits for those before it.
 pub fn replay_serves_in_time()
-    ensures turns { (config : Config) (keeps : Bool) (queues : Queues) (n : ℕ) (last : Run) → leaves_room config ≡ true → turns config n (begun config keeps queues) ≡ Some last → (c : ℕ) (side : ChannelSide) → slice_get last.state.channels c ≡ Some side → IsServedIn config (events_of_turns config n (begun config keeps queues)) last.state c side }
-    ensures replayed { (config : Config) (keeps : Bool) (queues : Queues) (n : ℕ) (last : Run) → leaves_room config ≡ true → replayed config n (begun config keeps queues) ≡ Ok last → (m : ℕ) × (m ≤ n) × (turns config m (begun config keeps queues) ≡ Some last) × ((c : ℕ) (side : ChannelSide) → slice_get last.state.channels c ≡ Some side → IsServedIn config (events_of_turns config m (begun config keeps queues)) last.state c side) }
+    ensures turns { (config : Config) (keeps : Bool) (order : Order) (queues : Queues) (n : ℕ) (last : Run) → leaves_room config ≡ true → turns config n (begun config keeps order queues) ≡ Some last → (c : ℕ) (side : ChannelSide) → slice_get last.state.channels c ≡ Some side → IsServedIn config (events_of_turns config n (begun config keeps order queues)) last.state c side }
+    ensures replayed { (config : Config) (keeps : Bool) (order : Order) (queues : Queues) (n : ℕ) (last : Run) → leaves_room config ≡ true → replayed config n (begun config keeps order queues) ≡ Ok last → (m : ℕ) × (m ≤ n) × (turns config m (begun config keeps order queues) ≡ Some last) × ((c : ℕ) (side : ChannelSide) → slice_get last.state.channels c ≡ Some side → IsServedIn config (events_of_turns config m (begun config keeps order queues)) last.state c side) }
 {}
