@@ -9,6 +9,7 @@ work_of_same s t e same ended = record {
   number = ended.number ∙ same.number;
   config = ended.config ∙ same.config;
   start = ended.start ∙ same.start;
+  keeps = ended.keeps ∙ same.keeps;
   requests = ended.requests ∙ same.requests;
   completions = ended.completions ∙ same.completions;
 }

@@ -392,9 +392,11 @@ fn entries() -> [Entry; 3] {
 }
 
 /// Whether each channel has this trace.
-fn has_traces(traces: &[Trace]) -> bool {
+fn has_traces(traces: &[Option<Trace>]) -> bool {
     match traces {
-        [first, second] => is_trace(first, &entries(), 24) && is_trace(second, &entries(), 24),
+        [Some(first), Some(second)] => {
+            is_trace(first, &entries(), 24) && is_trace(second, &entries(), 24)
+        }
         _ => false,
     }
 }

@@ -21,7 +21,7 @@ use ddr_workers::closing::{CloseError, SystemClosed, ends_of_one_open};
 use ddr_workers::gate::{Gate, Turn};
 use ddr_workers::port::{PollAnswer, Port, PortEnd};
 use ddr_workers::worker::{Stopped, Worker, WorkerEnd};
-use ddr_workers::{close, open};
+use ddr_workers::{OpenError, close, open, open_without_traces};
 use std::alloc::Global;
 use std::sync::Wait;
 use std::sync::atomic::{AtomicU64, Ordering};
@@ -147,11 +147,33 @@ impl Gate for Barred {
     }
 }
 
+/// Whether the channels of a system keep their traces.
+#[derive(Clone, Copy, Debug, PartialEq, Eq)]
+enum Traces {
+    Kept,
+    Dropped,
+}
+
+/// Opens the ports and the workers of a configuration, with the traces of the channels or without.
+fn open_parts(
+    alloc: Global,
+    config: &Config,
+    id: u64,
+    traces: Traces,
+) -> Result<(Vec<Port>, Vec<Worker>), OpenError>
+    ensures { IfOk result (λ both. IsOpened config.now id both.0.items both.1.items) }
+{
+    match traces {
+        Traces::Kept => open(alloc, config, id),
+        Traces::Dropped => open_without_traces(alloc, config, id),
+    }
+}
+
 /// Opens the ports and the workers of a configuration with two ports and two channels.
-fn open_two(alloc: Global, config: &Config, id: u64) -> Result<Parts, Fail>
+fn open_two(alloc: Global, config: &Config, id: u64, traces: Traces) -> Result<Parts, Fail>
     ensures { IfOk result (λ parts. IsOpened config.now id (parts.0 ∷ parts.1 ∷ []) (parts.2 ∷ parts.3 ∷ [])) }
 {
-    let (ports, workers) = open(alloc, config, id)?;
+    let (ports, workers) = open_parts(alloc, config, id, traces)?;
     match parts_of(ports, workers) {
         Ok(parts) => Ok(parts),
         Err(what) => Err(what.into()),
@@ -373,6 +395,7 @@ fn run_system<A: Host + Sync, B: Host + Sync, R: Threads + Wait + Sync>(
     alloc: Global,
     config: &Config,
     id: u64,
+    traces: Traces,
     host: &A,
     other_host: &B,
 ) -> Result<AllEnds, Fail>
@@ -381,7 +404,7 @@ fn run_system<A: Host + Sync, B: Host + Sync, R: Threads + Wait + Sync>(
     ensures work_id { IfOk result (λ ends. (ends.2.id ≡ id) × (ends.3.id ≡ id)) }
 {
     ends_of_one_open();
-    let (first, second, first_worker, second_worker) = open_two(alloc, config, id)?;
+    let (first, second, first_worker, second_worker) = open_two(alloc, config, id, traces)?;
     match both(host.begin(rt, first), other_host.begin(rt, second)) {
         Ok(ports) => run_parts(rt, host, other_host, ports, (first_worker, second_worker)),
         Err(what) => Err(what.into()),
@@ -419,7 +442,7 @@ fn run_and_close<A: Host + Sync, B: Host + Sync, R: Threads + Wait + Sync>(
     host: &A,
     other_host: &B,
 ) -> Result<SystemClosed, Fail> {
-    let ends = run_system(rt, alloc, config, 7, host, other_host)?;
+    let ends = run_system(rt, alloc, config, 7, Traces::Kept, host, other_host)?;
     close_in_order(rt, alloc, 7, ends)
 }
 

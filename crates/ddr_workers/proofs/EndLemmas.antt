@@ -1,10 +1,11 @@
 -- What a worker has done at its end, and at any time.
-use Rattle.std.proofs.Common.{◌≡◌, ℕ, ◌≤◌, List, [], ◌∷◌, ◌++◌, length, map, filter, Some, slice_get, refl, sym, ap, ap₂, ◌∙◌, subst}
+use Rattle.std.proofs.Common.{◌≡◌, ℕ, ◌≤◌, List, [], ◌∷◌, ◌++◌, length, map, filter, Option, Some, slice_get, refl, sym, ap, ap₂, ◌∙◌, subst}
 use Rattle.std.specs.List.{range_with_len}
 use Rattle.std.specs.List.Sorted.{IsPermutation}
 use Rattle.std.specs.Option.{option_to_list}
 use Rattle.std.proofs.lemmas.List.{append-nil}
 use Rattle.ddr_timing.specs.declared.config.Config.{Config}
+use Rattle.ddr_trace.specs.declared.checker.Fault.{Fault}
 use Rattle.ddr_trace.specs.declared.command.Entry.{Entry}
 use Rattle.ddr_trace.specs.Commands.{is_column}
 use Rattle.ddr_trace.specs.Legality.{IsLegal, IsRefreshed}
@@ -42,10 +43,10 @@ none_waiting accepted (n ∷ ns) e = cc
 all_nil : {X : Type 0} (xs : List X) → xs ++ [] ++ [] ≡ xs
 all_nil xs = append-nil (xs ++ []) ∙ append-nil xs
 
-pub work_done : (w : WorkerState) (config : Config) (trace : Recorded) → IsWhole w → HasNothing w → Promised → trace ≡ record { start = w.channel.start; end = w.channel.now; entries = w.channel.trace }
+pub work_done : (w : WorkerState) (config : Config) (trace : Recorded) (left : Option Recorded) (fault : Option Fault) → IsWhole w → HasNothing w → Promised → trace ≡ record { start = w.channel.start; end = w.channel.now; entries = w.channel.trace }
     → IsLegal w.channel.config trace.start trace.end trace.entries
-    → IsWorkDone w.channel.config (record { id = w.id; number = w.number; config = config; requests = w.requests; completions = w.completions; trace = trace })
-work_done w config trace whole nothing promised is legal =
+    → IsWorkDone w.channel.config (record { id = w.id; number = w.number; config = config; requests = w.requests; completions = w.completions; trace = trace; kept = left; fault = fault })
+work_done w config trace left fault whole nothing promised is legal =
     let h = history_of w.channel whole.calls in
     let kept = promised w.channel.config w.channel.start whole.calls whole.at_work.stands.calls_are in
     let state = whole.at_work.stands.state in

@@ -1,10 +1,11 @@
 -- What a new port begins with, and what a finished one leaves.
-use Rattle.std.proofs.Common.{◌≡◌, ℕ, zero, suc, ◌-◌, ◌≤◌, false, nat_lt, List, [], ◌∷◌, ◌++◌, All, length, map, Some, slice_get, refl, sym, ap, ◌∙◌, subst, arith}
+use Rattle.std.proofs.Common.{◌≡◌, ℕ, zero, suc, ◌-◌, ◌≤◌, false, nat_lt, List, [], ◌∷◌, ◌++◌, All, length, map, Option, Some, IfSome, slice_get, refl, sym, ap, ◌∙◌, subst, arith}
 use Rattle.std.specs.List.{sum_by, range_with_len}
 use Rattle.std.proofs.lemmas.Bool.Decides.{nat_tests}
 use Rattle.std.proofs.lemmas.List.Elements.{All-nil}
 use Rattle.std.proofs.lemmas.List.{append-nil}
 use Rattle.ddr_timing.specs.declared.config.Config.{Config}
+use Rattle.ddr_trace.specs.declared.checker.Fault.{Fault}
 use Rattle.ddr_trace.specs.Traces.{Recorded}
 use Rattle.ddr_address_map.specs.Requests.{Request, Completion}
 use Rattle.ddr_reorder.specs.Sound.{IsSound}
@@ -15,6 +16,7 @@ use Rattle.ddr_world.specs.declared.item.Item.{Item}
 use Rattle.ddr_workers.specs.declared.requests.Route.{Route}
 use Rattle.ddr_workers.specs.Counted.{IsCounted, numbers_put, numbers_filled}
 use Rattle.ddr_workers.specs.Ended.{IsEnded, IsWorkerEnded}
+use Rattle.ddr_workers.specs.Judged.{IsJudged}
 use Rattle.ddr_workers.specs.Open.{IsNewPut, new_port}
 use Rattle.ddr_workers.specs.Port.{PortState, first_with, after_ends}
 use Rattle.ddr_workers.specs.PortView.{IsSideTo, IsReady, IsAwaited, IsWhole}
@@ -93,13 +95,15 @@ ended_kept s t port whole counted working within nothing is number =
     }
 
 -- a worker at its end
-pub worker_ended : (w : WorkerState) (config : Config) (trace : Recorded) → worker.IsWhole w → config ≡ w.channel.config
-    → IsWorkDone w.channel.config (record { id = w.id; number = w.number; config = config; requests = w.requests; completions = w.completions; trace = trace })
-    → IsWorkerEnded (record { id = w.id; number = w.number; config = config; requests = w.requests; completions = w.completions; trace = trace })
-worker_ended w config trace whole own done = record {
-  work = subst (λ (c : Config). IsWorkDone c (record { id = w.id; number = w.number; config = config; requests = w.requests; completions = w.completions; trace = trace })) (sym own) done;
+pub worker_ended : (w : WorkerState) (config : Config) (trace : Recorded) (left : Option Recorded) (fault : Option Fault) → worker.IsWhole w → config ≡ w.channel.config → IfSome left (λ t. t ≡ trace) → IsJudged w.channel.config trace fault
+    → IsWorkDone w.channel.config (record { id = w.id; number = w.number; config = config; requests = w.requests; completions = w.completions; trace = trace; kept = left; fault = fault })
+    → IsWorkerEnded (record { id = w.id; number = w.number; config = config; requests = w.requests; completions = w.completions; trace = trace; kept = left; fault = fault })
+worker_ended w config trace left fault whole own kept judged done = record {
+  work = subst (λ (c : Config). IsWorkDone c (record { id = w.id; number = w.number; config = config; requests = w.requests; completions = w.completions; trace = trace; kept = left; fault = fault })) (sym own) done;
   route = subst (λ (c : Config). w.requests.who.queue.purpose ≡ record { geometry = c.geometry; channel = w.number }) (sym own) whole.route;
   count = whole.ports;
   sides = λ p side there. subst (λ (c : Config). worker.IsSideOf c.geometry w.number p side) (sym own) (whole.sides p side there);
+  kept = kept;
+  judged = subst (λ (c : Config). IsJudged c trace fault) (sym own) judged;
   taken = whole.taken;
 }

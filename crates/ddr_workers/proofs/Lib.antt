@@ -4,6 +4,7 @@ pub mod CompletionLemmas
 pub mod EndLemmas
 pub mod ItemLemmas
 pub mod JoinLemmas
+pub mod JudgedLemmas
 pub mod LaneLemmas
 pub mod LawLemmas
 pub mod OpenLemmas

@@ -72,10 +72,10 @@ if_given None P Q f p = tt
 if_given (Some d) P Q f p = f d p
 
 -- a completion was taken from the channel, and is held
-pub whole_held : (w : WorkerState) (k : Kept) (o : Option Completion) → IsWhole w → w.held ≡ None → o ≡ slice_get w.channel.done 0 → kept.state_of k ≡ after_pop (kept.state_of w.channel) → k.config ≡ w.channel.config → k.keeps ≡ w.channel.keeps
+pub whole_held : (w : WorkerState) (k : Kept) (o : Option Completion) → IsWhole w → w.held ≡ None → o ≡ slice_get w.channel.done 0 → kept.state_of k ≡ after_pop (kept.state_of w.channel) → k.config ≡ w.channel.config
     → ((calls : List Call) → StandsFor w.channel calls → IfSome o (IsNextAnswer (run w.channel.config w.channel.start calls)))
     → ((calls : List Call) → StandsFor w.channel calls → StandsFor k (calls ++ Pop ∷ [])) → IsWhole (record w { channel = k; held = o })
-whole_held w k o whole none first rest config keeps right stands =
+whole_held w k o whole none first rest config right stands =
     let calls = whole.calls in
     let h = history_of w.channel calls in
     let route = w.requests.who.queue.purpose in
@@ -111,7 +111,6 @@ whole_held w k o whole none first rest config keeps right stands =
       held = held;
       noted_ports = whole.noted_ports;
       noted = whole.noted;
-      keeps = keeps ∙ whole.keeps;
     }
 
 -- the completion that is held was pushed
@@ -144,7 +143,6 @@ whole_pushed w d xs whole held pushed =
       held = tt;
       noted_ports = whole.noted_ports ∙ sym count;
       noted = λ p below. whole.noted p (subst (λ n. p < n) count below);
-      keeps = whole.keeps;
     } in
     subst (λ ys. IsWhole (record w { completions = ys; held = None })) (sym pushed) whole'
 
@@ -191,7 +189,6 @@ whole_full w d back xs whole held same full =
       held = subst (λ n. IfSome w.held (IsGiven w.requests.who.queue.purpose n)) (sym count) whole.held;
       noted_ports = whole.noted_ports ∙ sym count;
       noted = λ p below. whole.noted p (subst (λ n. p < n) count below);
-      keeps = whole.keeps;
     } in
     subst (λ ys. IsWhole (record w { completions = ys; held = Some back })) (sym full)
     (subst (λ o. IsWhole (record w { completions = changed_at d.port after_full w.completions; held = o })) (held ∙ ap (λ x. Some x) (sym same)) whole')
@@ -241,9 +238,9 @@ admitted_at w k r calls at room made config stands =
     }
 
 pub whole_admitted : (w : WorkerState) (k : Kept) (r : records.Request) (t : TakeSide Route Item) → IsWhole w → t ≡ sides.after_pop w.requests (Request r) → IsNext w.requests (Request r)
-    → is_queue_full (kept.state_of w.channel) r.echo.kind ≡ false → kept.state_of k ≡ after_admit r (kept.state_of w.channel) → k.config ≡ w.channel.config → k.keeps ≡ w.channel.keeps
+    → is_queue_full (kept.state_of w.channel) r.echo.kind ≡ false → kept.state_of k ≡ after_admit r (kept.state_of w.channel) → k.config ≡ w.channel.config
     → ((calls : List Call) → StandsFor w.channel calls → StandsFor k (calls ++ Admit r ∷ [])) → IsWhole (record w { channel = k; requests = t })
-whole_admitted w k r t whole popped is_next room made config keeps stands =
+whole_admitted w k r t whole popped is_next room made config stands =
     let calls = whole.calls in
     let route = w.requests.who.queue.purpose in
     let ports = length w.completions in
@@ -258,7 +255,6 @@ whole_admitted w k r t whole popped is_next room made config keeps stands =
       held = whole.held;
       noted_ports = whole.noted_ports;
       noted = λ p below. whole.noted p below ∙ sym (ends_asked p w.requests.took r);
-      keeps = keeps ∙ whole.keeps;
     } in
     subst (λ (x : TakeSide Route Item). IsWhole (record w { channel = k; requests = x })) (sym popped) whole'
 
@@ -301,7 +297,6 @@ whole_noted w q t whole popped is_next =
       held = whole.held;
       noted_ports = length-set w.noted q true ∙ whole.noted_ports;
       noted = λ p below. noted_ended w.noted w.requests.took p q within (whole.noted p below);
-      keeps = whole.keeps;
     } in
     subst (λ (x : TakeSide Route Item). IsWhole (record w { requests = x; noted = set w.noted q true })) (sym popped) whole'
 
@@ -320,7 +315,7 @@ pub whole_taken : (w : WorkerState) (k : Kept) (x : Item) (t : TakeSide Route It
     → (is_queue_full (kept.state_of w.channel) Read ≡ false) × (is_queue_full (kept.state_of w.channel) Write ≡ false) → Takes x w.channel k w.noted noted → IsWhole (record w { channel = k; requests = t; noted = noted })
 whole_taken w k (Request r) t noted whole popped is_next free takes =
     subst (λ (xs : List Bool). IsWhole (record w { channel = k; requests = t; noted = xs })) (sym takes.1)
-    (whole_admitted w k r t whole popped is_next (free_kind (kept.state_of w.channel) r.echo.kind free) takes.0.state takes.0.config takes.0.keeps takes.0.stands)
+    (whole_admitted w k r t whole popped is_next (free_kind (kept.state_of w.channel) r.echo.kind free) takes.0.state takes.0.config takes.0.stands)
 whole_taken w k (End q) t noted whole popped is_next free takes =
     subst (λ (xs : List Bool). IsWhole (record w { channel = k; requests = t; noted = xs })) (sym takes.1)
     (subst (λ (c : Kept). IsWhole (record w { channel = c; requests = t; noted = set w.noted q true })) (sym takes.0) (whole_noted w q t whole popped is_next))
@@ -381,9 +376,9 @@ cycle_alike h f same = if_alike (eqb h.state.now CLOCK_STOP) h (record (with_own
 flight_due : (k : Kept) (calls : List Call) → StandsFor k calls → AreDue k.now k.flight
 flight_due k calls stands = subst (λ (s : State). AreDue s.now s.flight) (sym stands.state) (kept_run k.config k.start calls stands.calls_are).keeps.due
 
-pub whole_cycled : (w : WorkerState) (k : Kept) → IsWhole w → HasTried w → (IsIdle (kept.state_of w.channel) → ⊥) → k.config ≡ w.channel.config → k.keeps ≡ w.channel.keeps → kept.state_of k ≡ after_cycle (kept.state_of w.channel)
+pub whole_cycled : (w : WorkerState) (k : Kept) → IsWhole w → HasTried w → (IsIdle (kept.state_of w.channel) → ⊥) → k.config ≡ w.channel.config → kept.state_of k ≡ after_cycle (kept.state_of w.channel)
     → ((calls : List Call) → StandsFor w.channel calls → StandsFor k (calls ++ Cycle ∷ [])) → IsWhole (record w { channel = k })
-whole_cycled w k whole before holds config keeps made stands =
+whole_cycled w k whole before holds config made stands =
     let calls = before.calls in
     let at = before.at_work in
     let h = history_of w.channel calls in
@@ -411,12 +406,11 @@ whole_cycled w k whole before holds config keeps made stands =
       held = whole.held;
       noted_ports = whole.noted_ports;
       noted = whole.noted;
-      keeps = keeps ∙ whole.keeps;
     }
 
 -- it made none, and is in the state that it was in
-pub whole_uncycled : (w : WorkerState) (k : Kept) → IsWhole w → kept.state_of k ≡ kept.state_of w.channel → k.keeps ≡ w.channel.keeps → IsWhole (record w { channel = k })
-whole_uncycled w k whole same keeps =
+pub whole_uncycled : (w : WorkerState) (k : Kept) → IsWhole w → kept.state_of k ≡ kept.state_of w.channel → IsWhole (record w { channel = k })
+whole_uncycled w k whole same =
     let calls = whole.calls in
     let config : k.config ≡ w.channel.config = ap (λ (s : State). s.config) same in
     let start : k.start ≡ w.channel.start = ap (λ (s : State). s.start) same in
@@ -442,14 +436,13 @@ whole_uncycled w k whole same keeps =
       held = whole.held;
       noted_ports = whole.noted_ports;
       noted = whole.noted;
-      keeps = keeps ∙ whole.keeps;
     }
 
 -- it is the same worker
 
-pub same_channel : (w : WorkerState) (k : Kept) (o : Option Completion) (t : TakeSide Route Item) (noted : List Bool) → k.config ≡ w.channel.config → k.start ≡ w.channel.start → t.who ≡ w.requests.who
+pub same_channel : (w : WorkerState) (k : Kept) (o : Option Completion) (t : TakeSide Route Item) (noted : List Bool) → k.config ≡ w.channel.config → k.start ≡ w.channel.start → k.keeps ≡ w.channel.keeps → t.who ≡ w.requests.who
     → IsSameWorker w (record w { channel = k; held = o; requests = t; noted = noted })
-same_channel w k o t noted config start who = record { id = refl; number = refl; config = config; start = start; requests = who; completions = refl }
+same_channel w k o t noted config start keeps who = record { id = refl; number = refl; config = config; start = start; keeps = keeps; requests = who; completions = refl }
 
 pub same_sides : (w : WorkerState) (o : Option Completion) (place : ℕ) (change : Side → Side) (xs : List Side) → ((x : Side) → (change x).who ≡ x.who) → xs ≡ changed_at place change w.completions
     → IsSameWorker w (record w { completions = xs; held = o })
@@ -458,6 +451,7 @@ same_sides w o place change xs same is = record {
   number = refl;
   config = refl;
   start = refl;
+  keeps = refl;
   requests = refl;
   completions = ap (map (λ (side : Side). side.who)) is ∙ map-changed (λ (side : Side). side.who) change same place w.completions;
 }
@@ -513,9 +507,9 @@ length-replicate : {X : Type 0} (n : ℕ) (x : X) → length (replicate n x) ≡
 length-replicate zero x = refl
 length-replicate (suc n) x = ap suc (length-replicate n x)
 
-pub whole_opened : (w : WorkerState) (config : Config) → w.channel.config ≡ config → w.channel.keeps ≡ true → StandsFor w.channel [] → w.requests.who.queue.purpose ≡ record { geometry = config.geometry; channel = w.number } → w.requests.who.count ≡ length w.completions
+pub whole_opened : (w : WorkerState) (config : Config) → w.channel.config ≡ config → StandsFor w.channel [] → w.requests.who.queue.purpose ≡ record { geometry = config.geometry; channel = w.number } → w.requests.who.count ≡ length w.completions
     → w.requests.took ≡ [] → ((p : ℕ) (side : Side) → slice_get w.completions p ≡ Some side → IsNewDonePut config.geometry w.number p side) → w.held ≡ None → w.noted ≡ replicate (length w.completions) false → IsWhole w
-whole_opened w config same keeps stands route ports took new held noted = record {
+whole_opened w config same stands route ports took new held noted = record {
   calls = [];
   at_work = record {
     stands = stands;
@@ -538,5 +532,4 @@ whole_opened w config same keeps stands route ports took new held noted = record
   held = subst (λ o. IfSome o (IsGiven w.requests.who.queue.purpose (length w.completions))) (sym held) tt;
   noted_ports = ap length noted ∙ length-replicate (length w.completions) false;
   noted = λ p below. ap (λ bs. get_or bs p false) noted ∙ get_or-replicate (length w.completions) p ∙ sym (ap (λ xs. has_end (of_port p xs)) took);
-  keeps = keeps;
 }

@@ -1,12 +1,14 @@
 -- The closing of a system: which ends it takes, what each refusal means, and what it gives.
-use Rattle.std.specs.Prelude.{◌≡◌, ℕ, ◌==◌, Bool, true, false, not, ◌||◌, List, [], ◌∷◌, length, map, filter, flat_map, Some, IsPermutation, slice_get}
+use Rattle.std.specs.Prelude.{◌≡◌, ℕ, ◌==◌, Bool, true, false, not, ◌||◌, List, [], ◌∷◌, length, map, filter, flat_map, Option, Some, IfSome, IsPermutation, slice_get}
 use Rattle.std.specs.List.{list_any, list_all, range_with_len}
 use Rattle.ddr_address_map.specs.Requests as records
+use Rattle.ddr_trace.specs.declared.checker.Fault.{Fault}
 use Rattle.ddr_trace.specs.Traces.{Recorded}
 use Rattle.ddr_workers.specs.declared.closing.CloseError.{CloseError}
 use Rattle.ddr_workers.specs.declared.closing.CloseError.TheVariants.{Foreign, Missing, OutOfMemory}
 use Rattle.ddr_workers.specs.declared.closing.Ends.{Ends}
 use Rattle.ddr_workers.specs.Headline.{AreJoined, GotAll, accepted_by}
+use Rattle.ddr_workers.specs.Judged.{IsJudged}
 use Rattle.ddr_workers.specs.Port.{PortState, PortEnded, IsEndOfPort}
 use Rattle.ddr_workers.specs.Sides.{put_id}
 use Rattle.ddr_workers.specs.Worker.{WorkerState, WorkerEnded, IsEndOf, IsWorkDone, requests_of}
@@ -95,11 +97,13 @@ IsNotClosed id ports workers (OutOfMemory ends) = (is_foreign id ports workers �
 abbrev pub accepted_of : List WorkerEnded → ℕ → List records.Request
 accepted_of workers p = flat_map (λ w. filter (λ r. r.port == p) (requests_of w.requests.took)) workers
 
--- of each port how many of its requests were accepted and how many replies it gave up, and the trace of each channel
+-- of each port how many of its requests were accepted and how many replies it gave up, and of each channel the trace, where it was
+-- kept, and its first fault
 pub record Left : Type 0 where
   pub accepted : List ℕ
   pub taken : List ℕ
-  pub traces : List Recorded
+  pub traces : List (Option Recorded)
+  pub faults : List (Option Fault)
 
 -- What is given where every queue of ports and workers was joined, which stand in the order of their numbers
 pub record IsEmptied (ports : List PortEnded) (workers : List WorkerEnded) (left : Left) : Type 0 where
@@ -113,7 +117,11 @@ pub record IsEmptied (ports : List PortEnded) (workers : List WorkerEnded) (left
   pub accepted : left.accepted ≡ map (λ p. length (accepted_of workers p)) (range_with_len 0 (length ports))
   pub taken : left.taken ≡ map (λ e. e.taken) ports
   pub same : left.accepted ≡ left.taken
-  pub traces : left.traces ≡ map (λ w. w.trace) workers
+  -- of each channel its trace, where it was kept, and what its judge says of it
+  pub traces : left.traces ≡ map (λ w. w.kept) workers
+  pub kept : (c : ℕ) (w : WorkerEnded) → slice_get workers c ≡ Some w → IfSome w.kept (λ t. t ≡ w.trace)
+  pub faults : left.faults ≡ map (λ w. w.fault) workers
+  pub judged : (c : ℕ) (w : WorkerEnded) → slice_get workers c ≡ Some w → IsJudged w.config w.trace w.fault
 
 -- No end is refused, and every queue was joined
 pub record IsClosed (id : ℕ) (ports : List PortEnded) (workers : List WorkerEnded) (left : Left) : Type 0 where

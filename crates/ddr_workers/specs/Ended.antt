@@ -1,5 +1,5 @@
 -- What a finished port and a worker at its end leave keeps, for the closing of the system.
-use Rattle.std.specs.Prelude.{◌≡◌, ℕ, All, length, map, Some, slice_get}
+use Rattle.std.specs.Prelude.{◌≡◌, ℕ, All, length, map, IfSome, Some, slice_get}
 use Rattle.std.specs.List.{range_with_len}
 use Rattle.ddr_timing.specs.declared.geometry.Geometry.{Geometry}
 use Rattle.ddr_address_map.specs.Requests.{Completion}
@@ -7,6 +7,7 @@ use Rattle.ddr_workers.specs.declared.completions.Delivery.{Delivery}
 use Rattle.ddr_world.specs.declared.item.Item.{Item}
 use Rattle.ddr_workers.specs.declared.requests.Route.{Route}
 use Rattle.ddr_workers.specs.Counted.{AreAlike, AreWithinLines, numbers_put}
+use Rattle.ddr_workers.specs.Judged.{IsJudged}
 use Rattle.ddr_workers.specs.Port.{PortEnded}
 use Rattle.ddr_workers.specs.PortView.{IsSideTo}
 use Rattle.ddr_workers.specs.Sides.{PutSide}
@@ -30,5 +31,8 @@ pub record IsWorkerEnded (e : WorkerEnded) : Type 0 where
   pub count : e.requests.who.count ≡ length e.completions
   -- its sides lead to the ports in order
   pub sides : (p : ℕ) (side : PutSide Delivery Completion) → slice_get e.completions p ≡ Some side → IsSideOf e.config.geometry e.number p side
+  -- the trace that was kept is its channel's, and the fault what its judge says of that
+  pub kept : IfSome e.kept (λ t. t ≡ e.trace)
+  pub judged : IsJudged e.config e.trace e.fault
   -- what it took is of these ports and of its channel
   pub taken : All (IsTaken e.requests.who.queue.purpose (length e.completions)) (requests_of e.requests.took)

@@ -27,6 +27,7 @@ pub record IsRoomFor (ports workers : ℕ) (room : Room) : Type 0 where
   pub accepted : HasRoomFor ports room.accepted
   pub taken : HasRoomFor ports room.taken
   pub traces : HasRoomFor workers room.traces
+  pub faults : HasRoomFor workers room.faults
 
 -- Ports and workers in the order of their numbers, from one call of `open`
 pub record AreReady (ports : List PortEnded) (workers : List WorkerEnded) : Type 0 where

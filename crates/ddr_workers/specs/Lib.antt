@@ -11,6 +11,7 @@ pub mod Counted
 pub mod WorkerView
 pub mod Ended
 pub mod Headline
+pub mod Judged
 pub mod Closing
 pub mod Gathered
 pub mod Joined

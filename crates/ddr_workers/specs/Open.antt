@@ -1,5 +1,5 @@
 -- What `open` makes: ports and workers at the two ends of the same queues.
-use Rattle.std.specs.Prelude.{◌≡◌, ℕ, false, List, [], length, replicate, Some, None, slice_get}
+use Rattle.std.specs.Prelude.{◌≡◌, ℕ, Bool, false, List, [], All, length, replicate, Some, None, slice_get}
 use Rattle.ddr_timing.specs.declared.config.Config.{Config}
 use Rattle.ddr_timing.specs.declared.geometry.Geometry.{Geometry}
 use Rattle.ddr_address_map.specs.Requests.{Completion}
@@ -92,6 +92,10 @@ pub record IsOpenedAt (config : Config) (first id : ℕ) (ports : List PortState
   -- of each port's queue the port has the take side, and each worker the put side of its channel
   pub window : (p : ℕ) (port : PortState) → slice_get ports p ≡ Some port → IsNewQueue (record { geometry = config.geometry; port = p }) config.limits.window config.geometry.channels port.completions
   pub completions : (p c : ℕ) (port : PortState) (w : WorkerState) → slice_get ports p ≡ Some port → slice_get workers c ≡ Some w → slice_get w.completions p ≡ Some (new_put port.completions.who.queue c)
+
+-- whether their channels keep their traces
+abbrev pub KeepTraces : Bool → List WorkerState → Type 0
+KeepTraces keeps workers = All (λ w. w.channel.keeps ≡ keeps) workers
 
 -- the same, with clocks that begin at 0
 abbrev pub IsOpened : Config → ℕ → List PortState → List WorkerState → Type 0

@@ -1,8 +1,9 @@
 -- What contracts see of a worker, and what a worker did with the requests that it took.
 use Rattle.std.specs.Prelude.{◌≡◌, ℕ, ◌+◌, ◌<◌, ◌≤◌, ◌==◌, if◌then◌else◌, Bool, true, List, [], ◌∷◌, ◌++◌, All, length, filter, map, sum_by, Option, Some, None, IsPermutation, IsTrue, slice_get}
 use Rattle.std.specs.List.{range_with_len}
-use Rattle.std.specs.Option.{option_to_list}
+use Rattle.std.specs.Option.{is_some, option_to_list}
 use Rattle.ddr_timing.specs.declared.config.Config.{Config}
+use Rattle.ddr_trace.specs.declared.checker.Fault.{Fault}
 use Rattle.ddr_trace.specs.Commands.{is_column}
 use Rattle.ddr_trace.specs.Legality.{IsLegal, IsRefreshed}
 use Rattle.ddr_trace.specs.Traces.{Recorded}
@@ -119,6 +120,7 @@ pub record IsSameWorker (w w' : WorkerState) : Type 0 where
   pub number : w'.number ≡ w.number
   pub config : w'.channel.config ≡ w.channel.config
   pub start : w'.channel.start ≡ w.channel.start
+  pub keeps : w'.channel.keeps ≡ w.channel.keeps
   pub requests : w'.requests.who ≡ w.requests.who
   pub completions : map (λ side. side.who) w'.completions ≡ map (λ side. side.who) w.completions
 
@@ -130,7 +132,8 @@ pub record HasNothing (w : WorkerState) : Type 0 where
   pub flight : w.channel.flight ≡ []
   pub done : w.channel.done ≡ []
 
--- What a worker leaves at its end: the configuration and the commands of its channel, and the sides of its queues
+-- What a worker leaves at its end: the configuration and the commands of its channel, kept or not, what its judge says of them, and the
+-- sides of its queues
 pub record WorkerEnded : Type 0 where
   pub id : ℕ
   pub number : ℕ
@@ -138,6 +141,8 @@ pub record WorkerEnded : Type 0 where
   pub requests : TakeSide Route Item
   pub completions : List (PutSide Delivery Completion)
   pub trace : Recorded
+  pub kept : Option Recorded
+  pub fault : Option Fault
 
 -- It is the end of that worker.
 pub record IsEndOf (w : WorkerState) (e : WorkerEnded) : Type 0 where
@@ -145,6 +150,8 @@ pub record IsEndOf (w : WorkerState) (e : WorkerEnded) : Type 0 where
   pub number : e.number ≡ w.number
   pub config : e.config ≡ w.channel.config
   pub start : e.trace.start ≡ w.channel.start
+  -- the trace is handed out where the channel kept it
+  pub keeps : is_some e.kept ≡ w.channel.keeps
   pub requests : e.requests.who ≡ w.requests.who
   pub completions : map (λ side. side.who) e.completions ≡ map (λ side. side.who) w.completions
 

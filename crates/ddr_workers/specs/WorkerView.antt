@@ -1,5 +1,5 @@
 -- What the fields of a worker stand for, and what they keep.
-use Rattle.std.specs.Prelude.{◌≡◌, ℕ, ◌+◌, ◌<◌, ◌≤◌, true, false, List, All, length, IfSome, Some, slice_get, slice_index_or}
+use Rattle.std.specs.Prelude.{◌≡◌, ℕ, ◌+◌, ◌<◌, ◌≤◌, false, List, All, length, IfSome, Some, slice_get, slice_index_or}
 use Rattle.std.specs.Option.{option_to_list}
 use Rattle.ddr_timing.specs.declared.geometry.Geometry.{Geometry}
 use Rattle.ddr_address_map.specs.Requests as records
@@ -28,7 +28,7 @@ state_of a = record {
 }
 
 abbrev pub ended_of : end_inside.Inside → WorkerEnded
-ended_of a = record { id = a.id; number = a.number; config = a.config; requests = a.requests; completions = a.completions.items; trace = a.trace }
+ended_of a = record { id = a.id; number = a.number; config = a.config; requests = a.requests; completions = a.completions.items; trace = a.commands.trace; kept = a.commands.kept; fault = a.commands.fault }
 
 -- what the calls since `open` make of the channel
 abbrev pub history_of : Kept → List Call → History
@@ -84,5 +84,3 @@ pub record IsWhole (w : WorkerState) : Type 0 where
   pub held : IfSome w.held (IsGiven w.requests.who.queue.purpose (length w.completions))
   pub noted_ports : length w.noted ≡ length w.completions
   pub noted : (p : ℕ) → p < length w.completions → slice_index_or w.noted p false ≡ has_end (of_port p w.requests.took)
-  -- its channel keeps the trace that is handed out at the end
-  pub keeps : w.channel.keeps ≡ true

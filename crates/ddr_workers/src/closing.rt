@@ -21,6 +21,7 @@ use crate::port::PortEnd;
 use crate::requests::{RequestPut, RequestTake};
 use crate::worker::WorkerEnd;
 use crate::{completions, requests};
+use ddr_trace::checker::Fault;
 use ddr_trace::trace::Trace;
 use std::alloc::{AllocError, Global};
 use std::marker::Model;
@@ -51,8 +52,10 @@ pub struct SystemClosed {
     pub accepted: Vec<u64>,
     /// How many replies each port gave up.
     pub taken: Vec<u64>,
-    /// The commands of each channel.
-    pub traces: Vec<Trace>,
+    /// The commands of each channel. Each is there where the system was opened with traces, and none where it was opened without.
+    pub traces: Vec<Option<Trace>>,
+    /// The first fault of each channel's commands, as the judge beside the channel has it, also where they weren't kept.
+    pub faults: Vec<Option<Fault>>,
 }
 
 impl Model for SystemClosed {
@@ -60,7 +63,7 @@ impl Model for SystemClosed {
 
     ghost Value = { Left };
 
-    ghost view = { λ c. record { accepted = c.accepted.items; taken = c.taken.items; traces = c.traces.items } };
+    ghost view = { λ c. record { accepted = c.accepted.items; taken = c.taken.items; traces = c.traces.items; faults = c.faults.items } };
 }
 
 /// Room for all that closing takes apart.
@@ -70,7 +73,8 @@ struct Room {
     workers: Gathered<DonePut, RequestTake>,
     accepted: Vec<u64>,
     taken: Vec<u64>,
-    traces: Vec<Trace>,
+    traces: Vec<Option<Trace>>,
+    faults: Vec<Option<Fault>>,
 }
 
 impl Room {
@@ -84,6 +88,7 @@ impl Room {
             accepted: Vec::with_capacity(alloc, ports)?,
             taken: Vec::with_capacity(alloc, ports)?,
             traces: Vec::with_capacity(alloc, workers)?,
+            faults: Vec::with_capacity(alloc, workers)?,
         })
     }
 }
@@ -109,25 +114,33 @@ fn gather_ports(
     (sides, counts)
 }
 
-/// What workers leave: their sides, and the traces of their channels.
+/// What workers leave: their sides, and of their channels the traces that were kept, and the first faults.
 fn gather_workers(
     ends: Vec<WorkerEnd>,
     mut sides: Gathered<DonePut, RequestTake>,
-    mut traces: Vec<Trace>,
-) -> (Gathered<DonePut, RequestTake>, Vec<Trace>)
+    mut traces: Vec<Option<Trace>>,
+    mut faults: Vec<Option<Fault>>,
+) -> (
+    Gathered<DonePut, RequestTake>,
+    Vec<Option<Trace>>,
+    Vec<Option<Fault>>,
+)
     requires sides { sides.spare ≡ length ends.items }
     requires each { (k : ℕ) (w : WorkerEnded) → slice_get ends.items k ≡ Some w → length w.completions ≡ length sides.puts }
     requires traces { HasRoomFor (length ends.items) traces }
+    requires faults { HasRoomFor (length ends.items) faults }
     ensures sides { result.0 ≡ with_all (λ w. w.completions) (λ w. w.requests) sides ends.items }
-    ensures traces { result.1.items ≡ map (λ w. w.trace) ends.items }
+    ensures traces { result.1.items ≡ map (λ w. w.kept) ends.items }
+    ensures faults { result.2.items ≡ map (λ w. w.fault) ends.items }
     ensures ended { (k : ℕ) (w : WorkerEnded) → slice_get ends.items k ≡ Some w → IsWorkerEnded w }
 {
     for end in ends {
-        let (completions, requests, trace) = end.into_parts();
+        let (completions, requests, trace, fault) = end.into_parts();
         sides.add(completions, requests);
         traces.push_reserved(trace);
+        faults.push_reserved(fault);
     }
-    (sides, traces)
+    (sides, traces, faults)
 }
 
 /// These counts, in the room that was made for them.
@@ -181,9 +194,10 @@ fn join_all<R: Wait>(
         accepted,
         taken,
         traces,
+        faults,
     } = room;
     let (port_sides, taken) = gather_ports(ports, port_sides, taken);
-    let (worker_sides, traces) = gather_workers(workers, worker_sides, traces);
+    let (worker_sides, traces, faults) = gather_workers(workers, worker_sides, traces, faults);
     let (request_puts, completion_takes) = port_sides.into_sides();
     let (completion_puts, request_takes) = worker_sides.into_sides();
     join_requests(rt, request_puts, request_takes);
@@ -192,6 +206,7 @@ fn join_all<R: Wait>(
         accepted: copied(&taken, accepted),
         taken,
         traces,
+        faults,
     }
 }
 

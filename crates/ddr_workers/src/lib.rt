@@ -10,7 +10,10 @@
 //! `gathered` sorts their sides by queue. What every port has got is then told by `headline`, a law over the lists that
 //! the sides carried.
 //!
-//! Below stand one port (`ddr_ports`), one channel (`ddr_channel`), the right replies to a list of requests as the core
+//! A worker drives its channel beside a judge (`judged`), which is told each command as it is issued: so it is known by a look at the
+//! trace that it is legal, whether or not the trace is kept.
+//!
+//! Below stand one port (`ddr_ports`), one channel (`ddr_channel`), the judge (`ddr_judge`), the right replies to a list of requests as the core
 //! defines them and the items of a request queue (`ddr_world`), the requests (`ddr_address_map`) and the configuration (`ddr_timing`). Above stands the
 //! program's `run`. No call starts a thread: ports and workers are moved into threads of the caller.
 #![tactic(auto)]
@@ -22,6 +25,7 @@ mod error;
 pub mod gate;
 mod gathered;
 mod headline;
+mod judged;
 mod lane;
 mod law;
 pub mod port;
@@ -34,4 +38,4 @@ pub mod worker;
 
 pub use closing::close;
 pub use error::OpenError;
-pub use system::{open, open_at};
+pub use system::{open, open_at, open_without_traces};

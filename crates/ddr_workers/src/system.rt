@@ -1,8 +1,8 @@
 //! Opens the queues of a configuration, and the ports and workers at their ends.
-ghost use Rattle.std.specs.Prelude.{◌≡◌, ◌≤◌, length, [], All, IfOk};
+ghost use Rattle.std.specs.Prelude.{◌≡◌, ◌≤◌, length, [], true, false, All, IfOk};
 ghost use Rattle.ddr_timing.specs.declared.units.TheConstants.{CLOCK_STOP};
 ghost use Rattle.ddr_workers.specs.Lanes.{AreLanes, AreEach, AreFrom, lists};
-ghost use Rattle.ddr_workers.specs.Open.{IsOpened, IsOpenedAt, IsNewWorker, IsPortRow, IsPortOf, IsWorkerRow, IsWorkerTake};
+ghost use Rattle.ddr_workers.specs.Open.{IsOpened, IsOpenedAt, IsNewWorker, KeepTraces, IsPortRow, IsPortOf, IsWorkerRow, IsWorkerTake};
 
 use crate::completions::{DonePut, DoneTake};
 use crate::error::OpenError;
@@ -81,11 +81,13 @@ fn open_ports(
     Ok(ports)
 }
 
-/// The workers, each over its row of put sides and its take side. Their channels' clocks begin with this cycle.
+/// The workers, each over its row of put sides and its take side. Their channels' clocks begin with this cycle, and `traces` says whether
+/// their traces are kept.
 fn open_workers(
     alloc: Global,
     config: &Config,
     first: u64,
+    traces: bool,
     id: u64,
     mut rows: Vec<Vec<DonePut>>,
     mut takes: Vec<RequestTake>,
@@ -95,13 +97,15 @@ fn open_workers(
     requires first { first ≤ CLOCK_STOP }
     requires row { AreFrom (IsWorkerRow config.now.geometry config.now.limits.ports) 0 (lists rows.items) }
     requires take { AreFrom (IsWorkerTake config.now.geometry config.now.limits.ports) 0 takes.items }
-    ensures { IfOk result (λ workers. AreEach (IsNewWorker config.now first id) 0 (lists rows.items) takes.items workers.items) }
+    ensures new { IfOk result (λ workers. AreEach (IsNewWorker config.now first id) 0 (lists rows.items) takes.items workers.items) }
+    ensures traces { IfOk result (λ workers. KeepTraces traces workers.items) }
 {
     let mut workers = Vec::new(alloc);
     for number in 0..config.geometry.channels {
         let row = rows.remove(0);
         let take = takes.remove(0);
-        workers.push(Worker::open(alloc, config, first, id, number, take, row)?)?;
+        let worker = Worker::open(alloc, config, first, traces, id, number, take, row)?;
+        workers.push(worker)?;
     }
     Ok(workers)
 }
@@ -110,9 +114,24 @@ fn open_workers(
 /// channel to each port. No thread is started: the caller moves them into threads. What was opened by one call can be
 /// told by `id`. The numbers and the clocks begin at 0.
 pub fn open(alloc: Global, config: &Config, id: u64) -> Result<(Vec<Port>, Vec<Worker>), OpenError>
-    ensures { IfOk result (λ both. IsOpened config.now id both.0.items both.1.items) }
+    ensures opened { IfOk result (λ both. IsOpened config.now id both.0.items both.1.items) }
+    ensures traces { IfOk result (λ both. KeepTraces true both.1.items) }
 {
-    open_at(alloc, config, id, 0)
+    open_as(alloc, config, id, 0, true)
+}
+
+/// Opens ports and workers as `open` does, and the channels keep no traces, so that a run of any length takes no more memory
+/// than their rows. All that is promised of a system is promised of this one; `close` has no traces to give then, and tells the first
+/// fault of each, as a judge has it that was told each command.
+pub fn open_without_traces(
+    alloc: Global,
+    config: &Config,
+    id: u64,
+) -> Result<(Vec<Port>, Vec<Worker>), OpenError>
+    ensures opened { IfOk result (λ both. IsOpened config.now id both.0.items both.1.items) }
+    ensures traces { IfOk result (λ both. KeepTraces false both.1.items) }
+{
+    open_as(alloc, config, id, 0, false)
 }
 
 /// Opens ports and workers as `open` does, and the clocks begin with this cycle.
@@ -123,12 +142,36 @@ pub fn open_at(
     first_cycle: u64,
 ) -> Result<(Vec<Port>, Vec<Worker>), OpenError>
     requires { first_cycle ≤ CLOCK_STOP }
-    ensures { IfOk result (λ both. IsOpenedAt config.now first_cycle id both.0.items both.1.items) }
+    ensures opened { IfOk result (λ both. IsOpenedAt config.now first_cycle id both.0.items both.1.items) }
+    ensures traces { IfOk result (λ both. KeepTraces true both.1.items) }
+{
+    open_as(alloc, config, id, first_cycle, true)
+}
+
+/// Opens ports and workers as `open_at` does, with the traces of the channels or without.
+fn open_as(
+    alloc: Global,
+    config: &Config,
+    id: u64,
+    first_cycle: u64,
+    traces: bool,
+) -> Result<(Vec<Port>, Vec<Worker>), OpenError>
+    requires { first_cycle ≤ CLOCK_STOP }
+    ensures opened { IfOk result (λ both. IsOpenedAt config.now first_cycle id both.0.items both.1.items) }
+    ensures traces { IfOk result (λ both. KeepTraces traces both.1.items) }
 {
     let (port_rows, worker_takes) = request_lanes(alloc, config)?;
     let (worker_rows, port_takes) = completion_lanes(alloc, config)?;
     let ports = open_ports(alloc, config, id, port_rows, port_takes)?;
-    let workers = open_workers(alloc, config, first_cycle, id, worker_rows, worker_takes)?;
+    let workers = open_workers(
+        alloc,
+        config,
+        first_cycle,
+        traces,
+        id,
+        worker_rows,
+        worker_takes,
+    )?;
     Ok((ports, workers))
 }
 

@@ -23,12 +23,14 @@ use crate::completions::DonePut;
 use crate::ends::Numbered;
 use crate::error::OpenError;
 use crate::gate::{Gate, Turn};
+use crate::judged::{Commands, JudgedChannel};
 use crate::requests::RequestTake;
 use crate::rest::Rest;
 use ddr_address_map::request::Done;
-use ddr_channel::channel::{Channel, CycleError};
+use ddr_channel::channel::CycleError;
 use ddr_channel::promise::channel_promise;
 use ddr_timing::config::Config;
+use ddr_trace::checker::Fault;
 use ddr_trace::trace::Trace;
 use std::alloc::Global;
 use std::marker::Model;
@@ -39,7 +41,7 @@ use std::sync::Wait;
 pub struct Worker {
     id: u64,
     number: u32,
-    channel: Channel,
+    channel: JudgedChannel,
     requests: RequestTake,
     // The side that leads to each port.
     completions: Vec<DonePut>,
@@ -98,7 +100,7 @@ pub struct WorkerEnd {
     config: Config,
     requests: RequestTake,
     completions: Vec<DonePut>,
-    trace: Trace,
+    commands: Commands,
 }
 
 impl Model for WorkerEnd {
@@ -137,12 +139,13 @@ impl Numbered for WorkerEnd {
 }
 
 impl WorkerEnd {
-    /// Its put sides by port, its take side, and its channel's trace.
-    pub(crate) fn into_parts(self) -> (Vec<DonePut>, RequestTake, Trace)
+    /// Its put sides by port, its take side, its channel's trace where that was kept, and the first fault of the trace.
+    pub(crate) fn into_parts(self) -> (Vec<DonePut>, RequestTake, Option<Trace>, Option<Fault>)
         ensures ended { IsWorkerEnded self }
         ensures completions { result.0.items ≡ self.completions }
         ensures requests { result.1 ≡ self.requests }
-        ensures trace { result.2 ≡ self.trace }
+        ensures kept { result.2 ≡ self.kept }
+        ensures fault { result.3 ≡ self.fault }
     {
         let WorkerEnd {
             id: _,
@@ -150,9 +153,10 @@ impl WorkerEnd {
             config: _,
             requests,
             completions,
-            trace,
+            commands,
         } = self;
-        (completions, requests, trace)
+        let (trace, fault) = commands.into_parts();
+        (completions, requests, trace, fault)
     }
 }
 
@@ -172,11 +176,13 @@ fn push_to<R: Wait>(rt: &R, sides: &mut Vec<DonePut>, done: Done) -> Result<(), 
 }
 
 impl Worker {
-    /// A worker before its first turn, over the sides of its queues. Its channel's clock begins with this cycle.
+    /// A worker before its first turn, over the sides of its queues. Its channel's clock begins with this cycle, and `traces` says
+    /// whether its trace is kept.
     pub(crate) fn open(
         alloc: Global,
         config: &Config,
         first: u64,
+        traces: bool,
         id: u64,
         number: u32,
         requests: RequestTake,
@@ -187,13 +193,14 @@ impl Worker {
         requires ports { requests.who.count ≡ length completions.items }
         requires took { requests.took ≡ [] }
         requires sides { (p : ℕ) (side : PutSide Delivery Completion) → slice_get completions.items p ≡ Some side → IsNewDonePut config.now.geometry number p side }
-        ensures { IfOk result (IsNewWorker config.now first id number completions.items requests) }
+        ensures new { IfOk result (IsNewWorker config.now first id number completions.items requests) }
+        ensures keeps { IfOk result (λ w. w.channel.keeps ≡ traces) }
     {
         let noted = vec![in alloc; false; completions.len()]?;
         Ok(Worker {
             id,
             number,
-            channel: Channel::open(alloc, config, first)?,
+            channel: JudgedChannel::open(alloc, config, first, traces)?,
             requests,
             completions,
             held: None,
@@ -237,7 +244,7 @@ impl Worker {
             return;
         }
         if let Some(item) = self.requests.pop(rt) {
-            item.take_in(&mut self.channel, self.noted.as_mut_slice());
+            self.channel.take_in(item, self.noted.as_mut_slice());
         }
     }
 
@@ -267,7 +274,7 @@ impl Worker {
 
     /// Whether a completion is done and not pushed yet.
     fn has_done(&self) -> bool {
-        self.held.is_some() || self.channel.next_done().is_some()
+        self.held.is_some() || self.channel.has_done()
     }
 
     /// Whether every port's End came, and nothing is held or left in the channel.
@@ -305,7 +312,7 @@ impl Worker {
             config: *channel.config(),
             requests,
             completions,
-            trace: channel.into_trace(),
+            commands: channel.into_commands(),
         }
     }
 

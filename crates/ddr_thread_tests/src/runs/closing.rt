@@ -158,9 +158,17 @@ fn has_traces(
     first: (Steps<'_>, u64),
     second: (Steps<'_>, u64),
 ) -> bool {
-    closed.traces.len() == 2
-        && is_trace(&closed.traces[0], config, first.0, first.1)
-        && is_trace(&closed.traces[1], config, second.0, second.1)
+    match closed.traces.as_slice() {
+        [Some(trace), Some(other)] => {
+            is_trace(trace, config, first.0, first.1) && is_trace(other, config, second.0, second.1)
+        }
+        _ => false,
+    }
+}
+
+/// Whether neither channel has a fault.
+fn has_no_faults(closed: &SystemClosed) -> bool {
+    matches!(closed.faults.as_slice(), [None, None])
 }
 
 /// Writes and reads back as each of two ports, on a channel each.
@@ -168,6 +176,7 @@ fn run_writes_and_reads<R: Threads + Wait + Sync>(
     rt: &R,
     alloc: Global,
     config: &Config,
+    traces: Traces,
 ) -> Result<AllEnds, Fail>
     ensures { IfOk result (λ ends. AreOfOneOpen 7 (ends.0 ∷ ends.1 ∷ []) (ends.2 ∷ ends.3 ∷ [])) }
 {
@@ -176,7 +185,7 @@ fn run_writes_and_reads<R: Threads + Wait + Sync>(
         addr: HALF,
         byte: 2,
     };
-    run_system(rt, alloc, config, 7, &host, &other_host)
+    run_system(rt, alloc, config, 7, traces, &host, &other_host)
 }
 
 /// Whether each port took both of its replies, and each channel has the trace of a write and a read behind it: the write RCD
@@ -187,13 +196,15 @@ fn has_all_replies(closed: &SystemClosed, config: &Config) -> bool {
         (4, Step::Wr { row: 0, line: 0 }),
         (15, Step::Rd { row: 0, line: 0 }),
     ];
-    has_counts(closed, &[2, 2]) && has_traces(closed, config, (&steps, 24), (&steps, 24))
+    has_counts(closed, &[2, 2])
+        && has_traces(closed, config, (&steps, 24), (&steps, 24))
+        && has_no_faults(closed)
 }
 
 #[test]
 fn each_port_takes_its_replies(rt: HostRuntime) -> Result<(), Fail> {
     let config = Config::read(rt.alloc(), PROFILE_S)?;
-    let ends = run_writes_and_reads(&rt, rt.alloc(), &config)?;
+    let ends = run_writes_and_reads(&rt, rt.alloc(), &config, Traces::Kept)?;
     let closed = close_in_order(&rt, rt.alloc(), 7, ends)?;
     assert!(rt; has_all_replies(&closed, &config));
     Ok(())
@@ -202,9 +213,21 @@ fn each_port_takes_its_replies(rt: HostRuntime) -> Result<(), Fail> {
 #[test]
 fn the_ends_come_in_any_order(rt: HostRuntime) -> Result<(), Fail> {
     let config = Config::read(rt.alloc(), PROFILE_S)?;
-    let ends = run_writes_and_reads(&rt, rt.alloc(), &config)?;
+    let ends = run_writes_and_reads(&rt, rt.alloc(), &config, Traces::Kept)?;
     let closed = close_in_reverse(&rt, rt.alloc(), 7, ends)?;
     assert!(rt; has_all_replies(&closed, &config));
+    Ok(())
+}
+
+/// Without its traces a system gives the same replies, has none to hand out, and no fault.
+#[test]
+fn a_system_without_traces_is_judged(rt: HostRuntime) -> Result<(), Fail> {
+    let config = Config::read(rt.alloc(), PROFILE_S)?;
+    let ends = run_writes_and_reads(&rt, rt.alloc(), &config, Traces::Dropped)?;
+    let closed = close_in_order(&rt, rt.alloc(), 7, ends)?;
+    assert!(rt; has_counts(&closed, &[2, 2]));
+    assert!(rt; matches!(closed.traces.as_slice(), [None, None]));
+    assert!(rt; has_no_faults(&closed));
     Ok(())
 }
 

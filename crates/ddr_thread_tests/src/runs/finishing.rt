@@ -209,7 +209,7 @@ fn all_go_on<R: Wait>(rt: &R, parts: Parts) -> Result<(bool, (bool, bool)), Fail
 #[test]
 fn a_stopped_worker_goes_on(rt: HostRuntime) -> Result<(), Fail> {
     let config = config_with(rt.alloc(), "intake", "intake = 64")?;
-    let parts = open_two(rt.alloc(), &config, 7)?;
+    let parts = open_two(rt.alloc(), &config, 7, Traces::Kept)?;
     assert_eq!(rt; all_go_on(&rt, parts)?, (true, (true, true)));
     Ok(())
 }

@@ -162,7 +162,7 @@ fn passes<R: Threads + Wait + Sync>(
     bar: Bar,
 ) -> Result<(bool, bool), Fail> {
     let config = Config::read(alloc, PROFILE_S)?;
-    let parts = open_two(alloc, &config, 7)?;
+    let parts = open_two(alloc, &config, 7, Traces::Kept)?;
     let gate = Barred::new(channel, bar);
     Ok(run_threads(rt, &gate, addresses_of(channel), parts))
 }

@@ -46,7 +46,7 @@ fn run_silent<R: Threads + Wait + Sync>(rt: &R, alloc: Global, id: u64) -> Resul
     ensures work_id { IfOk result (λ ends. (ends.2.id ≡ id) × (ends.3.id ≡ id)) }
 {
     let config = Config::read(alloc, PROFILE_S)?;
-    run_system(rt, alloc, &config, id, &Silent, &Silent)
+    run_system(rt, alloc, &config, id, Traces::Kept, &Silent, &Silent)
 }
 
 /// The end of the second port of such a system.

@@ -23,8 +23,10 @@ loop-end-preserved c = record {
   len = search rules;
   sides = next_added (λ (w : WorkerEnded). w.completions) (λ (w : WorkerEnded). w.requests) c.args.sides c.loop-end.sides (comes_next c.loop-end.yielded c.in-Some.ensures.steps.0 c.loop-end.invariant.items) c.loop-end.invariant.sides
       c.add.new.self c.into_parts-completions.result.0.items c.into_parts-completions.result.1 c.into_parts-completions.ensures.completions c.into_parts-completions.ensures.requests c.add.ensures;
-  traces = c.push_reserved.ensures.items ∙ (λ i. c.loop-end.invariant.traces i ++ c.into_parts-completions.ensures.trace i ∷ []) ∙ sym (map-append (λ (w : WorkerEnded). w.trace) c.loop-end.yielded (c.in-Some.end ∷ []));
+  traces = c.push_reserved.ensures.items ∙ (λ i. c.loop-end.invariant.traces i ++ c.into_parts-completions.ensures.kept i ∷ []) ∙ sym (map-append (λ (w : WorkerEnded). w.kept) c.loop-end.yielded (c.in-Some.end ∷ []));
+  faults = c.push_reserved-in-loop-end.ensures.items ∙ (λ i. c.loop-end.invariant.faults i ++ c.into_parts-completions.ensures.fault i ∷ []) ∙ sym (map-append (λ (w : WorkerEnded). w.fault) c.loop-end.yielded (c.in-Some.end ∷ []));
   room = search rules;
+  fault_room = search rules;
   ended = each_pushed (λ k w. IsWorkerEnded w) c.loop-end.yielded c.in-Some.end c.loop-end.invariant.ended c.into_parts-completions.ensures.ended;
 }
 

@@ -12,7 +12,9 @@ invariant-loop-end l = record {
   items : l.yielded ++ into_iter_items l.end-iterator ≡ l.fn.ends.items;
   len : into_iter_len l.end-iterator ≡ length (into_iter_items l.end-iterator);
   sides : l.sides ≡ with_all (λ (w : WorkerEnded). w.completions) (λ w. w.requests) l.fn.sides l.yielded;
-  traces : l.traces.items ≡ map (λ (w : WorkerEnded). w.trace) l.yielded;
+  traces : l.traces.items ≡ map (λ (w : WorkerEnded). w.kept) l.yielded;
+  faults : l.faults.items ≡ map (λ (w : WorkerEnded). w.fault) l.yielded;
   room : vec_capacity l.traces ≡ length l.fn.ends.items;
+  fault_room : vec_capacity l.faults ≡ length l.fn.ends.items;
   ended : (k : ℕ) (w : WorkerEnded) → slice_get l.yielded k ≡ Some w → IsWorkerEnded w;
 }

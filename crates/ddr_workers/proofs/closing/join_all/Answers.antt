@@ -77,4 +77,7 @@ returns g c =
       taken = c.gather_ports-port_sides.ensures.counts;
       same = copies;
       traces = c.gather_workers-worker_sides.ensures.traces;
+      kept = λ k w there. (worker_ended k w there).kept;
+      faults = c.gather_workers-worker_sides.ensures.faults;
+      judged = λ k w there. (worker_ended k w there).judged;
     }

@@ -1,8 +1,10 @@
-use Rattle.std.proofs.Common.{◌+◌, ◌<◌, length, arith, sym, ap, subst}
+use Rattle.std.proofs.Common.{◌≡◌, ◌+◌, ◌<◌, length, arith, sym, ap, subst}
 use Rattle.std.specs.List.{remove}
 use Rattle.std.proofs.lemmas.List.{length-map}
+use Rattle.std.proofs.lemmas.List.Elements.{All-push}
 use Rattle.ddr_workers.specs.Lanes.{lists, AreFrom}
-use Rattle.ddr_workers.specs.Open.{IsWorkerRow, IsWorkerTake, IsNewWorker}
+use Rattle.ddr_workers.specs.Open.{IsWorkerRow, IsWorkerTake, IsNewWorker, KeepTraces}
+use Rattle.ddr_workers.specs.Worker.{WorkerState}
 use Rattle.ddr_workers.proofs.LaneLemmas.{removed, first_row, first_of_row, one_each_more, all_complete, Completes}
 use Rattle.ddr_workers.proofs.system.open_workers.Goals as goal
 
@@ -33,11 +35,12 @@ loop-number-preserved c =
       made =
           subst (λ rs. Completes P (n + 1) (lists rs) c.remove-take.new.self.items c.push.new.self.items (lists c.args.rows.items) c.args.takes.items) (sym c.remove-row.ensures.items)
           (subst (λ ts. Completes P (n + 1) (lists (remove rows 0)) ts c.push.new.self.items (lists c.args.rows.items) c.args.takes.items) (sym c.remove-take.ensures.items)
-          (one_each_more P n rows takes c.loop-number.workers.items c.push.new.self.items (lists c.args.rows.items) c.args.takes.items c.remove-row.result c.remove-take.result c.in_ok-open.field-0 is is' c.in_ok-open.ensures c.in_ok-push.ensures.items before.made));
+          (one_each_more P n rows takes c.loop-number.workers.items c.push.new.self.items (lists c.args.rows.items) c.args.takes.items c.remove-row.result c.remove-take.result c.in_ok-worker.worker is is' c.in_ok-worker.ensures.new c.in_ok-push.ensures.items before.made));
+      keep = subst (KeepTraces c.args.traces) (sym c.in_ok-push.ensures.items) (All-push (λ (w : WorkerState). w.channel.keeps ≡ c.args.traces) c.loop-number.workers.items c.in_ok-worker.worker before.keep c.in_ok-worker.ensures.keeps);
     }
 
-pub returns : goal.returns
-returns c =
+pub returns-clause-new : goal.returns-clause-new
+returns-clause-new c =
     let before = c.loop-number.invariant in
     all_complete (IsNewWorker c.args.config.now c.args.first c.args.id) c.loop-number.number (lists c.loop-number.rows.items) c.loop-number.takes.items c.loop-number.workers.items (lists c.args.rows.items) c.args.takes.items
     (omega (arith, c.loop-number-test.false, before.rows_left, length-map c.loop-number.rows.items (λ row. row.items))) (omega (arith, c.loop-number-test.false, before.takes_left)) before.made

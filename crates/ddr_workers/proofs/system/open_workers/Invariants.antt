@@ -1,6 +1,6 @@
 use Rattle.std.proofs.Common.{◌≡◌, ◌+◌, length}
 use Rattle.ddr_workers.specs.Lanes.{lists, AreFrom}
-use Rattle.ddr_workers.specs.Open.{IsWorkerRow, IsWorkerTake, IsNewWorker}
+use Rattle.ddr_workers.specs.Open.{IsWorkerRow, IsWorkerTake, IsNewWorker, KeepTraces}
 use Rattle.ddr_workers.proofs.LaneLemmas.{Completes}
 use Rattle.ddr_workers.proofs.system.open_workers.Given as goal
 
@@ -11,4 +11,5 @@ invariant-loop-number l = record {
   row : AreFrom (IsWorkerRow l.config.geometry l.config.limits.ports) l.number (lists l.rows.items);
   take : AreFrom (IsWorkerTake l.config.geometry l.config.limits.ports) l.number l.takes.items;
   made : Completes (IsNewWorker l.config l.first l.id) l.number (lists l.rows.items) l.takes.items l.workers.items (lists l.initial.rows.items) l.initial.takes.items;
+  keep : KeepTraces l.traces l.workers.items;
 }

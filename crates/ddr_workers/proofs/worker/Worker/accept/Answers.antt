@@ -17,18 +17,18 @@ invariant_of-self g c =
     let a = c.self.inside in
     let noted = c.take_in.new.noted in
     let same = with_items_is a.noted noted (c.take_in.auto.noted ∙ c.as_mut_slice.ensures.len) in
-    let takes = subst (λ (old : List Bool). Takes c.in-Some.item a.channel c.take_in.new.channel old noted) c.as_mut_slice.ensures.value c.take_in.ensures in
-    subst (λ (xs : List Bool). IsWhole (record (state_of a) { channel = c.take_in.new.channel; requests = c.pop.new.self; noted = xs })) (sym same)
-    (whole_taken (state_of a) c.take_in.new.channel c.in-Some.item c.pop.new.self noted c.self.invariant c.in-Some.ensures.popped c.in-Some.ensures.next (c.room.ensures.0 c.if-not-room.false) takes)
+    let takes = subst (λ (old : List Bool). Takes c.in-Some.item a.channel c.take_in.new.self old noted) c.as_mut_slice.ensures.value c.take_in.ensures in
+    subst (λ (xs : List Bool). IsWhole (record (state_of a) { channel = c.take_in.new.self; requests = c.pop.new.self; noted = xs })) (sym same)
+    (whole_taken (state_of a) c.take_in.new.self c.in-Some.item c.pop.new.self noted c.self.invariant c.in-Some.ensures.popped c.in-Some.ensures.next (c.room.ensures.0 c.if-not-room.false) takes)
 
 pub returns-in-Some-clause-tried : goal.returns-in-Some-clause-tried
 returns-in-Some-clause-tried g c =
     let a = c.self.inside in
     let noted = c.take_in.new.noted in
     let same = with_items_is a.noted noted (c.take_in.auto.noted ∙ c.as_mut_slice.ensures.len) in
-    let takes = subst (λ (old : List Bool). Takes c.in-Some.item a.channel c.take_in.new.channel old noted) c.as_mut_slice.ensures.value c.take_in.ensures in
-    subst (λ (xs : List Bool). HasTried (record (state_of a) { channel = c.take_in.new.channel; requests = c.pop.new.self; noted = xs })) (sym same)
-    (tried_taken (state_of a) c.take_in.new.channel c.in-Some.item c.pop.new.self noted (subst HasTried (sym c.self.view_is) c.requires) c.in-Some.ensures.popped (c.room.ensures.0 c.if-not-room.false) takes)
+    let takes = subst (λ (old : List Bool). Takes c.in-Some.item a.channel c.take_in.new.self old noted) c.as_mut_slice.ensures.value c.take_in.ensures in
+    subst (λ (xs : List Bool). HasTried (record (state_of a) { channel = c.take_in.new.self; requests = c.pop.new.self; noted = xs })) (sym same)
+    (tried_taken (state_of a) c.take_in.new.self c.in-Some.item c.pop.new.self noted (subst HasTried (sym c.self.view_is) c.requires) c.in-Some.ensures.popped (c.room.ensures.0 c.if-not-room.false) takes)
 
 pub returns-in_default-clause-tried : goal.returns-in_default-clause-tried
 returns-in_default-clause-tried g c =

@@ -18,4 +18,4 @@ invariant_of-result c =
     let count : vec_len c.args.completions ≡ length c.args.completions.items = search (rules, c.args.completions.ok) in
     let noted : c.in_ok-noted.noted.items ≡ replicate (length c.args.completions.items) false =
     search (rules, c.in_ok-noted.ensures.items, c.in_ok-noted.ensures.items_if_clones_equal, c.len.ensures, count) in
-    whole_opened w c.args.config.now c.in_ok-open.ensures.config c.in_ok-open.ensures.keeps c.in_ok-open.ensures.stands c.requires.route c.requires.ports c.requires.took c.requires.sides refl noted
+    whole_opened w c.args.config.now c.in_ok-open.ensures.config c.in_ok-open.ensures.stands c.requires.route c.requires.ports c.requires.took c.requires.sides refl noted

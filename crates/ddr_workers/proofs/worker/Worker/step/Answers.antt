@@ -16,15 +16,15 @@ pub invariant_of-self : goal.invariant_of-self
 invariant_of-self c =
     let w = state_of c.self.inside in
     elim c.match-cycle.branch [
-      | in-Ok b ↦ whole_cycled w c.cycle.new.self c.self.invariant (subst HasTried (sym c.self.view_is) c.requires) (λ idle. false≢true (sym c.if-is_empty.false ∙ c.is_empty.ensures.1 idle)) c.cycle.ensures.config c.cycle.ensures.room.keeps b.in-Ok.ensures.ok b.in-Ok.ensures.stands
-      | in-Err b ↦ whole_uncycled w c.cycle.new.self c.self.invariant b.in-Err.ensures.err c.cycle.ensures.room.keeps
+      | in-Ok b ↦ whole_cycled w c.cycle.new.self c.self.invariant (subst HasTried (sym c.self.view_is) c.requires) (λ idle. false≢true (sym c.if-is_empty.false ∙ c.is_empty.ensures.1 idle)) c.cycle.ensures.config b.in-Ok.ensures.ok b.in-Ok.ensures.stands
+      | in-Err b ↦ whole_uncycled w c.cycle.new.self c.self.invariant b.in-Err.ensures.err
     ]
 
 pub returns-clause-same : goal.returns-clause-same
 returns-clause-same c =
     let w = state_of c.self.inside in
     subst (λ (v : WorkerState). IsSameWorker v (record w { channel = c.cycle.new.self })) c.self.view_is
-    (same_channel w c.cycle.new.self w.held w.requests w.noted c.cycle.ensures.config (cycle_begins w.channel c.cycle.new.self c.cycle.result c.cycle.ensures.ok c.cycle.ensures.err) refl)
+    (same_channel w c.cycle.new.self w.held w.requests w.noted c.cycle.ensures.config (cycle_begins w.channel c.cycle.new.self c.cycle.result c.cycle.ensures.ok c.cycle.ensures.err) c.cycle.ensures.room.keeps refl)
 
 pub returns-clause-memory : goal.returns-clause-memory
 returns-clause-memory c =
