@@ -1,5 +1,5 @@
 -- The verdicts on the traces of a system that was closed: each is that the trace is legal.
-use Rattle.std.proofs.Common.{◌≡◌, ℕ, zero, suc, Bool, true, false, ◌&&◌, List, [], ◌∷◌, ◌+◌, length, map, get_or, Option, Some, None, is_none, slice_get, All, refl, sym, ap, subst, ◌∙◌, arith}
+use Rattle.std.proofs.Common.{◌≡◌, ℕ, zero, suc, Bool, true, false, List, [], ◌∷◌, ◌+◌, map, get_or, Option, Some, None, is_none, slice_get, All, refl, sym, ap, subst, ◌∙◌, arith}
 use Rattle.std.proofs.lemmas.Bool.{false≢true}
 use Rattle.std.proofs.lemmas.List.Sorted.{All-permutation}
 use Rattle.std.proofs.lemmas.Option.{slice_get-get_or}
@@ -12,11 +12,12 @@ use Rattle.ddr_trace.proofs.LowestLemmas.{lowest_passes}
 use Rattle.ddr_channel.specs.State.{State}
 use Rattle.ddr_channel.proofs.ListLemmas.{All-at}
 use Rattle.ddr_workers.specs.Closing.{AreMatched, IsClosed, Left}
+use Rattle.ddr_workers.specs.Judged.{IsJudged}
 use Rattle.ddr_workers.specs.Open.{IsOpened}
 use Rattle.ddr_workers.specs.Port.{PortState, PortEnded}
 use Rattle.ddr_workers.specs.Worker.{WorkerState, WorkerEnded, IsEndOf, IsWorkDone}
 use Rattle.ddr_run.specs.declared.run.TheConstants.{RUN}
-use Rattle.ddr_run.specs.Outcome.{AreVerdicts}
+use Rattle.ddr_run.specs.Outcome.{AreVerdicts, are_legal, channel_lines}
 use Rattle.ddr_text.specs.Check.{IsVerdict}
 
 -- no rule is broken in the trace
@@ -68,12 +69,37 @@ traces_are_right config (w ∷ workers) of_config done (suc c) t is =
     traces_are_right config workers (λ n e below. of_config (suc n) e (omega arith)) (λ n e there. done (suc n) e there) c t is
 traces_are_right config [] of_config done c t is = cc
 
--- what a closed system leaves is right, and so the verdicts say
-pub closed_legal : (config : Config) (ports : List PortState) (workers : List WorkerState) (port_ends : List PortEnded) (ended : List WorkerEnded) (left : Left) (text : List ℕ) (legal : Bool)
-    → IsOpened config RUN ports workers → AreMatched IsEndOf workers ended → IsClosed RUN port_ends ended left → AreVerdicts config 0 left.traces text legal → legal ≡ true
-closed_legal config ports workers port_ends ended left text legal system matched is_closed verdicts =
-    let own : (c : ℕ) (w : WorkerState) → slice_get workers c ≡ Some w → w.channel.config ≡ config = λ c w is. ap (λ (s : State). s.config) (system.worker c w is).channel in
-    let each : All (λ (e : WorkerEnded). e.config ≡ config) ended = each_of (λ (e : WorkerEnded). e.config ≡ config) ended (ends_config config workers ended own matched) in
-    let ordered : All (λ (e : WorkerEnded). e.config ≡ config) is_closed.by_channel = All-permutation (λ (e : WorkerEnded). e.config ≡ config) ended is_closed.by_channel is_closed.workers_are each in
-    all_legal config 0 left.traces text legal
-    (λ c t is. traces_are_right config is_closed.by_channel ordered is_closed.emptied.work c t (ap (λ (ts : List Recorded). slice_get ts c) (sym is_closed.emptied.traces) ∙ is)) verdicts
+-- what a judge says of a trace is a verdict on it
+verdict_by : (config : Config) (t : Recorded) (fault : Option checker.Fault) → IsJudged config t fault → IsVerdict config t fault
+verdict_by config t None judged = judged.legal refl
+verdict_by config t (Some f) judged = judged.first
+
+all_judged : (config : Config) (channel : ℕ) (workers : List WorkerEnded) → All (λ e. e.config ≡ config) workers
+    → ((c : ℕ) (w : WorkerEnded) → slice_get workers c ≡ Some w → IsJudged w.config w.trace w.fault)
+    → AreVerdicts config channel (map (λ w. w.trace) workers) (channel_lines channel (map (λ w. w.fault) workers)) (are_legal (map (λ w. w.fault) workers))
+all_judged config channel [] of_config judged = AreVerdicts.none channel
+all_judged config channel (w ∷ workers) of_config judged =
+    let own : w.config ≡ config = All-at (λ (e : WorkerEnded). e.config ≡ config) (w ∷ workers) 0 w of_config refl in
+    let here : IsJudged config w.trace w.fault = subst (λ (g : Config). IsJudged g w.trace w.fault) own (judged 0 w refl) in
+    AreVerdicts.more channel w.trace (map (λ (x : WorkerEnded). x.trace) workers) w.fault (channel_lines (channel + 1) (map (λ (x : WorkerEnded). x.fault) workers)) (are_legal (map (λ (x : WorkerEnded). x.fault) workers))
+    (verdict_by config w.trace w.fault here)
+    (all_judged config (channel + 1) workers (λ n e below. of_config (suc n) e (omega (arith, below))) (λ n e there. judged (suc n) e there))
+
+module _ (config : Config) (ports : List PortState) (workers : List WorkerState) (port_ends : List PortEnded) (ended : List WorkerEnded) (left : Left) (system : IsOpened config RUN ports workers)
+    (matched : AreMatched IsEndOf workers ended) (closed : IsClosed RUN port_ends ended left) where
+  own_config : All (λ (e : WorkerEnded). e.config ≡ config) closed.by_channel
+  own_config =
+      let own : (c : ℕ) (w : WorkerState) → slice_get workers c ≡ Some w → w.channel.config ≡ config = λ c w is. ap (λ (s : State). s.config) (system.worker c w is).channel in
+      let each : All (λ (e : WorkerEnded). e.config ≡ config) ended = each_of (λ (e : WorkerEnded). e.config ≡ config) ended (ends_config config workers ended own matched) in
+      All-permutation (λ (e : WorkerEnded). e.config ≡ config) ended closed.by_channel closed.workers_are each
+
+  -- the lines that are written are verdicts on the traces, by what the judges say of them
+  pub closed_judged : AreVerdicts config 0 (map (λ (w : WorkerEnded). w.trace) closed.by_channel) (channel_lines 0 left.faults) (are_legal left.faults)
+  closed_judged =
+      subst (λ faults. AreVerdicts config 0 (map (λ (w : WorkerEnded). w.trace) closed.by_channel) (channel_lines 0 faults) (are_legal faults)) (sym closed.emptied.faults)
+      (all_judged config 0 closed.by_channel own_config closed.emptied.judged)
+
+  -- what a closed system leaves is right, and so they say
+  pub closed_legal : (text : List ℕ) (legal : Bool) → AreVerdicts config 0 (map (λ (w : WorkerEnded). w.trace) closed.by_channel) text legal → legal ≡ true
+  closed_legal text legal verdicts =
+      all_legal config 0 (map (λ (w : WorkerEnded). w.trace) closed.by_channel) text legal (traces_are_right config closed.by_channel own_config closed.emptied.work) verdicts

@@ -15,6 +15,16 @@ texts_of hosted = flat_map (λ h. string_bytes h.text) hosted
 abbrev pub channel_line : ℕ → Option checker.Fault → List ℕ
 channel_line channel verdict = codes "channel " ++ (decimal channel ++ (codes " " ++ verdict_text verdict))
 
+-- those of the channels from this one on, with these first faults
+abbrev pub channel_lines : ℕ → List (Option checker.Fault) → List ℕ
+channel_lines channel [] = []
+channel_lines channel (fault ∷ faults) = channel_line channel fault ++ channel_lines (channel + 1) faults
+
+-- no channel has a fault
+abbrev pub are_legal : List (Option checker.Fault) → Bool
+are_legal [] = true
+are_legal (fault ∷ faults) = is_none fault && are_legal faults
+
 -- The text has the line of each trace, of the channels from this one on, with a first fault of the trace where it has one;
 -- and it is told whether none has.
 pub data AreVerdicts (config : Config) : ℕ → List Recorded → List ℕ → Bool → Type 0 where

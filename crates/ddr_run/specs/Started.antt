@@ -99,7 +99,7 @@ pub record IsThreaded (config : Config) (instructions : List Instruction) (text 
   pub left : Left
   pub is_closed : IsClosed RUN (map (λ h. h.end) hosted) worked left
   pub verdicts : List ℕ
-  pub are_verdicts : AreVerdicts config 0 left.traces verdicts legal
+  pub are_verdicts : AreVerdicts config 0 (map (λ w. w.trace) is_closed.by_channel) verdicts legal
   -- each is that the trace is legal
   pub all_legal : legal ≡ true
   pub text_is : text ≡ texts_of hosted ++ verdicts

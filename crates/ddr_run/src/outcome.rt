@@ -2,13 +2,11 @@
 //!
 //! `hosting` and `ddr_text` stand below, and `run` above.
 ghost use Rattle.std.specs.Prelude.{◌≡◌, ◌&&◌, IfOk, map, string_bytes};
-ghost use Rattle.ddr_run.specs.Outcome.{AreVerdicts, channel_line, texts_of};
+ghost use Rattle.ddr_run.specs.Outcome.{are_legal, channel_line, channel_lines, texts_of};
 
 use crate::hosting::Hosted;
-use ddr_text::check::{verdict, verdict_text};
-use ddr_timing::config::Config;
-use ddr_trace::checker;
-use ddr_trace::trace::Trace;
+use ddr_text::check::verdict_text;
+use ddr_trace::checker::Fault;
 use ddr_workers::port::PortEnd;
 use std::alloc::{AllocError, Global};
 
@@ -33,19 +31,16 @@ pub fn replies_of(alloc: Global, hosted: Vec<Hosted>) -> Result<Replies, AllocEr
     Ok(Replies { ends, text })
 }
 
-/// A line for each trace: that of channel C is `channel C legal`, or `channel C fault PLACE RULE` for its first fault.
+/// A line for each channel, whose trace has this first fault: that of channel C is `channel C legal`, or `channel C fault PLACE RULE`.
 /// Tells too whether all are legal.
-pub fn verdicts_of(
-    alloc: Global,
-    config: &Config,
-    traces: &[Trace],
-) -> Result<(String, bool), AllocError>
-    ensures { IfOk result (λ said. AreVerdicts config.now 0 traces.now (string_bytes said.0) said.1) }
+pub fn verdicts_of(alloc: Global, faults: &[Option<Fault>]) -> Result<(String, bool), AllocError>
+    ensures text { IfOk result (λ said. string_bytes said.0 ≡ channel_lines 0 faults.now) }
+    ensures legal { IfOk result (λ said. said.1 ≡ are_legal faults.now) }
 {
     let mut text = String::new(alloc);
     let mut legal = true;
-    for channel in 0..traces.len() {
-        let fault = verdict(alloc, config, &traces[channel])?;
+    for channel in 0..faults.len() {
+        let fault = faults[channel];
         let line = channel_line(alloc, channel, fault)?;
         text.push_str(line.as_str())?;
         legal = both(legal, fault.is_none());
@@ -54,11 +49,7 @@ pub fn verdicts_of(
 }
 
 /// The line of a channel, with its line feed.
-fn channel_line(
-    alloc: Global,
-    channel: usize,
-    fault: Option<checker::Fault>,
-) -> Result<String, AllocError>
+fn channel_line(alloc: Global, channel: usize, fault: Option<Fault>) -> Result<String, AllocError>
     ensures { IfOk result (λ line. string_bytes line ≡ channel_line channel fault) }
 {
     let verdict = verdict_text(alloc, fault)?;

@@ -23,7 +23,7 @@ use ddr_text::writing::write_whole;
 use ddr_timing::config::Config;
 use ddr_timing::profile::PROFILE_S;
 use ddr_workers::closing::{CloseError, all_ends_of_one_open};
-use ddr_workers::{close, open as open_system};
+use ddr_workers::{close, open_without_traces};
 use std::alloc::Global;
 use std::sync::Wait;
 use std::thread::Threads;
@@ -36,8 +36,8 @@ const RUN: u64 = 0;
 /// With `sample` the whole input is the script, on the sample configuration; else the input is a configuration, a
 /// line `---` and the script. Each port asks for what its lines say, in order, and keeps its replies. Once all threads
 /// ended these are written, those of port 0 first, and then a line for each channel: `channel C legal`, or `channel C fault
-/// PLACE RULE` for the first fault of its trace. Answers whether all traces are legal, which is proved to be so: no trace has a
-/// fault.
+/// PLACE RULE` for the first fault of its trace, which a judge was told command by command and of which nothing is kept. Answers whether
+/// all traces are legal, which is proved to be so: no trace has a fault.
 ///
 /// Fails as `take_apart` does, then as `ScriptLine` at the first line of the script that is at fault, of which `cycle` is
 /// one, or as `ScriptLimit` at the first request too many, and then as `RequestLine` at the first request that no port
@@ -134,7 +134,7 @@ pub fn run_threads<H: Threads + Wait + Sync>(
     ensures stopped { IfErr result (λ stop. (stop ≡ OutOfMemory → ⊥) → IsStopped config.now (map view instructions.now) stop) }
 {
     let _limits = config.limits;
-    let (ports, workers) = open_system(alloc, config, RUN)?;
+    let (ports, workers) = open_without_traces(alloc, config, RUN)?;
     let ended = run_all(rt, alloc, flag, instructions, ports, workers)?;
     let replies = replies_of(alloc, ended.ports)?;
     all_ends_of_one_open();
@@ -144,7 +144,7 @@ pub fn run_threads<H: Threads + Wait + Sync>(
         Err(CloseError::Foreign(_)) => unreachable!(),
         Err(CloseError::Missing(_)) => unreachable!(),
     };
-    let (verdicts, legal) = verdicts_of(alloc, config, closed.traces.as_slice())?;
+    let (verdicts, legal) = verdicts_of(alloc, closed.faults.as_slice())?;
     let mut text = replies.text;
     text.push_str(verdicts.as_str())?;
     Ok((text, legal))

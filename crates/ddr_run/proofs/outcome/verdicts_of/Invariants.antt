@@ -1,6 +1,9 @@
-use Rattle.std.proofs.Common.{◌++◌, ◌&&◌, ℕ, Bool, List, drop, string_bytes}
-use Rattle.ddr_run.specs.Outcome.{AreVerdicts}
+use Rattle.std.proofs.Common.{◌≡◌, ◌++◌, ◌&&◌, drop, string_bytes}
+use Rattle.ddr_run.specs.Outcome.{are_legal, channel_lines}
 use Rattle.ddr_run.proofs.outcome.verdicts_of.Given as goal
 
 abbrev pub invariant-loop-channel : goal.invariant-loop-channel
-invariant-loop-channel l = (text : List ℕ) (legal : Bool) → AreVerdicts l.config l.channel (drop l.channel l.traces) text legal → AreVerdicts l.config 0 l.traces (string_bytes l.text ++ text) (l.legal && legal)
+invariant-loop-channel l = record {
+  text : string_bytes l.text ++ channel_lines l.channel (drop l.channel l.faults) ≡ channel_lines 0 l.faults;
+  legal : (l.legal && are_legal (drop l.channel l.faults)) ≡ are_legal l.faults;
+}
