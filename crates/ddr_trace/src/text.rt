@@ -6,7 +6,7 @@ ghost use Rattle.std.specs.Fmt.{decimal};
 ghost use Rattle.std.specs.Io.KnownBytes.{Appends};
 ghost use Rattle.csv.specs.Records.{fields_of, partial_of};
 ghost use Rattle.ddr_trace.specs.declared.text.TraceError.TheVariants.{OutOfMemory};
-ghost use Rattle.ddr_trace.specs.Text.{command_fields, header, trace_text};
+ghost use Rattle.ddr_trace.specs.Text.{command_fields, end_fields, header, record_text, trace_text};
 ghost use Rattle.ddr_trace.specs.Table.{AddsRecord, IsPlain, IsReady};
 
 use crate::command::{Command, Entry};
@@ -84,6 +84,46 @@ fn trace_text(alloc: Global, entries: &[Entry], end: u64) -> Result<Vec<u8>, Tra
     }
     write_record(alloc, &mut table, end, b"END", &[])?;
     match table.into_inner() {
+        Ok(text) => Ok(text),
+        Err(_) => Err(TraceError::OutOfMemory),
+    }
+}
+
+/// What stands before the first command in the text of a trace: the names of its columns.
+pub fn head_text(alloc: Global) -> Result<Vec<u8>, TraceError>
+    ensures text { IfOk result (λ v. v.items ≡ record_text header) }
+    ensures refused { IsOkUnless result OutOfMemory }
+{
+    let mut names = WriterBuilder::new().from_writer(Vec::new(alloc));
+    write_header(&mut names)?;
+    match names.into_inner() {
+        Ok(text) => Ok(text),
+        Err(_) => Err(TraceError::OutOfMemory),
+    }
+}
+
+/// The line of a command in the text of a trace.
+pub fn entry_text(alloc: Global, entry: &Entry) -> Result<Vec<u8>, TraceError>
+    ensures text { IfOk result (λ v. v.items ≡ record_text (command_fields entry.now.cycle entry.now.command)) }
+    ensures refused { IsOkUnless result OutOfMemory }
+{
+    let mut line = WriterBuilder::new().from_writer(Vec::new(alloc));
+    write_entry(alloc, &mut line, entry)?;
+    match line.into_inner() {
+        Ok(text) => Ok(text),
+        Err(_) => Err(TraceError::OutOfMemory),
+    }
+}
+
+/// What stands behind the last command in the text of a trace that ends in this cycle.
+#[tactic(auto, unfolding(crate::specs::Text::end_fields))]
+pub fn end_text(alloc: Global, end: u64) -> Result<Vec<u8>, TraceError>
+    ensures text { IfOk result (λ v. v.items ≡ record_text (end_fields end)) }
+    ensures refused { IsOkUnless result OutOfMemory }
+{
+    let mut last = WriterBuilder::new().from_writer(Vec::new(alloc));
+    write_record(alloc, &mut last, end, b"END", &[])?;
+    match last.into_inner() {
         Ok(text) => Ok(text),
         Err(_) => Err(TraceError::OutOfMemory),
     }
