@@ -29,7 +29,11 @@ no_option (Some x) is = cc
 pub legal_none : (b : Bus) (c : Command) → is_legal_now b c ≡ true → broken_now b c ≡ None
 legal_none b c legal = no_option (broken_now b c) legal
 
--- and so keeps each
+-- and one that breaks none is legal
+pub legal_from_none : (b : Bus) (c : Command) → broken_now b c ≡ None → is_legal_now b c ≡ true
+legal_from_none b c none = ap is_none none
+
+-- a legal command keeps each
 pub legal_keeps : (b : Bus) (c : Command) → is_legal_now b c ≡ true → KeepsRules b.config b.start (b.now + 1) b.trace (entry b.now c)
 legal_keeps b c legal = keeps_from_none b.config b.start (b.now + 1) b.trace (entry b.now c) (legal_none b c legal)
 

@@ -1,7 +1,6 @@
--- What a REF that is not legal says of the banks.
-use Rattle.std.proofs.Common.{◌≡◌, ◌≢◌, ℕ, ◌+◌, Bool, true, false, ◌&&◌, ◌||◌, cond, ltb, leb, Some, None, refl, sym, ap, ◌∙◌, inl, inr}
-use Rattle.std.specs.Option.{is_none}
-use Rattle.std.proofs.lemmas.Bool.{cases_Bool}
+-- What of a rank that has to be refreshed is chosen, and what a REF that is not legal says of its banks.
+use Rattle.std.proofs.Common.{◌≡◌, ◌≢◌, ℕ, ◌+◌, Bool, true, false, ◌&&◌, ◌||◌, ltb, leb, Some, refl, sym, ap, ◌∙◌, inl, inr}
+use Rattle.std.proofs.lemmas.Bool.{cases_Bool, true≢false}
 use Rattle.ddr_trace.specs.declared.rule.Rule.{Rule}
 use Rattle.ddr_trace.specs.declared.rule.Rule.TheVariants as rule
 use Rattle.ddr_trace.specs.Commands.{entry}
@@ -32,27 +31,25 @@ unfolding lowest_rule
 active_breaks_state b rank kept inside active = rw (kept, inside, active) refl
 
 -- a legal REF finds all banks idle
-legal_idle : (b : Bus) (rank : ℕ) → broken_now b (refresh rank) ≡ None → some_bank_active b rank ≡ false
-legal_idle b rank none = legal_keeps b (refresh rank) (ap is_none none) rule.State refl
+pub legal_idle : (b : Bus) (rank : ℕ) → is_legal_now b (refresh rank) ≡ true → some_bank_active b rank ≡ false
+legal_idle b rank legal = legal_keeps b (refresh rank) legal rule.State refl
 
-pub refresh_legal : (b : Bus) (rank : ℕ) → broken_now b (refresh rank) ≡ None → choice.Refresh rank ≡ refresh_choice_at b rank
-refresh_legal b rank none = rw (legal_idle b rank none, none) refl
+-- and so it is what is chosen
+pub refresh_legal : (b : Bus) (rank : ℕ) → is_legal_now b (refresh rank) ≡ true → choice.Refresh rank ≡ refresh_choice_at b rank
+refresh_legal b rank legal = rw (legal_idle b rank legal, legal) refl
 
--- one that breaks STATE finds a bank active
-pub refresh_active : (b : Bus) (rank : ℕ) → broken_now b (refresh rank) ≡ Some rule.State →
-    cond (is_legal_now b (precharge_all rank)) (choice.PreAll rank) choice.Nothing ≡ refresh_choice_at b rank
-refresh_active b rank broken =
-    let active : some_bank_active b rank ≡ true = lowest_passes _ rule.State broken in
-    rw active refl
+-- one that breaks STATE finds a bank active,
+pub state_active : (b : Bus) (rank : ℕ) → broken_now b (refresh rank) ≡ Some rule.State → some_bank_active b rank ≡ true
+state_active b rank broken = lowest_passes _ rule.State broken
 
--- where it breaks another rule first, neither REF nor PREA is chosen
-pub refresh_waits : (b : Bus) (rank : ℕ) (r : Rule) → r ≢ rule.State → broken_now b (refresh rank) ≡ Some r → choice.Nothing ≡ refresh_choice_at b rank
-refresh_waits b rank r other broken = elim (cases_Bool (some_bank_active b rank)) [
-  | inr idle ↦ rw (idle, broken) refl
+-- and one that breaks another rule first finds none, where PREA is legal
+pub other_idle : (b : Bus) (rank : ℕ) (r : Rule) → r ≢ rule.State → broken_now b (refresh rank) ≡ Some r → is_legal_now b (precharge_all rank) ≡ true → some_bank_active b rank ≡ false
+other_idle b rank r other broken legal = elim (cases_Bool (some_bank_active b rank)) [
+  | inr idle ↦ idle
   | inl active ↦ elim (cases_Bool (breaks_order b.start (b.now + 1) b.trace (entry b.now (refresh rank)))) [
-    | inl late ↦ rw (active, out_of_order b rank late) refl
+    | inl late ↦ absurd (true≢false (sym legal ∙ out_of_order b rank late))
     | inr kept ↦ elim (cases_Bool (ltb rank b.config.geometry.ranks)) [
-      | inr beyond ↦ rw (active, out_of_place b rank kept beyond) refl
+      | inr beyond ↦ absurd (true≢false (sym legal ∙ out_of_place b rank kept beyond))
       | inl inside ↦ let same : Some r ≡ Some rule.State = sym broken ∙ active_breaks_state b rank kept inside active in absurd (other (cc))
     ]
   ]

@@ -25,14 +25,13 @@ use crate::banks::{BANKS, bank_number};
 use crate::candidates::{Served, candidates, is_free, is_same_kind};
 use crate::commands::{activate_at, column_at, precharge_at};
 use crate::policy::Policy;
-use crate::refresh::{Forced, forced_ranks, is_rank_forced};
+use crate::refresh::{Forced, forced_ranks, is_active, is_rank_forced};
 use crate::rows::is_wanted;
 use ddr_address_map::place::Place;
 use ddr_hazards::pending::Pending;
 use ddr_legality::legality::Legality;
 use ddr_refresh::debt::Debt;
 use ddr_trace::command::Command;
-use ddr_trace::rule::Rule;
 
 /// A cycle that no clock reaches.
 const NEVER: u64 = u64::MAX;
@@ -172,18 +171,14 @@ fn rank_until(legality: &Legality, forced: &Forced, rank: u32) -> u64
 fn refresh_until(legality: &Legality, rank: u32) -> u64
     ensures { IsRefreshStuckUntil result legality.entry.now.bus rank }
 {
-    let refresh = Command::Refresh { rank };
+    let now = legality.now();
     let first = legality.allowed_at(Command::PreAll { rank });
-    if legality.now() < first {
-        return first.min(legality.allowed_at(refresh));
+    let allowed = legality.allowed_at(Command::Refresh { rank });
+    if now < first {
+        return first.min(allowed);
     }
-    match legality.may(refresh) {
-        Ok(()) => legality.now(),
-        Err(rule) => match rule {
-            Rule::State | Rule::Order => legality.now(),
-            _ => legality.allowed_at(refresh),
-        },
-    }
+    let may_come = allowed <= now || is_active(legality, rank);
+    if may_come { now } else { allowed }
 }
 
 /// A cycle before which no further refresh falls due.

@@ -1,9 +1,8 @@
 //! The ranks that have to be refreshed, and the choice while some do.
-ghost use Rattle.std.specs.Prelude.{◌≡◌, ◌≤◌, ◌==◌, filter, if◌then◌else◌, length};
+ghost use Rattle.std.specs.Prelude.{◌≡◌, ◌≤◌, ◌==◌, filter, length, true};
 ghost use Rattle.ddr_hazards.specs.declared.pending.TheConstants.{RANKS};
 ghost use Rattle.ddr_legality.specs.Bus.{is_legal_now};
-ghost use Rattle.ddr_arbiter.specs.declared.choice.Choice.TheVariants as choice;
-ghost use Rattle.ddr_arbiter.specs.Choice.{first_choice, is_idly_forced, is_overdue, is_rank_forced, is_rank_idle, passes_at, ranks_of, refresh_choice, refresh_choice_at};
+ghost use Rattle.ddr_arbiter.specs.Choice.{first_choice, is_idly_forced, is_overdue, is_rank_forced, is_rank_idle, passes_at, ranks_of, refresh_choice, refresh_choice_at, some_bank_active};
 ghost use Rattle.ddr_arbiter.specs.Commands as commands;
 ghost use Rattle.ddr_arbiter.specs.Forced.{AreForced};
 
@@ -125,25 +124,33 @@ fn idle_choice(pending: &Pending, legality: &Legality, debts: &[Debt], forced: &
     Choice::Nothing
 }
 
-/// REF of the rank, or PREA where one of its banks is active, as soon as it is legal.
+/// REF of the rank, or PREA where one of its banks is active, as soon as it is legal. While neither is legal no rule is named: which
+/// one holds REF up is asked only where PREA may come and the distances don't tell that a bank is active.
 fn refresh_choice_at(legality: &Legality, rank: u32) -> Choice
     ensures { result ≡ refresh_choice_at legality.entry.now.bus rank }
 {
-    match legality.may(Command::Refresh { rank }) {
-        Ok(()) => Choice::Refresh { rank },
-        Err(rule) => match rule {
-            Rule::State => precharge_all(legality, rank),
-            _ => Choice::Nothing,
-        },
+    let refresh = Command::Refresh { rank };
+    if legality.is_legal(refresh) {
+        return Choice::Refresh { rank };
+    }
+    if !legality.is_legal(Command::PreAll { rank }) {
+        return Choice::Nothing;
+    }
+    if legality.allowed_at(refresh) <= legality.now() || is_active(legality, rank) {
+        Choice::PreAll { rank }
+    } else {
+        Choice::Nothing
     }
 }
 
-/// PREA of the rank where it is legal.
-fn precharge_all(legality: &Legality, rank: u32) -> Choice
-    ensures { result ≡ (if is_legal_now legality.entry.now.bus (commands.precharge_all rank) then choice.PreAll rank else choice.Nothing) }
+/// Whether a bank of the rank is active, where its PREA is legal. It names the rule by which REF isn't legal, so it costs
+/// more than other questions on the rank.
+pub(crate) fn is_active(legality: &Legality, rank: u32) -> bool
+    requires { is_legal_now legality.now.bus (commands.precharge_all rank) ≡ true }
+    ensures { result ≡ some_bank_active legality.entry.now.bus rank }
 {
-    match legality.may(Command::PreAll { rank }) {
-        Ok(()) => Choice::PreAll { rank },
-        Err(_) => Choice::Nothing,
+    match legality.may(Command::Refresh { rank }) {
+        Ok(()) => false,
+        Err(rule) => matches!(rule, Rule::State),
     }
 }
