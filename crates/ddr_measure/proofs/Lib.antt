@@ -3,3 +3,4 @@ mod SumLemmas
 mod BandLemmas
 mod PercentileLemmas
 mod IntervalLemmas
+mod SpreadLemmas

@@ -1,10 +1,12 @@
 pub mod Distributions
 pub mod Groups
 pub mod Intervals
+pub mod Measured
 pub mod Noting
 pub mod Percentiles
 pub mod Series
 pub mod Spans
+pub mod Spreads
 pub mod Sums
 pub mod Text
 pub mod Usages

@@ -5,7 +5,7 @@ use Rattle.ddr_statistics.specs.Text.{line}
 use Rattle.ddr_measure.specs.Distributions.{bound_of, first_of, last_of}
 use Rattle.ddr_measure.specs.Groups as groups
 use Rattle.ddr_measure.specs.Spans as spans
-use Rattle.ddr_measure.specs.Usages.{peak_of, quotient, share_of, speed_of, usage_of}
+use Rattle.ddr_measure.specs.Usages.{elapsed, peak_of, quotient, share_of, speed_of, usage_of}
 use Rattle.ddr_measure.specs.declared.distribution.Distribution.{Distribution}
 use Rattle.ddr_measure.specs.declared.group.Group.{Group}
 use Rattle.ddr_measure.specs.declared.group.Group.TheVariants.{Reads, Writes, Hits, Misses, Conflicts}
@@ -19,7 +19,7 @@ unfoldable pub thousandths : ℕ → List ℕ
 thousandths number = decimal (number / 1000) ++ (codes "." ++ (decimal (number / 100 % 10) ++ (decimal (number / 10 % 10) ++ decimal (number % 10))))
 
 unfoldable pub usage_lines : Usage → List ℕ
-usage_lines usage = line (codes "requests = ") usage.requests (line (codes "clocks = ") usage.clocks [])
+usage_lines usage = line (codes "requests = ") usage.requests (line (codes "clocks = ") (elapsed usage) [])
 
 unfoldable pub share_lines : ℕ → Usage → List ℕ
 share_lines channels usage = codes "bus_share = " ++ (thousandths (share_of channels usage) ++ 10 ∷ [])

@@ -1,6 +1,6 @@
 //! Which requests are looked at together.
 //!
-//! `timed`, `span` and `distribution` stand below, and `text` above.
+//! `timed`, `span` and `distribution` stand below, and `spread`, `text` and `series` above.
 ghost use Rattle.std.specs.Prelude.{◌≡◌, count_by};
 ghost use Rattle.ddr_measure.specs.Groups.{distribution_of, holds, name_of, noted};
 
@@ -77,7 +77,7 @@ impl Group {
     }
 
     /// Notes a request, if it is one of them.
-    fn note(self, span: Span, request: &Timed, spread: &mut Distribution)
+    pub(crate) fn note(self, span: Span, request: &Timed, spread: &mut Distribution)
         ensures { spread.new ≡ noted self span spread.old request.now }
     {
         if self.holds(request) {

@@ -1,41 +1,44 @@
 //! The numbers of some requests as text: a TOML document.
 //!
-//! `group`, `span`, `distribution` and `usage` stand below, and `ddr_replay` above. `specs/Text.antt` has the text, byte for byte.
+//! `measured`, `spread`, `group`, `span`, `distribution` and `usage` stand below, and `ddr_replay` above. `specs/Text.antt` has the text,
+//! byte for byte.
 ghost use Rattle.std.specs.Prelude.{◌≡◌, ◌<◌, ◌≤◌, IfOk, length, string_bytes};
 ghost use Rattle.ddr_measure.specs.declared.distribution.TheConstants.{CLASSES};
-ghost use Rattle.ddr_measure.specs.Text.{bounds_lines, class_line, class_lines, classes_text, counts_lines, group_tables, groups_tables, mean_at, mean_lines, measured_text, nanoseconds_line, share_lines, span_table, speed_lines, thousandths, usage_lines};
+ghost use Rattle.ddr_measure.specs.Spreads.{spreads_tables};
+ghost use Rattle.ddr_measure.specs.Text.{bounds_lines, class_line, class_lines, classes_text, counts_lines, mean_at, mean_lines, measured_text, nanoseconds_line, share_lines, span_table, speed_lines, thousandths, usage_lines};
 
 use crate::distribution::{Distribution, first_of, last_of};
 use crate::group::Group;
+use crate::measured::Measured;
 use crate::span::Span;
-use crate::timed::Timed;
+use crate::spread::Spread;
 use crate::usage::{Usage, peak_of, quotient};
 use std::alloc::{AllocError, Global};
 
 /// The numbers of these requests, of a memory of so many channels. `clock` is how many picoseconds a clock has, where that is known: then
 /// means are told in nanoseconds and the use of the data bus in bytes a second, too.
 ///
-/// First come the keys `requests`, `bytes`, `clocks` (from the first acceptance to the last reply), `bus_clocks` (of their bursts) and
-/// `bus_share` (of the data buses of all channels in these clocks, with three digits), and with a clock `bytes_per_second` and
-/// `peak_bytes_per_second`. Then a table `GROUP.SPAN` for each group (`read`, `write`, `hit`, `miss`, `conflict`) and span, with the keys
-/// `count`, `clocks` (the sum), `least`, `most`, `mean`, with a clock `mean_nanoseconds`, `p50_at_most`, `p90_at_most`, `p99_at_most`,
-/// `p999_at_most`, and `histogram`: of each class that has some its least and its greatest number of clocks, and how many it has.
-#[tactic(auto, unfolding(crate::specs::Text::measured_text))]
+/// First come the keys `requests`, `clocks` (from the first acceptance to the last reply) and `bus_share` (of the data buses of all
+/// channels in these clocks, with three digits), and with a clock `bytes_per_second` and `peak_bytes_per_second`. Then a table
+/// `GROUP.SPAN` for each group (`read`, `write`, `hit`, `miss`, `conflict`) and span, with the keys `count`, `clocks` (the sum), `least`,
+/// `most`, `mean`, with a clock `mean_nanoseconds`, `p50_at_most`, `p90_at_most`, `p99_at_most`, `p999_at_most`, and `histogram`: of each
+/// class that has some its least and its greatest number of clocks, and how many it has.
+#[tactic(auto, using(crate::proofs::SpreadLemmas::spreads_written), unfolding(crate::specs::Text::measured_text))]
 pub fn measured_text(
     alloc: Global,
     channels: u32,
     clock: Option<u32>,
-    requests: &[Timed],
+    requests: &Measured,
 ) -> Result<String, AllocError>
     ensures { IfOk result (λ text. string_bytes text ≡ measured_text channels clock requests.now) }
 {
-    let usage = Usage::of(requests);
-    let mut text = usage_lines(alloc, &usage)?;
-    let share = share_lines(alloc, channels, &usage)?;
+    let usage = requests.usage();
+    let mut text = usage_lines(alloc, usage)?;
+    let share = share_lines(alloc, channels, usage)?;
     text.push_str(share.as_str())?;
-    let speed = speed_lines(alloc, channels, clock, &usage)?;
+    let speed = speed_lines(alloc, channels, clock, usage)?;
     text.push_str(speed.as_str())?;
-    let tables = groups_tables(alloc, clock, Group::ALL.as_slice(), requests)?;
+    let tables = spreads_tables(alloc, clock, requests.spreads())?;
     text.push_str(tables.as_str())?;
     Ok(text)
 }
@@ -45,7 +48,7 @@ fn usage_lines(alloc: Global, usage: &Usage) -> Result<String, AllocError>
     ensures { IfOk result (λ text. string_bytes text ≡ usage_lines usage.now) }
 {
     let requests = usage.requests;
-    let clocks = usage.clocks;
+    let clocks = usage.elapsed();
     format!(in alloc; "requests = {requests}\nclocks = {clocks}\n")
 }
 
@@ -77,37 +80,17 @@ fn speed_lines(
     }
 }
 
-/// The tables of these groups.
-fn groups_tables(
+/// A table of each.
+fn spreads_tables(
     alloc: Global,
     clock: Option<u32>,
-    groups: &[Group],
-    requests: &[Timed],
+    spreads: &[Spread],
 ) -> Result<String, AllocError>
-    ensures { IfOk result (λ text. string_bytes text ≡ groups_tables clock groups.now requests.now) }
+    ensures { IfOk result (λ text. string_bytes text ≡ spreads_tables clock spreads.now) }
 {
     let mut text = String::new(alloc);
-    for group in groups {
-        let tables = group_tables(alloc, clock, *group, Span::ALL.as_slice(), requests)?;
-        text.push_str(tables.as_str())?;
-    }
-    Ok(text)
-}
-
-/// The tables of a group, of these spans.
-fn group_tables(
-    alloc: Global,
-    clock: Option<u32>,
-    group: Group,
-    spans: &[Span],
-    requests: &[Timed],
-) -> Result<String, AllocError>
-    ensures { IfOk result (λ text. string_bytes text ≡ group_tables clock group spans.now requests.now) }
-{
-    let mut text = String::new(alloc);
-    for span in spans {
-        let spread = group.distribution(*span, requests);
-        let table = span_table(alloc, clock, group, *span, &spread)?;
+    for spread in spreads {
+        let table = span_table(alloc, clock, spread.group, spread.span, &spread.clocks)?;
         text.push_str(table.as_str())?;
     }
     Ok(text)
@@ -248,7 +231,7 @@ fn class_line(alloc: Global, class: usize, count: u64) -> Result<String, AllocEr
 
 /// A number of thousandths, with three digits behind the point.
 #[tactic(auto, unfolding(crate::specs::Text::thousandths))]
-pub(crate) fn thousandths(alloc: Global, number: u128) -> Result<String, AllocError>
+pub fn thousandths(alloc: Global, number: u128) -> Result<String, AllocError>
     ensures { IfOk result (λ text. string_bytes text ≡ thousandths number) }
 {
     let whole = number / 1000;
