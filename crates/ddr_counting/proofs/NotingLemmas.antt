@@ -67,10 +67,10 @@ counted_more config h (e ∷ es) t k =
     (counted_more config (h ++ e ∷ []) es (counted e t) (counted_one config h e t k))
 
 -- where the statistics of a channel come from, behind some that was told
-record ComeFrom (all : List Tally) (c : ℕ) (entries : List Entry) (t : Tally) : Type 0 where
-  first : Tally
-  there : slice_get all c ≡ Some first
-  is : t ≡ all_counted first entries
+pub record ComeFrom (all : List Tally) (c : ℕ) (entries : List Entry) (t : Tally) : Type 0 where
+  pub first : Tally
+  pub there : slice_get all c ≡ Some first
+  pub is : t ≡ all_counted first entries
 
 come_set : (all : List Tally) (c d : ℕ) (e : Entry) (u t : Tally) → slice_get all d ≡ Some u → slice_get (slice_set all d (counted e u)) c ≡ Some t → ComeFrom all c (if d == c then e ∷ [] else []) t
 come_set all c d e u t there at = by_test (d == c) refl
@@ -104,7 +104,7 @@ come_one (tell.Refused p cause) all c t at = record { first = t; there = at; is 
 come_one (tell.Released p number) all c t at = record { first = t; there = at; is = refl }
 come_one (tell.Passed rounds) all c t at = record { first = t; there = at; is = refl }
 
-come_all : (told : List Told) (all : List Tally) (c : ℕ) (t : Tally) → slice_get (fold heard all told) c ≡ Some t → ComeFrom all c (entries_told c told) t
+pub come_all : (told : List Told) (all : List Tally) (c : ℕ) (t : Tally) → slice_get (fold heard all told) c ≡ Some t → ComeFrom all c (entries_told c told) t
 come_all [] all c t at = record { first = t; there = at; is = refl }
 come_all (x ∷ more) all c t at =
     let later = come_all more (heard all x) c t at in
@@ -128,7 +128,7 @@ many_one (tell.Refused p cause) all = refl
 many_one (tell.Released p number) all = refl
 many_one (tell.Passed rounds) all = refl
 
-many_all : (told : List Told) (all : List Tally) → length (fold heard all told) ≡ length all
+pub many_all : (told : List Told) (all : List Tally) → length (fold heard all told) ≡ length all
 many_all [] all = refl
 many_all (x ∷ more) all = many_all more (heard all x) ∙ many_one x all
 

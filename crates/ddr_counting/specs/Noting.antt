@@ -1,12 +1,16 @@
 -- The statistics of each channel of a core, by what a watcher of its rounds is told.
-use Rattle.std.specs.Prelude.{◌≡◌, ℕ, ◌<◌, if◌then◌else◌, List, [], length, fold, All, IsTrue, Some, slice_get, slice_set}
+use Rattle.std.specs.Prelude.{◌≡◌, ℕ, ◌<◌, if◌then◌else◌, List, [], length, fold, All, IsTrue, Option, Some, None, slice_get, slice_set}
 use Rattle.std.specs.Option.{option_map_or}
 use Rattle.ddr_timing.specs.declared.config.Config.{Config}
 use Rattle.ddr_timing.specs.declared.units.TheConstants.{CLOCK_STOP}
+use Rattle.ddr_trace.specs.declared.command.Command.{Command}
 use Rattle.ddr_trace.specs.declared.command.Entry.{Entry}
+use Rattle.ddr_trace.specs.Commands.{rank_of}
 use Rattle.ddr_trace.specs.Rules.{is_in}
+use Rattle.ddr_statistics.specs.declared.counts.Finding.{Finding}
 use Rattle.ddr_statistics.specs.Debts.{IsInOrder}
-use Rattle.ddr_statistics.specs.Stands.{StandsFor, noted}
+use Rattle.ddr_statistics.specs.Noted.{found_in}
+use Rattle.ddr_statistics.specs.Stands.{StandsFor, noted, rank_at}
 use Rattle.ddr_statistics.specs.Tally.{Tally}
 use Rattle.ddr_rounds.specs.declared.told.Told.{Told}
 use Rattle.ddr_rounds.specs.declared.told.Told.TheVariants as tell
@@ -29,6 +33,13 @@ noted_at c e all = option_map_or (λ t. slice_set all c (counted e t)) (slice_ge
 abbrev pub heard : List Tally → Told → List Tally
 heard all (tell.Issued c i) = noted_at c i.entry all
 heard all _ = all
+
+-- how the next command finds its bank, by what was counted: of a channel, and of the one of this number
+abbrev pub finding_of : Command → Tally → Option Finding
+finding_of command t = if is_in t.geometry command then found_in (rank_at t (rank_of command)) command else None
+
+abbrev pub finding_at : List Tally → ℕ → Command → Option Finding
+finding_at all c command = option_map_or (finding_of command) (slice_get all c) None
 
 -- They are those of a trace so configured, which begins in cycle 0: they stand for it, as its commands lie in the geometry and are
 -- fewer than the cycles that a clock has.

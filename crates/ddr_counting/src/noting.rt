@@ -3,14 +3,15 @@
 //! `ddr_statistics` and `ddr_rounds` stand below, and the crates above this one above.
 ghost use Rattle.std.specs.Prelude.{◌≡◌, ◌≢◌, ◌<◌, IfOk, Some, length, slice_get};
 ghost use Rattle.ddr_timing.specs.declared.units.TheConstants.{CLOCK_STOP};
-ghost use Rattle.ddr_counting.specs.Noting.{AreCounted, AreNew, IsNotedOf, counted, noted_at};
+ghost use Rattle.ddr_counting.specs.Noting.{AreCounted, AreNew, IsNotedOf, counted, finding_at, finding_of, noted_at};
 
 use ddr_channel::channel::Channel;
 use ddr_rounds::told::Told;
 use ddr_rounds::watcher::Watcher;
+use ddr_statistics::counts::Finding;
 use ddr_statistics::statistics::Statistics;
 use ddr_timing::config::Config;
-use ddr_trace::command::Entry;
+use ddr_trace::command::{Command, Entry};
 use std::alloc::{AllocError, Global};
 use std::marker::Model;
 
@@ -62,6 +63,15 @@ impl Noting {
         }
     }
 
+    /// How the next command of the channel of that number finds its bank, by what was counted; `None` where it is no read or write, lies
+    /// outside the geometry, or there is no such channel.
+    pub fn finding_at(&self, channel: u32, command: &Command) -> Option<Finding>
+        ensures { result ≡ finding_at self.entry.now channel command.now }
+    {
+        let statistics = self.statistics.get(channel as usize)?;
+        finding_of(statistics, command)
+    }
+
     /// The statistics of the channel of that number, which is there.
     pub fn at(&self, channel: u32) -> &Statistics
         requires { channel < length self.now }
@@ -88,6 +98,17 @@ fn count(statistics: &mut Statistics, entry: &Entry)
 {
     if entry.command.is_in(statistics.geometry()) {
         statistics.note(entry);
+    }
+}
+
+/// How the next command of a channel with these statistics finds its bank.
+fn finding_of(statistics: &Statistics, command: &Command) -> Option<Finding>
+    ensures { result ≡ finding_of command.now statistics.entry.now }
+{
+    if command.is_in(statistics.geometry()) {
+        statistics.finding(command)
+    } else {
+        None
     }
 }
 
