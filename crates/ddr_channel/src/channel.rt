@@ -10,6 +10,7 @@ ghost use Rattle.ddr_trace.specs.Commands.{is_column};
 ghost use Rattle.ddr_trace.specs.Legality.{IsLegal, IsRefreshed};
 ghost use Rattle.ddr_legality.specs.Bus as bus;
 ghost use Rattle.ddr_refresh.specs.Refreshes.{after_tick};
+ghost use Rattle.ddr_hazards.specs.PendingList.{pending_count};
 ghost use Rattle.ddr_hazards.specs.declared.pending.TheConstants.{RANKS};
 ghost use Rattle.ddr_channel.specs.Choice.{choice_of, policy_of, refreshes_of, situation_of};
 ghost use Rattle.ddr_channel.specs.Cycle.{at_choice, drained, after_cycle};
@@ -447,6 +448,16 @@ impl Channel {
         ensures { IsTrue result ↔ ((self.entry.now.pending ≡ []) × (self.entry.now.flight ≡ []) × (self.entry.now.done ≡ [])) }
     {
         self.pending.is_empty() && self.flight.is_empty() && self.done.is_empty()
+    }
+
+    /// How many requests of this kind are pending: admitted, and their reads or writes not issued yet.
+    pub fn pending(&self, kind: Kind) -> u32
+        ensures { result ≡ pending_count kind self.entry.now.pending }
+    {
+        match kind {
+            Kind::Read => self.pending.reads(),
+            Kind::Write => self.pending.writes(),
+        }
     }
 
     /// The configuration that the channel was opened with.

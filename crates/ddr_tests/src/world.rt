@@ -260,7 +260,11 @@ fn two_ports_share_a_line(rt: HostRuntime) -> Result<(), Fail> {
     let write = Event::Submit(1, Request::write(1, &[255]));
     let report = world.run(&[write, read(0, 3)]);
     assert_eq!(rt; report.refused, 0);
+    assert_eq!(rt; world.waiting(0), Some(2));
+    assert_eq!(rt; world.waiting(1), Some(0));
     make_rounds(&mut world);
+    assert_eq!(rt; world.waiting(0), Some(0));
+    assert!(rt; world.waiting(2).is_none());
     is_lent(&rt, &world, 0, &[0, 255, 0])?;
     is_lent(&rt, &world, 1, &[])?;
     assert!(rt; world.front(2).is_none());

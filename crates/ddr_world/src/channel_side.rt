@@ -1,5 +1,5 @@
 //! A channel with its request queue.
-ghost use Rattle.std.specs.Prelude.{◌≡◌, ◌<◌, ◌≤◌, ◌↔◌, true, false, slice_get, IfErr, IfOk, IsTrue, OnErr, OnOk, Some, Ok, Err};
+ghost use Rattle.std.specs.Prelude.{◌≡◌, ◌<◌, ◌≤◌, ◌↔◌, true, false, length, slice_get, IfErr, IfOk, IsTrue, OnErr, OnOk, Some, Ok, Err};
 ghost use Rattle.std.specs.Option.{option_map};
 ghost use Rattle.ddr_timing.specs.declared.units.TheConstants.{CLOCK_STOP};
 ghost use Rattle.ddr_channel.specs.Kept as kept;
@@ -65,6 +65,13 @@ impl ChannelSide {
             requests: HeapCircularBuffer::with_capacity(alloc, config.limits.intake as usize)?,
             noted: vec![in alloc; false; config.limits.ports as usize]?,
         })
+    }
+
+    /// How many items wait in the request queue.
+    pub(crate) fn waiting(&self) -> usize
+        ensures { result ≡ length self.now.requests }
+    {
+        self.requests.len()
     }
 
     /// Whether the request queue holds as many items as it may.

@@ -440,6 +440,16 @@ impl World {
         Some(self.channels[channel as usize].channel())
     }
 
+    /// How many items were pushed on the request queue of that channel, if there is one, and not taken: requests, and Ends.
+    pub fn waiting(&self, channel: u32) -> Option<usize>
+        ensures { result ≡ option_map (λ side. length side.requests) (slice_get self.now.channels channel) }
+    {
+        if !self.has_channel(channel) {
+            return None;
+        }
+        Some(self.channels[channel as usize].waiting())
+    }
+
     /// Whether nothing is outstanding and nothing is left in a queue or in a channel, and every End was pushed
     /// and taken.
     fn is_drained(&self) -> bool

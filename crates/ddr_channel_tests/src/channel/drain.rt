@@ -58,6 +58,38 @@ fn drain_stays_on_above_the_low_mark(rt: HostRuntime) -> Result<(), Fail> {
     check(&rt, rt.alloc(), &DRAIN_ON)
 }
 
+/// So many reads and writes are pending.
+fn check_pending(rt: &impl Abort, channel: &Channel, reads: u32, writes: u32) {
+    check_eq(rt, "reads", channel.pending(Kind::Read), reads);
+    check_eq(rt, "writes", channel.pending(Kind::Write), writes);
+}
+
+/// The requests of `DRAIN_ON` are pending up to the cycles of their reads and writes: 4, 9, 20 and 27.
+#[test]
+fn requests_are_pending_until_they_are_issued(rt: HostRuntime) -> Result<(), Fail> {
+    let mut channel = open(rt.alloc(), MARKS)?;
+    check_pending(&rt, &channel, 0, 0);
+    let accesses = [
+        Access::Read(192),
+        Access::Write(0, 1, 1),
+        Access::Write(64, 1, 2),
+        Access::Write(128, 1, 3),
+    ];
+    admit_all(rt.alloc(), &mut channel, 0, &accesses)?;
+    check_pending(&rt, &channel, 1, 3);
+    make_cycles(&mut channel, 4)?;
+    check_pending(&rt, &channel, 1, 3);
+    make_cycles(&mut channel, 1)?;
+    check_pending(&rt, &channel, 1, 2);
+    make_cycles(&mut channel, 5)?;
+    check_pending(&rt, &channel, 1, 1);
+    make_cycles(&mut channel, 11)?;
+    check_pending(&rt, &channel, 0, 1);
+    make_cycles(&mut channel, 7)?;
+    check_pending(&rt, &channel, 0, 0);
+    Ok(())
+}
+
 const DRAIN_OFF: Case = Case {
     lines: MARKS,
     turns: &[(
