@@ -2,7 +2,6 @@
 //!
 //! `names`, `ddr_evidence` and `ddr_trace` stand below, and `sentence` above.
 ghost use Rattle.std.specs.Prelude.{◌≡◌, IfOk, Some, string_bytes};
-ghost use Rattle.ddr_trace.specs.Commands.{row_of};
 ghost use Rattle.ddr_explain.specs.Sentences.{bank_text, changed_text, row_text, state_text, state_wanted, wanted_text};
 
 use crate::names::{at_text, clocks_text, label_of};
@@ -113,7 +112,7 @@ fn wanted_text(alloc: Global, rule: Rule, command: &Command) -> Result<String, A
 {
     match rule {
         Rule::Row => {
-            let row = row_of(command);
+            let row = command.row();
             format!(in alloc; "row {row} active")
         }
         _ => String::from_str(alloc, state_wanted(command)),
@@ -128,19 +127,5 @@ fn state_wanted(command: &Command) -> &'static str
         Command::Act { .. } => "an idle bank",
         Command::Refresh { .. } => "every bank of its rank idle",
         _ => "an active bank that no RDA or WRA is to close",
-    }
-}
-
-/// The row, 0 where the command names none.
-fn row_of(command: &Command) -> u32
-    ensures { result ≡ row_of command.now }
-{
-    match *command {
-        Command::Act { row, .. }
-        | Command::Rd { row, .. }
-        | Command::Wr { row, .. }
-        | Command::RdAuto { row, .. }
-        | Command::WrAuto { row, .. } => row,
-        _ => 0,
     }
 }
