@@ -42,21 +42,17 @@ explain_rule = flag_rule (codes "explain")
 abbrev pub all_rule : Rule
 all_rule = flag_rule (codes "all")
 
--- an option of this name, whose value is below 2^32
-abbrev pub number_rule : Text → Rule
-number_rule name = record (new_rule name) {
-  long = Some name;
-  value_names = 1;
-  parser = Some (parser.Signed (pos 0) (pos 4294967295));
-}
+-- an option of this name, with a value
+abbrev pub value_rule : Text → Rule
+value_rule name = record (new_rule name) { long = Some name; value_names = 1 }
 
--- an option of this name, whose value is a cycle, below 2^64
+-- whose value is below 2^32
+abbrev pub number_rule : Text → Rule
+number_rule name = record (value_rule name) { parser = Some (parser.Signed (pos 0) (pos 4294967295)) }
+
+-- whose value is a cycle, below 2^64
 abbrev pub cycle_rule : Text → Rule
-cycle_rule name = record (new_rule name) {
-  long = Some name;
-  value_names = 1;
-  parser = Some (parser.Unsigned 0 18446744073709551615);
-}
+cycle_rule name = record (value_rule name) { parser = Some (parser.Unsigned 0 18446744073709551615) }
 
 -- the option `--trace`
 abbrev pub trace_rule : Rule

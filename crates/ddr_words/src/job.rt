@@ -4,7 +4,7 @@
 ghost use Rattle.std.specs.Prelude.{◌≡◌, ◌≤◌, IfOk, IsTrue, None, Ok, codes, false, length, map, true};
 ghost use Rattle.clap.specs.Words.{app_of, found_of, rows_of, rule_of, with_rule, with_subcommand};
 ghost use Rattle.clap.specs.declared.Command.TheViews.{out-Command as settings_of};
-ghost use Rattle.ddr_words.specs.Job.{Answers, AreTaken, Reads, check_app, check_job, cycle_rule, ddr_app, draw_app, faults_job, flag_rule, format_of, is_subcommand, job_of, job_with, lint_app, lint_job, name_alone, number_rule, picture_of, reading_of, replay_app, replay_job, said_by, told_of, trace_rule, with_capture, with_faults, with_numbers, with_reading, with_sample, with_telling};
+ghost use Rattle.ddr_words.specs.Job.{Answers, AreTaken, Reads, check_app, check_job, cycle_rule, ddr_app, draw_app, faults_job, flag_rule, format_of, is_subcommand, job_of, job_with, lint_app, lint_job, name_alone, number_rule, picture_of, reading_of, replay_app, replay_job, said_by, told_of, trace_rule, value_rule, with_capture, with_faults, with_numbers, with_reading, with_sample, with_telling};
 
 use crate::command::{Job, Picture};
 use crate::help;
@@ -447,11 +447,7 @@ fn number_option<'a>(alloc: Global, name: &'a str, value: &'a str, about: &'a st
     ensures rule { rule_of result ≡ number_rule name.entry.now }
     ensures local { result.global ≡ false }
 {
-    Arg::new(alloc, name)
-        .long(name)
-        .value_name(value)
-        .value_parser(value_parser!(u32))
-        .help(about)
+    value_option(alloc, name, value, about).value_parser(value_parser!(u32))
 }
 
 /// An option of this name, whose value is a cycle, a `u64`.
@@ -459,10 +455,17 @@ fn cycle_option<'a>(alloc: Global, name: &'a str, about: &'a str) -> Arg<'a>
     ensures rule { rule_of result ≡ cycle_rule name.entry.now }
     ensures local { result.global ≡ false }
 {
+    value_option(alloc, name, "CYCLE", about).value_parser(value_parser!(u64))
+}
+
+/// An option of this name, with a value of this name.
+fn value_option<'a>(alloc: Global, name: &'a str, value: &'a str, about: &'a str) -> Arg<'a>
+    ensures rule { rule_of result ≡ value_rule name.entry.now }
+    ensures local { result.global ≡ false }
+{
     Arg::new(alloc, name)
         .long(name)
-        .value_name("CYCLE")
-        .value_parser(value_parser!(u64))
+        .value_name(value)
         .help(about)
 }
 

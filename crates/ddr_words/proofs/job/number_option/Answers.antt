@@ -7,11 +7,7 @@ use Rattle.ddr_words.proofs.job.number_option.Goals as goal
 pub returns-clause-rule : goal.returns-clause-rule
 returns-clause-rule c =
     let given = c.value_parser-2.ensures.given in
-    let named : Rule → Rule = λ r. record r { value_names = 1 } in
-    let long : Rule → Rule = λ r. record r { long = Some c.args.name.now } in
-    ap rule_of c.help.ensures ∙ ap rule_of c.value_parser-2.ensures.others
-    ∙ ap₂ (λ (r : Rule) (q : Option ValueParser). record r { parser = q }) (ap rule_of c.value_name.ensures ∙ ap named (ap rule_of c.long.ensures ∙ ap long c.new.ensures.rule)) (given.1 ∙ ap Some (given.2 ∙ c.value_parser.ensures))
+    ap rule_of c.value_parser-2.ensures.others ∙ ap₂ (λ (r : Rule) (q : Option ValueParser). record r { parser = q }) c.value_option.ensures.rule (given.1 ∙ ap Some (given.2 ∙ c.value_parser.ensures))
 
 pub returns-clause-local : goal.returns-clause-local
-returns-clause-local c =
-    ap (λ (a : Arg). a.global) c.help.ensures ∙ ap (λ (a : Arg). a.global) c.value_parser-2.ensures.others ∙ ap (λ (a : Arg). a.global) c.value_name.ensures ∙ ap (λ (a : Arg). a.global) c.long.ensures ∙ c.new.ensures.optional.1
+returns-clause-local c = ap (λ (a : Arg). a.global) c.value_parser-2.ensures.others ∙ c.value_option.ensures.local
