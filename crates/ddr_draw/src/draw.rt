@@ -9,6 +9,7 @@ ghost use Rattle.ddr_draw.specs.Part.{AreLanes, HasDrawFault, HasWholeFault, IsD
 ghost use Rattle.ddr_draw.specs.Waves.{waves_text};
 
 use crate::part::{part_text, picture_of, view_of};
+use crate::view::Asked;
 use crate::waves::waves_text;
 use ddr_text::check::read_checked;
 use ddr_text::fault::Fault;
@@ -98,7 +99,7 @@ pub fn lanes<R: Source, W: Sink>(
     ensures written { IfOk result (λ _. IfSome (R.remaining reader.old) (λ input.
         AreLanes sample PROFILE_S.now input from to (W.contents writer.old) (W.contents writer.new))) }
 {
-    let text = lanes_text(alloc, sample, from, to, reader)?;
+    let text = lanes_text(alloc, sample, Asked { from, to }, reader)?;
     write_whole(writer, text.as_str())?;
     Ok(())
 }
@@ -107,21 +108,20 @@ pub fn lanes<R: Source, W: Sink>(
 fn lanes_text<R: Source>(
     alloc: Global,
     sample: bool,
-    from: Option<u64>,
-    to: Option<u64>,
+    asked: Asked,
     reader: &mut R,
 ) -> Result<String, Fault>
     ensures sure { IsErrOf result Fault.Read → IsTrue R.may_fail }
     ensures unwritten { ¬ IsErrOf result Fault.Write }
     ensures fault { IfErr result (λ fault. IfSome (R.remaining reader.old) (λ input.
-        HasDrawFault sample PROFILE_S.now input from to fault)) }
+        HasDrawFault sample PROFILE_S.now input asked.from asked.to fault)) }
     ensures said { IfOk result (λ text. IfSome (R.remaining reader.old) (λ input.
-        IsDrawnText sample PROFILE_S.now input from to (string_bytes text))) }
+        IsDrawnText sample PROFILE_S.now input asked.from asked.to (string_bytes text))) }
 {
-    if from.is_none() && to.is_none() {
+    if asked.from.is_none() && asked.to.is_none() {
         whole_text(alloc, sample, reader)
     } else {
-        part_text(alloc, sample, from, to, reader)
+        part_text(alloc, sample, asked, reader)
     }
 }
 

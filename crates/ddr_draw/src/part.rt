@@ -13,7 +13,7 @@ use crate::joined::{Joined, Start, read_start};
 use crate::lanes::picture_text;
 use crate::long::read_long;
 use crate::sketch::Sketch;
-use crate::view::View;
+use crate::view::{Asked, View};
 use ddr_capture::feed::Feed;
 use ddr_capture::front::read_config;
 use ddr_text::check::read_checked;
@@ -29,24 +29,23 @@ use std::alloc::{AllocError, Global};
 pub(crate) fn part_text<R: Source>(
     alloc: Global,
     sample: bool,
-    from: Option<u64>,
-    to: Option<u64>,
+    asked: Asked,
     reader: &mut R,
 ) -> Result<String, Fault>
     ensures sure { IsErrOf result Fault.Read → IsTrue R.may_fail }
     ensures unwritten { ¬ IsErrOf result Fault.Write }
     ensures fault { IfErr result (λ fault. IfSome (R.remaining reader.old) (λ input. HasPartFault sample PROFILE_S.now input fault)) }
-    ensures said { IfOk result (λ text. IfSome (R.remaining reader.old) (λ input. IsPartText sample PROFILE_S.now input from to (string_bytes text))) }
+    ensures said { IfOk result (λ text. IfSome (R.remaining reader.old) (λ input. IsPartText sample PROFILE_S.now input asked.from asked.to (string_bytes text))) }
 {
     let start = read_start(alloc, reader)?;
-    match start_text(alloc, sample, from, to, &start)? {
+    match start_text(alloc, sample, asked, &start)? {
         Some(text) => Ok(text),
         None => {
             let mut joined = Joined {
                 start: start.bytes.as_slice(),
                 reader,
             };
-            long_text(alloc, sample, from, to, &mut joined)
+            long_text(alloc, sample, asked, &mut joined)
         }
     }
 }
@@ -55,8 +54,7 @@ pub(crate) fn part_text<R: Source>(
 fn start_text(
     alloc: Global,
     sample: bool,
-    from: Option<u64>,
-    to: Option<u64>,
+    asked: Asked,
     start: &Start,
 ) -> Result<Option<String>, Fault>
     requires { start.now.is_whole ≡ true → length start.now.bytes.items ≤ LONGEST_INPUT }
@@ -64,13 +62,13 @@ fn start_text(
     ensures unwritten { ¬ IsErrOf result Fault.Write }
     ensures fault { IfErr result (λ fault. (old new : Option (List ℕ)) → IsStart old start.now new → IfSome old (λ input. HasPartFault sample PROFILE_S.now input fault)) }
     ensures some { IfOk result (λ told. IfSome told (λ text. (old new : Option (List ℕ)) → IsStart old start.now new
-        → IfSome old (λ input. IsPartText sample PROFILE_S.now input from to (string_bytes text)))) }
+        → IfSome old (λ input. IsPartText sample PROFILE_S.now input asked.from asked.to (string_bytes text)))) }
     ensures none { IfOk result (λ told. IfNone told ((old new : Option (List ℕ)) → IsStart old start.now new → IfSome old (IsLong sample PROFILE_S.now))) }
 {
     if !start.is_whole {
         return Ok(None);
     }
-    match short_text(alloc, sample, from, to, start.bytes.as_slice()) {
+    match short_text(alloc, sample, asked, start.bytes.as_slice()) {
         Ok(text) => Ok(Some(text)),
         Err(Fault::TraceTooLong) => Ok(None),
         Err(fault) => Err(fault),
@@ -78,23 +76,17 @@ fn start_text(
 }
 
 /// The picture of these cycles of a trace that `check` reads. Fails as `check` does.
-fn short_text(
-    alloc: Global,
-    sample: bool,
-    from: Option<u64>,
-    to: Option<u64>,
-    input: &[u8],
-) -> Result<String, Fault>
+fn short_text(alloc: Global, sample: bool, asked: Asked, input: &[u8]) -> Result<String, Fault>
     requires { length input.now ≤ LONGEST_INPUT }
     ensures sure { ¬ IsErrOf result Fault.Read }
     ensures short { ¬ IsErrOf result Fault.InputTooLong }
     ensures unwritten { ¬ IsErrOf result Fault.Write }
     ensures fault { IfErr result (λ fault. HasCheckFault sample PROFILE_S.now input.now fault) }
-    ensures said { IfOk result (λ text. IsShortText sample PROFILE_S.now input.now from to (string_bytes text)) }
+    ensures said { IfOk result (λ text. IsShortText sample PROFILE_S.now input.now asked.from asked.to (string_bytes text)) }
 {
     let mut reader = input;
     let (config, trace) = read_checked(alloc, sample, &mut reader)?;
-    let view = view_of(&trace, from, to);
+    let view = view_of(&trace, asked.from, asked.to);
     let text = picture_of(alloc, &config, &view, &trace)?;
     Ok(text)
 }
@@ -122,20 +114,19 @@ pub(crate) fn picture_of(
 fn long_text<R: Source>(
     alloc: Global,
     sample: bool,
-    from: Option<u64>,
-    to: Option<u64>,
+    asked: Asked,
     reader: &mut R,
 ) -> Result<String, Fault>
     ensures sure { IsErrOf result Fault.Read → IsTrue R.may_fail }
     ensures unwritten { ¬ IsErrOf result Fault.Write }
     ensures fault { IfErr result (λ fault. IfSome (R.remaining reader.old) (λ input. HasLongFault sample PROFILE_S.now input fault)) }
-    ensures said { IfOk result (λ text. IfSome (R.remaining reader.old) (λ input. IsLongText sample PROFILE_S.now input from to (string_bytes text))) }
+    ensures said { IfOk result (λ text. IfSome (R.remaining reader.old) (λ input. IsLongText sample PROFILE_S.now input asked.from asked.to (string_bytes text))) }
 {
     let mut feed = Feed::new(alloc);
     let config = read_config(alloc, sample, &mut feed, reader)?;
-    let mut sketch = Sketch::new(alloc, View::new(0, u64::MAX, from, to));
+    let mut sketch = Sketch::new(alloc, View::new(0, u64::MAX, asked.from, asked.to));
     let end = read_long(alloc, &config, &mut feed, reader, &mut sketch)?;
-    let view = View::new(0, end, from, to);
+    let view = View::new(0, end, asked.from, asked.to);
     let text = sketch.picture_text(alloc, &config, &view)?;
     Ok(text)
 }

@@ -33,6 +33,6 @@ returns-clause-said g c =
     let config = c.in_ok-config.config in
     let view = c.new-view.result in
     let trace : Recorded = record { start = 0; end = c.in_ok-end.end; entries = read.0 } in
-    let inside = within view c.new.result c.in_ok-end.end c.args.from c.args.to c.new-view.ensures.first c.new-view.ensures.last c.new.ensures.first c.new.ensures.last in
+    let inside = within view c.new.result c.in_ok-end.end c.args.asked.from c.args.asked.to c.new-view.ensures.first c.new-view.ensures.last c.new.ensures.first c.new.ensures.last in
     let told = c.in_ok-text.ensures ∙ pictured config c.read_long.new.sketch read.0 view (rw (c.in_ok-end.ensures.view, c.new-sketch.ensures.view) inside) read.1 in
-    long_pictured c.args.sample PROFILE_S.now (g.R.Read.remaining c.args.reader.now) _ config trace c.args.from c.args.to view _ (rw all at c.in_ok-config.ensures.opened) read.2 (record { first = c.new-view.ensures.first; last = c.new-view.ensures.last }) told
+    long_pictured c.args.sample PROFILE_S.now (g.R.Read.remaining c.args.reader.now) _ config trace c.args.asked.from c.args.asked.to view _ (rw all at c.in_ok-config.ensures.opened) read.2 (record { first = c.new-view.ensures.first; last = c.new-view.ensures.last }) told
