@@ -1,10 +1,10 @@
 -- What becomes of all requests that are left, from step to step.
-use Rattle.std.proofs.Common.{◌≡◌, ℕ, true, false, Option, None, Some, IfSome, Result, Ok, Err, refl, sym, subst, ◌∙◌}
+use Rattle.std.proofs.Common.{◌≡◌, ℕ, true, false, Option, None, Some, IfSome, Result, Ok, Err, refl, sym, ap, subst, ◌∙◌}
 use Rattle.ddr_timing.specs.declared.config.Config.{Config}
 use Rattle.ddr_text.specs.declared.fault.Fault.{Fault}
 use Rattle.ddr_text.specs.declared.fault.Fault.TheVariants as faults
-use Rattle.ddr_stream.specs.Waiting.{All, IsSaidFault, IsSame}
-use Rattle.ddr_replay.specs.Ahead.{Carries, IsCutOff, IsEnded, IsReplayFault, IsStopped, LeadsAlike, is_of_run}
+use Rattle.ddr_stream.specs.Waiting.{All, IsSaidFault, IsSame, IsStreamFault}
+use Rattle.ddr_replay.specs.Ahead.{Carries, IsCutOff, IsEnded, IsReplayFault, IsStopped, IsTurnFault, LeadsAlike, is_of_run}
 use Rattle.ddr_replay.specs.View.{IsRunFault, Replay}
 
 abbrev Known : Type 0
@@ -78,14 +78,6 @@ carries_known P (Some (Ok all)) b so known = (all, so.0, refl, so.2)
 
 module _ (config : Config) where
   -- a fault of the lines stops them
-  pub stopped_said : (left : ℕ) (old : Replay) (fault : Fault) (a b : Known) → IsSaidFault fault a → IsStopped config left old fault a b
-  stopped_said left old (faults.ReplayLine line cause) a b is = is
-  stopped_said left old (faults.ReplayRange line) a b is = is
-  stopped_said left old faults.InputTooLong a b is = is
-  stopped_said left old faults.Read a b is = tt
-  stopped_said left old faults.OutOfMemory a b is = tt
-  stopped_said left old _ a b is = absurd is
-
   cut_alike : (left behind : ℕ) (old mid : Replay) (fault : Fault) (x y z : All) → LeadsAlike config left behind old mid x y → IsCutOff config behind mid fault y → IsCutOff config left old fault x
   cut_alike left behind old mid fault x y z alike cut = subst (IsRunFault config fault) (sym alike.run) cut
 
@@ -95,6 +87,7 @@ module _ (config : Config) where
   stopped_on left behind old mid (faults.ReplayRange line) a b d led is = carries_fault (λ all next. LeadsAlike config left behind old mid all next) a b (faults.ReplayRange line) led is
   stopped_on left behind old mid faults.InputTooLong a b d led is = carries_fault (λ all next. LeadsAlike config left behind old mid all next) a b faults.InputTooLong led is
   stopped_on left behind old mid faults.Read a b d led is = tt
+  stopped_on left behind old mid faults.Write a b d led is = tt
   stopped_on left behind old mid faults.OutOfMemory a b d led is = tt
   stopped_on left behind old mid fault a b d led is =
       carries_on (λ all next. LeadsAlike config left behind old mid all next) (λ all next. IsCutOff config behind mid fault all) (λ all next. IsCutOff config left old fault all) a b d led is
@@ -106,6 +99,7 @@ ended_run config left old (faults.ReplayLine line cause) a b is known = is
 ended_run config left old (faults.ReplayRange line) a b is known = is
 ended_run config left old faults.InputTooLong a b is known = is
 ended_run config left old faults.Read a b is known = tt
+ended_run config left old faults.Write a b is known = tt
 ended_run config left old faults.OutOfMemory a b is known = tt
 ended_run config left old fault a b is known = before a (carries_known (λ all next. IsCutOff config left old fault all) a b is known)
   where
@@ -119,6 +113,7 @@ ended_other config left old (faults.ReplayLine line cause) a b other kind is = i
 ended_other config left old (faults.ReplayRange line) a b other kind is = is
 ended_other config left old faults.InputTooLong a b other kind is = is
 ended_other config left old faults.Read a b other kind is = tt
+ended_other config left old faults.Write a b other kind is = tt
 ended_other config left old faults.OutOfMemory a b other kind is = tt
 ended_other config left old faults.ReplayLimit a b other kind is = absurd (let impossible = other in cc)
 ended_other config left old (faults.ReplayStuck cycle) a b other kind is = absurd (let impossible = other in cc)
@@ -139,3 +134,31 @@ ended_first config left old faults.ReplayLimit first a b own is said = said_firs
 ended_first config left old (faults.ReplayStuck cycle) first a b own is said = said_first config left old first a (carries_fault (λ all next. IsCutOff config left old (faults.ReplayStuck cycle) all) a b first is said)
 ended_first config left old faults.ClockSpent first a b own is said = said_first config left old first a (carries_fault (λ all next. IsCutOff config left old faults.ClockSpent all) a b first is said)
 ended_first config left old _ first a b own is said = absurd (let impossible = own in cc)
+
+-- ---- faults of writing
+
+pub turn_is_replay : (fault : Fault) → IsTurnFault fault → IsReplayFault fault
+turn_is_replay (faults.ReplayLine line cause) kind = tt
+turn_is_replay (faults.ReplayRange line) kind = tt
+turn_is_replay faults.InputTooLong kind = tt
+turn_is_replay faults.Read kind = tt
+turn_is_replay faults.OutOfMemory kind = tt
+turn_is_replay faults.ReplayLimit kind = tt
+turn_is_replay faults.ClockSpent kind = tt
+turn_is_replay _ kind = absurd kind
+
+-- no turn ends by one, and no line is at fault so
+pub turn_writes_nothing : (fault : Fault) → IsTurnFault fault → fault ≡ faults.Write → ⊥
+turn_writes_nothing fault kind write = subst IsTurnFault write kind
+
+pub line_writes_nothing : (fault : Fault) → IsStreamFault fault → fault ≡ faults.Write → ⊥
+line_writes_nothing fault kind write = subst IsStreamFault write kind
+
+pub run_writes_nothing : (fault : Fault) → is_of_run fault ≡ true → fault ≡ faults.Write → ⊥
+run_writes_nothing fault own write = absurd (let impossible : false ≡ true = sym (ap is_of_run write) ∙ own in cc)
+
+-- a result that is this fault is no other
+pub same_fault : (r : Result (Unit {0}) Fault) (fault other : Fault) → r ≡ Err fault → r ≡ Err other → fault ≡ other
+same_fault r fault other one two =
+    let both : ◌≡◌ {A = Result (Unit {0}) Fault} (Err fault) (Err other) = sym one ∙ two in
+    cc

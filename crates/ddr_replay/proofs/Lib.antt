@@ -1,6 +1,6 @@
+mod ActivityLemmas
 mod AheadLemmas
-mod DrainLemmas
-mod FoundLemmas
+pub mod BooksLemmas
 mod NumberLemmas
 mod PortLemmas
 mod QuietLemmas
@@ -10,6 +10,9 @@ pub mod RoundLemmas
 mod RunLemmas
 mod SubmitLemmas
 mod TakenLemmas
+mod TellingLemmas
+mod ToldLemmas
 mod TurnLemmas
 mod WaitLemmas
 mod WaitedLemmas
+mod WholeLemmas

@@ -9,7 +9,6 @@ use Rattle.ddr_channel.specs.Kept as channel_kept
 use Rattle.ddr_world.specs.Kept.{Kept, KeptSide, side_of, state_of}
 use Rattle.ddr_world.specs.State.{ChannelSide, State}
 use Rattle.ddr_replay.specs.declared.numbers.Numbers.{Numbers}
-use Rattle.ddr_rounds.specs.Drains.{is_draining}
 use Rattle.ddr_replay.specs.Numbers.{IsCounted, is_spent, no_numbers, numbers_at, numbers_in}
 use Rattle.ddr_replay.specs.Places.{channel_places, places_at}
 use Rattle.ddr_text.specs.declared.fault.Fault.{Fault}
@@ -39,11 +38,6 @@ places_there w c k is =
     ap (λ o. option_map_or (λ (side : ChannelSide). channel_places side.channel.config c side.channel.now side.channel.trace) o []) (slice_get-map side_of w.channels c)
     ∙ over (λ (side : ChannelSide). channel_places side.channel.config c side.channel.now side.channel.trace) c k [] (slice_get w.channels c) (λ (x : channel_kept.Kept). channel_places x.config c x.now x.trace) (λ side. refl) is
 
-pub draining_there : (w : Kept) (c : ℕ) (k : channel_kept.Kept) → Some k ≡ option_map (λ (side : KeptSide). side.channel) (slice_get w.channels c) → is_draining (state_of w) c ≡ k.drain
-draining_there w c k is =
-    ap (λ o. option_map_or (λ (side : ChannelSide). side.channel.drain) o false) (slice_get-map side_of w.channels c)
-    ∙ over (λ (side : ChannelSide). side.channel.drain) c k false (slice_get w.channels c) (λ (x : channel_kept.Kept). x.drain) (λ side. refl) is
-
 -- one that is not
 
 beside : {X : Type 0} (f : ChannelSide → X) (d : X) (o : Option KeptSide) → None ≡ option_map (λ (side : KeptSide). side.channel) o → option_map_or f (option_map side_of o) d ≡ d
@@ -62,10 +56,6 @@ pub places_absent : (w : Kept) (c : ℕ) → None ≡ option_map (λ (side : Kep
 places_absent w c is =
     ap (λ o. option_map_or (λ (side : ChannelSide). channel_places side.channel.config c side.channel.now side.channel.trace) o []) (slice_get-map side_of w.channels c)
     ∙ beside (λ (side : ChannelSide). channel_places side.channel.config c side.channel.now side.channel.trace) [] (slice_get w.channels c) is
-
-pub draining_absent : (w : Kept) (c : ℕ) → None ≡ option_map (λ (side : KeptSide). side.channel) (slice_get w.channels c) → is_draining (state_of w) c ≡ false
-draining_absent w c is =
-    ap (λ o. option_map_or (λ (side : ChannelSide). side.channel.drain) o false) (slice_get-map side_of w.channels c) ∙ beside (λ (side : ChannelSide). side.channel.drain) false (slice_get w.channels c) is
 
 -- a test of numbers one after another
 

@@ -1,5 +1,5 @@
 -- One request after another is submitted, until one has to wait.
-use Rattle.std.proofs.Common.{◌≡◌, ◌≢◌, ◌<◌, ◌≤◌, ◌⊎◌, ◌+◌, ℕ, zero, suc, Bool, true, false, cond, List, [], ◌∷◌, Option, None, Some, Result, Ok, Err, IfSome, inl, inr, length, drop, refl, sym, ap, subst, ◌∙◌, arith}
+use Rattle.std.proofs.Common.{◌≡◌, ◌≢◌, ◌<◌, ◌≤◌, ◌⊎◌, ◌+◌, ℕ, zero, suc, Bool, true, false, cond, List, [], ◌∷◌, Option, None, Some, Result, Ok, Err, IfSome, inl, inr, length, drop, refl, sym, ap, ap₂, subst, ◌∙◌, arith}
 use Rattle.std.specs.Prelude.{nat_lt}
 use Rattle.std.specs.Option.{option_map_or}
 use Rattle.std.specs.List.{slice_get, slice_set}
@@ -253,6 +253,19 @@ led_end p round until before old s ledger t after w more (Some (Ok all)) sized w
     let is = led.2 in
     let last = ends is.rest (left_first w more all next p is.rest sized within knows is.queues led.1) in
     (next, led.1, record { requests = is.requests; rest = is.rest; queues = is.queues; submitted = sym is.led ∙ last.0; waits = last.1 })
+
+-- a request is refused, and the port submits no more
+pub led_refused : (p round until : ℕ) (before : State) (old : Ledger) (s : State) (ledger : Ledger) (t : State) (after : Ledger) (w : Waiting) (more : Option (List ℕ)) (a : Known) (ask : Ask) (cause : Refusal) → IsSized w → p < w.config.limits.ports → Knows w p
+    → Carries (Leading p round before old s ledger) a (all_in w more)
+    → Some ask ≡ slice_get (queue_at w.queues p) 0 → ask.at ≤ round → step s (Submit p (asked_by ask)) ≡ Err cause → t ≡ s → after ≡ with_wait p cause ledger
+    → ((rest : List Ask) → Some ask ≡ slice_get rest 0 → IsWaiting p until round rest t)
+    → Carries (λ all next. IsSubmitted p round until before old t after all next) a (all_in w more)
+led_refused p round until before old s ledger t after w more a ask cause sized within knows led first come refused same waited waiting =
+    led_end p round until before old s ledger t after w more a sized within knows led
+    (λ rest here. (
+      submitted_refused p round rest ask s ledger cause (first ∙ sym here) come refused ∙ ap₂ (λ (x : State) (l : Ledger). stays x l rest) (sym same) (sym waited),
+      waiting rest (first ∙ sym here),
+    ))
 
 -- one request more was submitted
 pub led_on : (p round : ℕ) (before : State) (old : Ledger) (s : State) (ledger : Ledger) (t : State) (after : Ledger) (w : Waiting) (more : Option (List ℕ)) (a : Known) (ask : Ask) → IsSized w → p < w.config.limits.ports → Some ask ≡ slice_get (queue_at w.queues p) 0

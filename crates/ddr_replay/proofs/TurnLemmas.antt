@@ -10,20 +10,20 @@ use Rattle.ddr_world.specs.State.{State}
 use Rattle.ddr_text.specs.declared.fault.Fault.{Fault}
 use Rattle.ddr_text.specs.declared.fault.Fault.TheVariants as faults
 use Rattle.ddr_rounds.specs.Rounds.{channels_served}
-use Rattle.ddr_rounds.specs.Drains.{is_draining}
 use Rattle.ddr_stream.specs.declared.ask.Ask.{Ask}
 use Rattle.ddr_stream.specs.Stream.{Queues, queue_at}
 use Rattle.ddr_stream.specs.Waiting.{All, IsAhead, IsSized, Waiting, all_in}
 use Rattle.ddr_stream.proofs.AllLemmas.{all_first, all_least, all_sized}
 use Rattle.ddr_replay.specs.Ahead.{AreAllSubmitted, Carries, IsCutOff, IsStopped, Leads, LeadsAlike}
 use Rattle.ddr_replay.specs.declared.order.Asking.{Asking}
-use Rattle.ddr_replay.specs.Drains.{all_drained}
+use Rattle.ddr_replay.specs.Activities.{all_acted}
+use Rattle.ddr_replay.specs.Activity.{seen_at}
 use Rattle.ddr_replay.specs.Ledgers.{Ledger}
 use Rattle.ddr_replay.specs.Runs.{Run, all_submitted, replayed, round_made, unserved}
 use Rattle.ddr_replay.specs.View.{IsCycleFault, Replay, run_of, whole_run}
 use Rattle.ddr_replay.specs.Waits.{AreQuiet, all_full, come_of, has_come}
 use Rattle.ddr_replay.proofs.AheadLemmas.{carries_same, carries_with, same_itself}
-use Rattle.ddr_replay.proofs.QuietLemmas.{replayed_limit, turn_failed, turn_made, turns_passed}
+use Rattle.ddr_replay.proofs.QuietLemmas.{replayed_limit, turn_failed, turn_made, turn_reached, turns_passed, turns_reached}
 use Rattle.ddr_replay.proofs.RoundLemmas.{all_count}
 use Rattle.ddr_replay.proofs.WaitedLemmas.{all_alike}
 
@@ -78,40 +78,46 @@ made_on : (old ready new : Replay) (all next : All) → IsReady old ready → Is
     → LeadsAlike old.config (MOST - old.round) (MOST - new.round) old new all next
 made_on old ready new all next is busy led made some behind =
     let one : MOST - old.round ≡ suc (MOST - new.round) = omega (arith, is.round, some, behind) in
+    let round_is = ap (λ (r : Run). round_made old.config r) led.run ∙ ap (λ (k : Config). round_made k (whole_run ready next.queues)) (sym is.config) ∙ made in
     record {
       requests = led.requests;
-      run = turn_made old.config (MOST - old.round) (MOST - new.round) (whole_run old all.queues) (whole_run new next.queues) one busy.some
-          (ap (λ (r : Run). round_made old.config r) led.run ∙ ap (λ (k : Config). round_made k (whole_run ready next.queues)) (sym is.config) ∙ made);
+      run = turn_made old.config (MOST - old.round) (MOST - new.round) (whole_run old all.queues) (whole_run new next.queues) one busy.some round_is;
+      many = 1;
+      turns = turn_reached old.config (whole_run old all.queues) (whole_run new next.queues) round_is;
     }
 
 -- so many quiet ones were
 passed_on : (old ready new : Replay) (count until : ℕ) (all next : All) → IsReady old ready → IsBusy old all → AreAllSubmitted old.config until old ready all next → 0 < count → AreQuiet ready.config count (state_of ready.world) → ready.round + count ≤ until → count ≤ MOST - ready.round
     → ((p : ℕ) → p < old.config.limits.ports → come_of ready.round ready.stream.queues p ≡ come_of ready.round next.queues p)
-    → new.asking ≡ ready.asking → state_of new.world ≡ passed count (state_of ready.world) → new.round ≡ ready.round + count → new.ledger ≡ all_drained count (is_draining (state_of new.world)) ready.config.geometry.channels (all_full (count - 1) (come_of ready.round ready.stream.queues) ready.config.limits.ports ready.ledger)
+    → new.asking ≡ ready.asking → state_of new.world ≡ passed count (state_of ready.world) → new.round ≡ ready.round + count → new.ledger ≡ all_acted count (seen_at (state_of new.world)) ready.config.geometry.channels (all_full (count - 1) (come_of ready.round ready.stream.queues) ready.config.limits.ports ready.ledger)
     → LeadsAlike old.config (MOST - old.round) (MOST - new.round) old new all next
 passed_on old ready new zero until all next is busy led some are within most alike asking state round ledger = absurd (omega (arith, some))
 passed_on old ready new (suc k) until all next is busy led some are within most alike asking state round ledger =
     let ports = old.config.limits.ports in
     let read = come_of ready.round ready.stream.queues in
     let come = come_of ready.round next.queues in
-    let counted : State → Ledger = λ s. all_drained (suc k) (is_draining s) old.config.geometry.channels (all_full k come ports ready.ledger) in
+    let counted : State → Ledger = λ s. all_acted (suc k) (seen_at s) old.config.geometry.channels (all_full k come ports ready.ledger) in
     let after = counted (passed (suc k) (state_of ready.world)) in
     let one_less : suc k - 1 ≡ k = omega arith in
     let ledger_is : new.ledger ≡ after =
     ledger
-    ∙ ap (λ n. all_drained (suc k) (is_draining (state_of new.world)) ready.config.geometry.channels (all_full n read ready.config.limits.ports ready.ledger)) one_less
-    ∙ ap (λ (c : Config). all_drained (suc k) (is_draining (state_of new.world)) c.geometry.channels (all_full k read c.limits.ports ready.ledger)) is.config
-    ∙ ap (all_drained (suc k) (is_draining (state_of new.world)) old.config.geometry.channels) (all_alike k ports read come ready.ledger alike)
+    ∙ ap (λ n. all_acted (suc k) (seen_at (state_of new.world)) ready.config.geometry.channels (all_full n read ready.config.limits.ports ready.ledger)) one_less
+    ∙ ap (λ (c : Config). all_acted (suc k) (seen_at (state_of new.world)) c.geometry.channels (all_full k read c.limits.ports ready.ledger)) is.config
+    ∙ ap (all_acted (suc k) (seen_at (state_of new.world)) old.config.geometry.channels) (all_alike k ports read come ready.ledger alike)
     ∙ ap counted state in
     let all_left : MOST - old.round ≡ suc ((MOST - new.round) + k) = omega (arith, is.round, most, round) in
     let still = still_busy old.config (whole_run old all.queues) (whole_run ready next.queues) (omega (arith, busy.size)) led.leads.run busy.some in
+    let quiet = subst (λ (c : Config). AreQuiet c (suc k) (state_of ready.world)) is.config are in
+    let last_is : record { asking = ready.asking; state = passed (suc k) (state_of ready.world); queues = next.queues; ledger = after; round = ready.round + suc k } ≡ whole_run new next.queues =
+    ap (λ (s : State). record { asking = ready.asking; state = s; queues = next.queues; ledger = after; round = ready.round + suc k }) (sym state)
+    ∙ ap₂ (λ (a : Asking) (r : ℕ). record { asking = a; state = state_of new.world; queues = next.queues; ledger = after; round = r }) (sym asking) (sym round)
+    ∙ ap (λ (l : Ledger). record { asking = new.asking; state = state_of new.world; queues = next.queues; ledger = l; round = new.round }) (sym ledger_is) in
     record {
       requests = led.leads.requests;
-      run = turns_passed old.config (MOST - old.round) (MOST - new.round) k until (whole_run old all.queues) (whole_run ready next.queues) all_left busy.some still (sym led.leads.run)
-          (subst (λ (c : Config). AreQuiet c (suc k) (state_of ready.world)) is.config are) led.waits within
-          ∙ ap (λ (s : State). replayed old.config (MOST - new.round) (record { asking = ready.asking; state = s; queues = next.queues; ledger = after; round = ready.round + suc k })) (sym state)
-          ∙ ap₂ (λ (a : Asking) (r : ℕ). replayed old.config (MOST - new.round) (record { asking = a; state = state_of new.world; queues = next.queues; ledger = after; round = r })) (sym asking) (sym round)
-          ∙ ap (λ (l : Ledger). replayed old.config (MOST - new.round) (record { asking = new.asking; state = state_of new.world; queues = next.queues; ledger = l; round = new.round })) (sym ledger_is);
+      run = turns_passed old.config (MOST - old.round) (MOST - new.round) k until (whole_run old all.queues) (whole_run ready next.queues) all_left busy.some still (sym led.leads.run) quiet led.waits within
+          ∙ ap (λ (r : Run). replayed old.config (MOST - new.round) r) last_is;
+      many = suc k;
+      turns = turns_reached old.config k until (whole_run old all.queues) (whole_run ready next.queues) still (sym led.leads.run) quiet led.waits within ∙ ap (λ (r : Run). Some r) last_is;
     }
 
 -- ---- of all requests, where those are known
@@ -129,7 +135,7 @@ module _ (old ready : Replay) (until : ℕ) (before behind : Option (List ℕ)) 
   -- quiet rounds were made
   pub passed_turn : (new : Replay) (count : ℕ) → AreReady → IsReady old ready → IsSized old.stream → old.stream.config ≡ old.config → (unserved (run_of old) == 0) ≡ false → IsSized ready.stream → ready.stream.config ≡ ready.config → IsAhead ready.stream
       → 0 < count → AreQuiet ready.config count (state_of ready.world) → ready.round + count ≤ until → count ≤ MOST - ready.round
-      → new.asking ≡ ready.asking → state_of new.world ≡ passed count (state_of ready.world) → new.round ≡ ready.round + count → new.stream ≡ ready.stream → new.ledger ≡ all_drained count (is_draining (state_of new.world)) ready.config.geometry.channels (all_full (count - 1) (come_of ready.round ready.stream.queues) ready.config.limits.ports ready.ledger)
+      → new.asking ≡ ready.asking → state_of new.world ≡ passed count (state_of ready.world) → new.round ≡ ready.round + count → new.stream ≡ ready.stream → new.ledger ≡ all_acted count (seen_at (state_of new.world)) ready.config.geometry.channels (all_full (count - 1) (come_of ready.round ready.stream.queues) ready.config.limits.ports ready.ledger)
       → Carries (Alike new) (all_in old.stream before) (all_in new.stream behind)
   passed_turn new count led is sized config busy ready_sized ready_config ahead some are within most asking state round stream ledger =
       let ports_are : ready.stream.config.limits.ports ≡ old.config.limits.ports = ap (λ (c : Config). c.limits.ports) (ready_config ∙ is.config) in

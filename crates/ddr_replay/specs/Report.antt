@@ -5,11 +5,18 @@ use Rattle.ddr_timing.specs.declared.config.Config.{Config}
 use Rattle.ddr_statistics.specs.Text.{counts_text, line}
 use Rattle.ddr_replay.specs.declared.numbers.Numbers.{Numbers}
 use Rattle.ddr_stream.specs.declared.requests.Requests.{Requests}
+use Rattle.ddr_replay.specs.declared.rows.RowCounts.{RowCounts}
+use Rattle.ddr_replay.specs.declared.rows.Rows.{Rows}
 use Rattle.ddr_replay.specs.declared.waited.Waited.{Waited}
-use Rattle.ddr_replay.specs.Drains.{drains_together}
+use Rattle.ddr_measure.specs.Text.{thousandths}
+use Rattle.ddr_replay.specs.declared.activity.Activity.{Activity}
+use Rattle.ddr_replay.specs.declared.activity.Held.{Held}
+use Rattle.ddr_replay.specs.Activities.{drains_together}
+use Rattle.ddr_replay.specs.Activity.{mean_of, no_activity}
 use Rattle.ddr_replay.specs.Ledgers.{Ledger}
 use Rattle.ddr_replay.specs.Places.{debt_line, places_tables}
 use Rattle.ddr_replay.specs.Numbers.{many, numbers_of, together}
+use Rattle.ddr_replay.specs.Rows.{all_rows, no_rows}
 use Rattle.ddr_replay.specs.Runs.{Run}
 use Rattle.ddr_replay.specs.TimesReport.{ledger_tables}
 use Rattle.ddr_replay.specs.Waited.{all_waited, no_wait}
@@ -24,33 +31,57 @@ requests_lines requests = line (codes "read_requests = ") requests.reads (line (
 unfoldable pub waited_lines : Waited → List ℕ
 waited_lines waited = line (codes "waited_for_window = ") waited.window (line (codes "waited_for_queue = ") waited.queue [])
 
+-- how those of one kind found their banks, and reads and writes
+unfoldable pub counts_lines : List ℕ → RowCounts → List ℕ
+counts_lines kind counts =
+    kind ++ (codes "_row_hits = " ++ (decimal counts.hits ++ (10 ∷
+    (kind ++ (codes "_row_misses = " ++ (decimal counts.misses ++ (10 ∷
+    (kind ++ (codes "_row_conflicts = " ++ (decimal counts.conflicts ++ 10 ∷ []))))))))))
+
+unfoldable pub rows_lines : Rows → List ℕ
+rows_lines rows = counts_lines (codes "read") rows.reads ++ counts_lines (codes "write") rows.writes
+
 -- of a channel that drained writes in so many cycles
 unfoldable pub numbers_lines : ℕ → Numbers → List ℕ
 numbers_lines drains numbers =
     line (codes "turn_rounds = ") numbers.turn_rounds (line (codes "rank_switches = ") numbers.rank_switches (line (codes "drain_cycles = ") drains []))
     ++ debt_line numbers.refresh_debt_most ++ counts_text numbers.counts
 
-unfoldable pub total_table : Requests → Waited → ℕ → Numbers → List ℕ
-total_table requests waited drains numbers = 10 ∷ (codes "[total]" ++ 10 ∷ []) ++ requests_lines requests ++ waited_lines waited ++ numbers_lines drains numbers
+unfoldable pub total_table : Requests → Waited → Rows → ℕ → Numbers → List ℕ
+total_table requests waited rows drains numbers =
+    10 ∷ (codes "[total]" ++ 10 ∷ []) ++ requests_lines requests ++ waited_lines waited ++ rows_lines rows ++ numbers_lines drains numbers
 
-unfoldable pub channel_table : ℕ → ℕ → Numbers → List ℕ
-channel_table channel drains numbers = 10 ∷ (codes "[channel." ++ (decimal channel ++ (codes "]" ++ 10 ∷ []))) ++ numbers_lines drains numbers
+-- how many of these there were in so many cycles: on the mean, and the most
+unfoldable pub held_lines : List ℕ → ℕ → Held → List ℕ
+held_lines name cycles h = name ++ (codes "_mean = " ++ (thousandths (mean_of cycles h) ++ (10 ∷ (name ++ (codes "_most = " ++ (decimal h.most ++ 10 ∷ []))))))
 
-unfoldable pub port_table : ℕ → Requests → Waited → List ℕ
-port_table port requests waited = 10 ∷ (codes "[port." ++ (decimal port ++ (codes "]" ++ 10 ∷ []))) ++ requests_lines requests ++ waited_lines waited
+unfoldable pub activity_lines : ℕ → Activity → List ℕ
+activity_lines cycles a =
+    held_lines (codes "pending_reads") cycles a.reads ++ held_lines (codes "pending_writes") cycles a.writes ++ held_lines (codes "intake") cycles a.waiting
+
+unfoldable pub channel_table : ℕ → ℕ → Activity → Numbers → List ℕ
+channel_table channel cycles a numbers =
+    10 ∷ (codes "[channel." ++ (decimal channel ++ (codes "]" ++ 10 ∷ []))) ++ numbers_lines a.drains numbers ++ activity_lines cycles a
+
+unfoldable pub port_table : ℕ → Requests → Waited → Rows → List ℕ
+port_table port requests waited rows =
+    10 ∷ (codes "[port." ++ (decimal port ++ (codes "]" ++ 10 ∷ []))) ++ requests_lines requests ++ waited_lines waited ++ rows_lines rows
 
 -- the tables of the channels, of the ports, from this number on
-abbrev pub channel_tables : ℕ → List Numbers → List ℕ → List ℕ
-channel_tables channel [] drains = []
-channel_tables channel (one ∷ more) drains = channel_table channel (slice_index_or drains channel 0) one ++ channel_tables (channel + 1) more drains
+abbrev pub channel_tables : ℕ → ℕ → List Numbers → List Activity → List ℕ
+channel_tables cycles channel [] activity = []
+channel_tables cycles channel (one ∷ more) activity =
+    channel_table channel cycles (slice_index_or activity channel no_activity) one ++ channel_tables cycles (channel + 1) more activity
 
-abbrev pub port_tables : ℕ → List Requests → List Waited → List ℕ
-port_tables port [] waited = []
-port_tables port (one ∷ more) waited = port_table port one (slice_index_or waited port no_wait) ++ port_tables (port + 1) more waited
+abbrev pub port_tables : ℕ → List Requests → List Waited → List Rows → List ℕ
+port_tables port [] waited rows = []
+port_tables port (one ∷ more) waited rows =
+    port_table port one (slice_index_or waited port no_wait) (slice_index_or rows port no_rows) ++ port_tables (port + 1) more waited rows
 
 unfoldable pub report_lines : Config → List Requests → List Numbers → Ledger → ℕ → List ℕ
 report_lines config requests numbers ledger cycles =
-    head_text config cycles ++ total_table (many requests) (all_waited ledger.waited) (drains_together ledger.drains) (together numbers) ++ channel_tables 0 numbers ledger.drains ++ port_tables 0 requests ledger.waited ++ ledger_tables ledger
+    head_text config cycles ++ total_table (many requests) (all_waited ledger.waited) (all_rows ledger.rows) (drains_together ledger.activity) (together numbers)
+    ++ channel_tables cycles 0 numbers ledger.activity ++ port_tables 0 requests ledger.waited ledger.rows ++ ledger_tables ledger
 
 -- the statistics of a replay of so many requests that came to this run
 abbrev pub report_text : Config → List Requests → Run → List ℕ

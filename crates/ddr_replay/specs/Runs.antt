@@ -1,6 +1,6 @@
 -- A replay: before each round each port submits what it may, then comes the round, in which it releases its replies.
-use Rattle.std.specs.Prelude.{ℕ, Bool, ◌+◌, ◌-◌, ◌==◌, suc, zero, nat_lt, if◌then◌else◌, List, [], ◌∷◌, length, slice_set, sum_by, Option, Result, Ok, Err}
-use Rattle.std.specs.Option.{option_map, option_map_or}
+use Rattle.std.specs.Prelude.{ℕ, Bool, ◌+◌, ◌-◌, ◌==◌, suc, zero, nat_lt, if◌then◌else◌, List, [], ◌∷◌, length, slice_set, sum_by, Option, Some, Result, Ok, Err}
+use Rattle.std.specs.Option.{option_and_then, option_map, option_map_or}
 use Rattle.ddr_timing.specs.declared.config.Config.{Config}
 use Rattle.ddr_world.specs.Events.{Submit, Collect, Release}
 use Rattle.ddr_world.specs.State.{State, opened}
@@ -11,14 +11,16 @@ use Rattle.ddr_text.specs.declared.fault.Fault.TheVariants.{ClockSpent, ReplayLi
 use Rattle.ddr_world.specs.Served.{front_service}
 use Rattle.ddr_reorder.specs.declared.reply.Service.{Service}
 use Rattle.ddr_rounds.specs.Rounds.{after, channels_served, items_of, outstanding, until_refused}
+use Rattle.ddr_rounds.specs.Telling.{channels_told}
 use Rattle.ddr_stream.specs.declared.ask.Ask.{Ask}
 use Rattle.ddr_replay.specs.declared.order.Asking.{Asking}
 use Rattle.ddr_replay.specs.declared.order.Order.{Order}
 use Rattle.ddr_replay.specs.declared.order.Order.TheVariants as orders
 use Rattle.ddr_replay.specs.declared.times.Accepted.{Accepted}
 use Rattle.ddr_stream.specs.Asks.{asked_by}
-use Rattle.ddr_rounds.specs.Drains.{is_draining}
-use Rattle.ddr_replay.specs.Drains.{all_drained}
+use Rattle.ddr_replay.specs.Books.{all_found}
+use Rattle.ddr_replay.specs.Activities.{all_acted}
+use Rattle.ddr_replay.specs.Activity.{seen_at}
 use Rattle.ddr_replay.specs.Ledgers.{Ledger, no_ledger, noted, with_accepted, with_wait}
 use Rattle.ddr_stream.specs.Stream.{Queues, queue_at}
 
@@ -102,9 +104,12 @@ abbrev pub ports_served : ℕ → Run → Run
 ports_served zero run = run
 ports_served (suc p) run = port_served p (ports_served p run)
 
--- the channels' part of a round has come to this state: each in which writes were drained counts a cycle more
+-- The channels' part of a round has come to this state: it is noted how the requests found their banks that were read or written in it, and
+-- each channel counts a cycle more, with what is seen of it.
 abbrev pub channels_counted : Config → Run → State → Run
-channels_counted config run s = record run { state = s; ledger = all_drained 1 (is_draining s) config.geometry.channels run.ledger }
+channels_counted config run s =
+    let channels = config.geometry.channels in
+    record run { state = s; ledger = all_acted 1 (seen_at s) channels (all_found run.state (channels_told channels run.state) run.ledger) }
 
 -- then comes the ports' part, and the round is one more
 abbrev pub round_closed : Config → Run → State → Run
@@ -117,6 +122,11 @@ round_made config run = option_map (round_closed config run) (channels_served co
 -- each port submits, then the round is made
 abbrev pub turn : Config → Run → Option Run
 turn config run = round_made config (all_submitted config run)
+
+-- so many turns, one behind another; none where a clock is spent
+abbrev pub turns : Config → ℕ → Run → Option Run
+turns config zero run = Some run
+turns config (suc n) run = option_and_then (turns config n) (turn config run)
 
 -- how many requests are to be submitted, or wait for their replies to be released
 abbrev pub unserved : Run → ℕ

@@ -1,9 +1,6 @@
 -- The text of the requests whose replies were released: comma-separated values.
-use Rattle.std.specs.Prelude.{ℕ, List, [], ◌∷◌, ◌++◌, codes, flat_map, slice_get, Option, Some, None}
+use Rattle.std.specs.Prelude.{ℕ, List, [], ◌∷◌, ◌++◌, codes, flat_map, Option, Some, None}
 use Rattle.std.specs.Fmt.{decimal}
-use Rattle.std.specs.Option.{option_and_then}
-use Rattle.ddr_timing.specs.declared.geometry.Geometry.{Geometry}
-use Rattle.ddr_address_map.specs.Map.{place_of}
 use Rattle.ddr_statistics.specs.declared.counts.Finding.{Finding}
 use Rattle.ddr_statistics.specs.declared.counts.Finding.TheVariants.{Hit, Miss, Conflict}
 use Rattle.ddr_address_map.specs.declared.request.Kind.{Kind}
@@ -25,11 +22,6 @@ unfoldable pub times_fields : Served → List ℕ
 times_fields served =
     decimal served.accepted ++ (codes "," ++ (decimal served.issued ++ (codes "," ++ (decimal served.due ++ (codes "," ++ decimal served.released)))))
 
--- how a request's read or write found its bank, as the findings of the channels have it
-abbrev pub found_of : Geometry → List (ℕ → Option Finding) → Served → Option Finding
-found_of geometry findings served =
-    option_and_then (λ place. option_and_then (λ channel. channel served.issued) (slice_get findings place.channel)) (place_of geometry served.ask.addr)
-
 abbrev pub found_word : Option Finding → List ℕ
 found_word (Some Hit) = codes "hit"
 found_word (Some Miss) = codes "miss"
@@ -37,11 +29,12 @@ found_word (Some Conflict) = codes "conflict"
 found_word None = []
 
 -- how it found its bank stands last
-unfoldable pub served_line : Served → Option Finding → List ℕ
-served_line served found = asked_fields served ++ (codes "," ++ (times_fields served ++ (codes "," ++ (found_word found ++ 10 ∷ []))))
+unfoldable pub served_line : Served → List ℕ
+served_line served = asked_fields served ++ (codes "," ++ (times_fields served ++ (codes "," ++ (found_word served.found ++ 10 ∷ []))))
+
+abbrev pub served_head : List ℕ
+served_head = codes "line,port,number,op,addr,at,accepted,issued,done,released,found" ++ 10 ∷ []
 
 -- a line that names the columns, and a line for each request
-unfoldable pub served_text : Geometry → List (ℕ → Option Finding) → List Served → List ℕ
-served_text geometry findings all =
-    codes "line,port,number,op,addr,at,accepted,issued,done,released,found" ++ 10 ∷ []
-    ++ flat_map (λ served. served_line served (found_of geometry findings served)) all
+unfoldable pub served_text : List Served → List ℕ
+served_text all = served_head ++ flat_map served_line all

@@ -1,30 +1,16 @@
 //! The commands of a channel as DRAMPower's command line reads them.
 //!
-//! `ddr_trace` stands below, and `telling` above. `specs/Drampower.antt` has the text, byte for byte.
+//! `ddr_trace` stands below, and `teller` and `telling` above. `specs/Drampower.antt` has the text, byte for byte.
 ghost use Rattle.std.specs.Prelude.{◌≡◌, IfOk, string_bytes};
-ghost use Rattle.ddr_replay.specs.Drampower.{bank_in_rank, column_of, drampower_line, drampower_name, drampower_text, end_line, place_fields};
+ghost use Rattle.ddr_replay.specs.Drampower.{bank_in_rank, column_of, drampower_line, drampower_name, end_line, place_fields};
 
 use ddr_timing::units::{GROUP_BANKS, LINE_COLUMNS};
 use ddr_trace::command::{Command, Entry};
 use std::alloc::{AllocError, Global};
 
-/// The commands of a trace that ends in cycle `end`, a line each, and a line for the end.
-#[tactic(auto, unfolding(crate::specs::Drampower::drampower_text))]
-pub fn drampower_text(alloc: Global, entries: &[Entry], end: u64) -> Result<String, AllocError>
-    ensures { IfOk result (λ text. string_bytes text ≡ drampower_text entries.now end) }
-{
-    let mut text = String::new(alloc);
-    for entry in entries {
-        let line = drampower_line(alloc, entry)?;
-        text.push_str(line.as_str())?;
-    }
-    let last = end_line(alloc, end)?;
-    text.push_str(last.as_str())?;
-    Ok(text)
-}
-
+/// The line of a command.
 #[tactic(auto, unfolding(crate::specs::Drampower::drampower_line))]
-fn drampower_line(alloc: Global, entry: &Entry) -> Result<String, AllocError>
+pub(crate) fn drampower_line(alloc: Global, entry: &Entry) -> Result<String, AllocError>
     ensures { IfOk result (λ text. string_bytes text ≡ drampower_line entry.now) }
 {
     let cycle = entry.cycle;
@@ -33,8 +19,9 @@ fn drampower_line(alloc: Global, entry: &Entry) -> Result<String, AllocError>
     format!(in alloc; "{cycle},{name},{place}\n")
 }
 
+/// The line of the end of a trace that ends in this cycle.
 #[tactic(auto, unfolding(crate::specs::Drampower::end_line))]
-fn end_line(alloc: Global, end: u64) -> Result<String, AllocError>
+pub(crate) fn end_line(alloc: Global, end: u64) -> Result<String, AllocError>
     ensures { IfOk result (λ text. string_bytes text ≡ end_line end) }
 {
     format!(in alloc; "{end},END,0,0,0,0,0\n")

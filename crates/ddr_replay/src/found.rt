@@ -1,101 +1,67 @@
-//! How the reads and writes of each channel found their banks, by their cycles.
+//! How the reads and writes of a port's requests found their banks, as far as they were issued.
 //!
-//! `numbers`, `ddr_statistics` and `ddr_world` stand below, and `served` and `telling` above.
-ghost use Rattle.std.specs.Prelude.{◌≡◌, ◌≢◌, ◌<◌, ℕ, All, None, false, true, IfOk, IsTrue, OnOk, length};
-ghost use Rattle.ddr_timing.specs.declared.units.TheConstants.{CLOCK_STOP};
-ghost use Rattle.ddr_trace.specs.Rules.{is_in};
-ghost use Rattle.ddr_world.specs.Kept.{state_of};
-ghost use Rattle.ddr_replay.specs.Found.{all_found_in, findings_at, findings_of, found_at, found_in, with_found};
-ghost use Rattle.ddr_replay.specs.Numbers.{is_any_spent, is_spent};
+//! `ddr_statistics` stands below, and `ledger` above.
+ghost use Rattle.std.specs.Prelude.{◌≡◌, [], ◌∷◌, ◌++◌, None, drop, slice_set, OnOk};
+ghost use Rattle.ddr_replay.specs.Ledgers.{oldest_found};
 
-use ddr_channel::channel::Channel;
 use ddr_statistics::counts::Finding;
-use ddr_statistics::statistics::Statistics;
-use ddr_timing::config::Config;
-use ddr_trace::command::Entry;
-use ddr_world::world::World;
 use std::alloc::{AllocError, Global};
-use std::collections::BTreeMap;
+use std::collections::VecDeque;
+use std::marker::Model;
 
-/// Of each cycle in which a channel had a read or a write, how that found its bank. Contracts see it by `found_in`.
+/// Of each request of a port that was accepted and whose reply wasn't released, the oldest first, how its read or write found its bank;
+/// `None` before that is issued.
 #[derive(Drop)]
-pub struct Findings {
-    cycles: BTreeMap<u64, Finding>,
+pub struct Found {
+    requests: VecDeque<Option<Finding>>,
 }
 
-impl Findings {
-    /// Of no command.
-    fn none(alloc: Global) -> Findings
-        ensures { (cycle : ℕ) → found_in result cycle ≡ None }
+impl Model for Found {
+    ghost use Rattle.std.specs.Prelude.{List, Option};
+    ghost use Rattle.ddr_statistics.specs.declared.counts.Finding.{Finding};
+
+    ghost Value = { List (Option Finding) };
+
+    ghost view = { λ a. a.requests.items };
+}
+
+impl Found {
+    pub fn new(alloc: Global) -> Found
+        ensures { result ≡ [] }
     {
-        Findings {
-            cycles: BTreeMap::new(alloc),
+        Found {
+            requests: VecDeque::new(alloc),
         }
     }
 
-    /// Notes how the command of a cycle found its bank, if it is a read or a write.
-    fn note(&mut self, cycle: u64, found: Option<Finding>) -> Result<(), AllocError>
-        ensures { OnOk result ((other : ℕ) → found_in self.new other ≡ with_found cycle found (found_in self.old) other) }
+    /// One request more, which is not issued yet.
+    pub fn push(&mut self) -> Result<(), AllocError>
+        ensures { OnOk result (self.new ≡ self.old ++ None ∷ []) }
     {
-        if let Some(found) = found {
-            self.cycles.insert(cycle, found)?;
-        }
+        self.requests.push_back(None)?;
         Ok(())
     }
 
-    /// How the read or write of a cycle found its bank.
-    pub fn at(&self, cycle: u64) -> Option<Finding>
-        ensures { result ≡ found_in self.now cycle }
+    /// The request at this place, if there is one, found its bank so.
+    pub fn note(&mut self, place: u64, found: Option<Finding>)
+        ensures { self.new ≡ slice_set self.old place found }
     {
-        self.cycles.get(&cycle).copied()
+        if place < self.requests.len() as u64 {
+            self.requests[place as usize] = found;
+        }
     }
-}
 
-/// Those of each channel of a core that keeps traces.
-pub fn findings_of(alloc: Global, world: &World, channels: u32) -> Result<Vec<Findings>, AllocError>
-    requires running { is_any_spent (state_of world.now) channels ≡ false }
-    requires kept { world.now.keeps ≡ true }
-    ensures { IfOk result (λ v. all_found_in v.items ≡ findings_of (state_of world.now) channels) }
-{
-    let mut all = Vec::new(alloc);
-    for channel in 0..channels {
-        all.push(findings_at(alloc, world, channel)?)?;
+    /// How the oldest one found its bank.
+    pub fn oldest(&self) -> Option<Finding>
+        ensures { result ≡ oldest_found self.now }
+    {
+        *self.requests.front()?
     }
-    Ok(all)
-}
 
-/// Those of the channel of that number.
-fn findings_at(alloc: Global, world: &World, number: u32) -> Result<Findings, AllocError>
-    requires running { is_spent (state_of world.now) number ≡ false }
-    requires kept { world.now.keeps ≡ true }
-    ensures { IfOk result (λ findings. found_in findings ≡ findings_at (state_of world.now) number) }
-{
-    match world.channel(number) {
-        Some(channel) => findings_in(alloc, channel),
-        None => Ok(Findings::none(alloc)),
+    /// The oldest one, if there is one, is none of them any more.
+    pub fn pop(&mut self)
+        ensures { self.new ≡ drop 1 self.old }
+    {
+        let _ = self.requests.pop_front();
     }
-}
-
-/// Those of a channel that keeps its trace.
-fn findings_in(alloc: Global, channel: &Channel) -> Result<Findings, AllocError>
-    requires running { channel.now.now ≢ CLOCK_STOP }
-    requires kept { channel.now.keeps ≡ true }
-    ensures { IfOk result (λ findings. found_in findings ≡ found_at channel.now.trace) }
-{
-    findings_by(alloc, channel.config(), channel.trace())
-}
-
-/// Those of a trace.
-fn findings_by(alloc: Global, config: &Config, trace: &[Entry]) -> Result<Findings, AllocError>
-    requires placed { All (λ e. IsTrue (is_in config.now.geometry e.command)) trace.now }
-    requires few { length trace.now < CLOCK_STOP }
-    ensures { IfOk result (λ findings. found_in findings ≡ found_at trace.now) }
-{
-    let mut findings = Findings::none(alloc);
-    let mut statistics = Statistics::open(config, 0);
-    for entry in trace {
-        findings.note(entry.cycle, statistics.finding(&entry.command))?;
-        statistics.note(entry);
-    }
-    Ok(findings)
 }

@@ -1,16 +1,24 @@
-//! When requests were accepted, how long those took whose replies were released, for how long ports waited, and in how many cycles
-//! channels drained writes.
+//! When requests were accepted, how they found their banks, how long those took whose replies were released, for how long ports waited,
+//! and what channels did in their cycles.
 //!
-//! `times`, `waited` and `served` stand below, and `submitting`, `replaying` and `telling` above.
+//! `times`, `rows`, `waited`, `activity`, `found` and `served` stand below, and `submitting`, `books`, `replaying` and `telling` above.
 ghost use Rattle.std.specs.Prelude.{◌≡◌, [], ◌∷◌, ◌++◌, drop, replicate, slice_get, IfOk, OnOk, Some};
-ghost use Rattle.ddr_replay.specs.Ledgers.{accepted_at, no_ledger, noted, served_of, times_at, with_accepted, with_drained, with_full, with_served, with_times, with_wait, without_oldest};
+ghost use Rattle.ddr_replay.specs.Activity.{no_activity};
+ghost use Rattle.ddr_replay.specs.Ledgers.{accepted_at, found_at, next_row, no_ledger, noted, oldest_found, served_of, times_at, with_accepted, with_activity, with_column, with_finding, with_found, with_full, with_times, with_wait, without_found, without_oldest};
+ghost use Rattle.ddr_replay.specs.Rows.{no_rows};
 ghost use Rattle.ddr_replay.specs.Times.{count_of, no_times};
 ghost use Rattle.ddr_replay.specs.Waited.{no_wait};
 
+use crate::activity::{Activity, Seen};
+use crate::found::Found;
+use crate::rows::Rows;
 use crate::served::Served;
 use crate::times::{Accepted, Times};
 use crate::waited::Waited;
+use ddr_past::past::Past;
 use ddr_reorder::reply::Service;
+use ddr_statistics::counts::Finding;
+use ddr_trace::command::Command;
 use ddr_world::event::Refusal;
 use std::alloc::{AllocError, Global};
 use std::collections::VecDeque;
@@ -47,6 +55,12 @@ impl Outstanding {
         Ok(())
     }
 
+    fn oldest(&self) -> Option<Accepted>
+        ensures { result ≡ slice_get self.now 0 }
+    {
+        self.requests.front().copied()
+    }
+
     fn pop(&mut self) -> Option<Accepted>
         ensures first { result ≡ slice_get self.old 0 }
         ensures rest { self.new ≡ drop 1 self.old }
@@ -59,15 +73,20 @@ impl Outstanding {
 #[derive(Drop)]
 pub struct Ledger {
     accepted: Vec<Outstanding>,
+    /// How those requests found their banks.
+    found: Vec<Found>,
     total: Times,
     ports: Vec<Times>,
+    /// How the reads and the writes of each port found their banks.
+    rows: Vec<Rows>,
     /// For how many rounds each port waited.
     waited: Vec<Waited>,
-    /// In how many cycles of each channel writes were drained.
-    drains: Vec<u64>,
+    /// What each channel did in its cycles.
+    activity: Vec<Activity>,
     /// Whether the requests whose replies were released are kept.
     keeps: bool,
-    served: Vec<Served>,
+    /// Those that were kept, which `teller` has: here they are for contracts alone.
+    served: Past<Served>,
 }
 
 impl Model for Ledger {
@@ -75,7 +94,7 @@ impl Model for Ledger {
 
     ghost Value = { Ledger };
 
-    ghost view = { λ a. record { accepted = a.accepted.items; total = a.total; ports = a.ports.items; waited = a.waited.items; drains = a.drains.items; keeps = a.keeps; served = a.served.items } };
+    ghost view = { λ a. record { accepted = a.accepted.items; found = a.found.items; total = a.total; ports = a.ports.items; rows = a.rows.items; waited = a.waited.items; activity = a.activity.items; keeps = a.keeps; served = a.served.items } };
 }
 
 impl Ledger {
@@ -86,23 +105,59 @@ impl Ledger {
     {
         Ok(Ledger {
             accepted: none_outstanding(alloc, ports)?,
+            found: none_found(alloc, ports)?,
             total: Times::NONE,
             ports: no_times(alloc, ports)?,
+            rows: no_rows(alloc, ports)?,
             waited: no_waits(alloc, ports)?,
-            drains: no_drains(alloc, channels)?,
+            activity: no_activity(alloc, channels)?,
             keeps,
-            served: Vec::new(alloc),
+            served: Past::new(),
         })
     }
 
     /// Notes that a request of a port was accepted.
     pub fn accept(&mut self, port: u32, accepted: Accepted) -> Result<(), AllocError>
-        ensures { OnOk result (self.new ≡ with_accepted port accepted self.old) }
+        ensures accepted { OnOk result (self.new ≡ with_accepted port accepted self.old) }
+        ensures served { self.new.served ≡ self.old.served }
     {
         if (port as usize) < self.accepted.len() {
             self.accepted[port as usize].push(accepted)?;
         }
+        if (port as usize) < self.found.len() {
+            self.found[port as usize].push()?;
+        }
         Ok(())
+    }
+
+    /// Notes how the read or write that serves a port's request of this number found its bank.
+    pub fn find(&mut self, port: u32, number: u64, command: &Command, found: Option<Finding>)
+        ensures { self.new ≡ with_found port number command.now found self.old }
+    {
+        self.count(port, command, found);
+        self.note_finding(port, number, found);
+    }
+
+    /// Counts a read or a write more of a port, which found its bank so.
+    fn count(&mut self, port: u32, command: &Command, found: Option<Finding>)
+        ensures { self.new ≡ with_column port command.now found self.old }
+    {
+        if (port as usize) < self.rows.len() {
+            self.rows[port as usize].count(command, found);
+        }
+    }
+
+    /// Notes how a port's request of this number found its bank, where requests are kept.
+    fn note_finding(&mut self, port: u32, number: u64, found: Option<Finding>)
+        ensures { self.new ≡ with_finding port number found self.old }
+    {
+        if !self.keeps {
+            return;
+        }
+        let place = number.saturating_sub(self.count_at(port));
+        if (port as usize) < self.found.len() {
+            self.found[port as usize].note(place, found);
+        }
     }
 
     /// Notes that a port waits in a round, since its request is refused so.
@@ -123,51 +178,63 @@ impl Ledger {
         }
     }
 
-    /// Notes that in so many cycles more writes were drained in a channel.
-    pub fn drain(&mut self, channel: u32, cycles: u64)
-        ensures { self.new ≡ with_drained channel cycles self.old }
+    /// Notes so many cycles more of a channel, behind each of which this was seen of it.
+    pub(crate) fn act(&mut self, channel: u32, cycles: u64, seen: &Seen)
+        ensures { self.new ≡ with_activity channel cycles seen.now self.old }
     {
-        if (channel as usize) < self.drains.len() {
-            let before = self.drains[channel as usize];
-            self.drains[channel as usize] = before.saturating_add(cycles);
+        if (channel as usize) < self.activity.len() {
+            self.activity[channel as usize].act(cycles, seen);
         }
     }
 
     /// Notes that the reply of a port's oldest request, which was served so, is released in that round.
-    pub fn release(&mut self, port: u32, service: Service, round: u32) -> Result<(), AllocError>
-        ensures { OnOk result (self.new ≡ noted port service round self.old) }
+    pub fn release(&mut self, port: u32, service: Service, round: u32)
+        ensures { self.new ≡ noted port service round self.old }
     {
-        let Some(accepted) = self.take(port) else {
-            return Ok(());
-        };
-        self.keep(port, accepted, service, round)?;
-        self.note(port, accepted, service.issued, round);
-        Ok(())
+        if let Some(accepted) = self.take(port) {
+            if self.keeps {
+                let row = self.row_of(port, service, round, accepted);
+                self.served = self.served.and(&row);
+            }
+            self.note(port, accepted, service.issued, round);
+        }
+        self.forget(port);
     }
 
-    /// Keeps a request, where they are kept.
-    fn keep(
-        &mut self,
-        port: u32,
-        accepted: Accepted,
-        service: Service,
-        round: u32,
-    ) -> Result<(), AllocError>
-        ensures { OnOk result (self.new ≡ with_served (served_of port service round accepted self.old) self.old) }
+    /// The port's oldest request, which was served so, and whose reply is released in that round, where requests are kept.
+    pub fn next_row(&self, port: u32, service: Service, round: u32) -> Option<Served>
+        ensures { result ≡ next_row port service round self.now }
     {
-        if self.keeps {
-            let number = self.count_at(port);
-            self.served.push(Served {
-                ask: accepted.ask,
-                port,
-                number,
-                accepted: accepted.round,
-                issued: service.issued,
-                due: service.due,
-                released: round,
-            })?;
+        if !self.keeps {
+            return None;
         }
-        Ok(())
+        let accepted = self.accepted.get(port as usize)?.oldest()?;
+        Some(self.row_of(port, service, round, accepted))
+    }
+
+    /// That request of the port, with when it was accepted.
+    fn row_of(&self, port: u32, service: Service, round: u32, accepted: Accepted) -> Served
+        ensures { result ≡ served_of port service round accepted self.now }
+    {
+        Served {
+            ask: accepted.ask,
+            port,
+            number: self.count_at(port),
+            accepted: accepted.round,
+            issued: service.issued,
+            due: service.due,
+            released: round,
+            found: self.oldest_found(port),
+        }
+    }
+
+    /// Forgets how the port's oldest request found its bank.
+    fn forget(&mut self, port: u32)
+        ensures { self.new ≡ without_found port self.old }
+    {
+        if (port as usize) < self.found.len() {
+            self.found[port as usize].pop();
+        }
     }
 
     /// How many replies the port released.
@@ -178,6 +245,13 @@ impl Ledger {
             Some(times) => times.count(),
             None => 0,
         }
+    }
+
+    /// How the port's oldest request found its bank.
+    fn oldest_found(&self, port: u32) -> Option<Finding>
+        ensures { result ≡ oldest_found (found_at self.now port) }
+    {
+        self.found.get(port as usize)?.oldest()
     }
 
     /// Takes the port's oldest request.
@@ -202,18 +276,18 @@ impl Ledger {
         }
     }
 
-    /// The requests whose replies were released, in that order.
-    pub fn served(&self) -> &[Served]
-        ensures { result.now ≡ self.now.served }
-    {
-        self.served.as_slice()
-    }
-
     /// The times of all ports together.
     pub fn total(&self) -> &Times
         ensures { result.now ≡ self.now.total }
     {
         &self.total
+    }
+
+    /// How the reads and the writes of each port found their banks.
+    pub fn rows(&self) -> &[Rows]
+        ensures { result.now ≡ self.now.rows }
+    {
+        self.rows.as_slice()
     }
 
     /// For how many rounds each port waited.
@@ -223,11 +297,11 @@ impl Ledger {
         self.waited.as_slice()
     }
 
-    /// In how many cycles of each channel writes were drained.
-    pub fn drains(&self) -> &[u64]
-        ensures { result.now ≡ self.now.drains }
+    /// What each channel did in its cycles.
+    pub fn activity(&self) -> &[Activity]
+        ensures { result.now ≡ self.now.activity }
     {
-        self.drains.as_slice()
+        self.activity.as_slice()
     }
 
     /// The times of each port.
@@ -249,6 +323,17 @@ fn none_outstanding(alloc: Global, ports: u32) -> Result<Vec<Outstanding>, Alloc
     Ok(all)
 }
 
+/// Of so many ports, none of which has a request.
+fn none_found(alloc: Global, ports: u32) -> Result<Vec<Found>, AllocError>
+    ensures { IfOk result (λ v. v.items ≡ replicate ports []) }
+{
+    let mut all = Vec::new(alloc);
+    for _ in 0..ports {
+        all.push(Found::new(alloc))?;
+    }
+    Ok(all)
+}
+
 /// Of so many ports, whose requests took no time yet.
 fn no_times(alloc: Global, ports: u32) -> Result<Vec<Times>, AllocError>
     ensures { IfOk result (λ v. v.items ≡ replicate ports no_times) }
@@ -260,13 +345,24 @@ fn no_times(alloc: Global, ports: u32) -> Result<Vec<Times>, AllocError>
     Ok(all)
 }
 
-/// Of so many channels, in which no write was drained yet.
-fn no_drains(alloc: Global, channels: u32) -> Result<Vec<u64>, AllocError>
-    ensures { IfOk result (λ v. v.items ≡ replicate channels 0) }
+/// Of so many ports, none of whose requests was read or written yet.
+fn no_rows(alloc: Global, ports: u32) -> Result<Vec<Rows>, AllocError>
+    ensures { IfOk result (λ v. v.items ≡ replicate ports no_rows) }
+{
+    let mut all = Vec::new(alloc);
+    for _ in 0..ports {
+        all.push(Rows::NONE)?;
+    }
+    Ok(all)
+}
+
+/// Of so many channels, which made no cycle yet.
+fn no_activity(alloc: Global, channels: u32) -> Result<Vec<Activity>, AllocError>
+    ensures { IfOk result (λ v. v.items ≡ replicate channels no_activity) }
 {
     let mut all = Vec::new(alloc);
     for _ in 0..channels {
-        all.push(0)?;
+        all.push(Activity::NONE)?;
     }
     Ok(all)
 }

@@ -1,8 +1,7 @@
 //! What a replay comes to: of each channel the numbers of its commands, and of several ports together their requests.
 //!
 //! `ddr_stream`, `ddr_world`, `ddr_counting` and `ddr_statistics` stand below, and `report`, `places` and `telling` above.
-ghost use Rattle.std.specs.Prelude.{◌≡◌, ◌≢◌, true, false, ◌+◌, ◌≤◌, ◌==◌, IfErr, IfOk, map};
-ghost use Rattle.std.specs.List.{range_with_len};
+ghost use Rattle.std.specs.Prelude.{◌≡◌, ◌≢◌, true, false, ◌==◌, IfErr, IfOk};
 ghost use Rattle.ddr_timing.specs.declared.units.TheConstants.{CLOCK_STOP};
 ghost use Rattle.ddr_counting.specs.Noting.{AreNoted, IsNotedOf};
 ghost use Rattle.ddr_world.specs.Kept.{state_of};

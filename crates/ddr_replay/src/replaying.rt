@@ -1,28 +1,40 @@
 //! The core, and the requests that are still to be submitted: a replay from its first round to its last.
 //!
-//! `submitting`, `ddr_stream`, `ledger`, `watch`, `ddr_rounds` and `ddr_world` stand below, and `replay` above.
-ghost use Rattle.std.specs.Prelude.{◌≡◌, ◌≢◌, ◌==◌, ◌⊎◌, ℕ, ◌+◌, ◌-◌, ◌<◌, ◌≤◌, false, true, IfErr, IfOk, IfSome, IsErrOf, IsOk, IsTrue, OnOk, Option, Result, Some, Ok};
+//! `submitting`, `ddr_stream`, `books`, `ledger`, `activity`, `teller`, `watch`, `ddr_rounds` and `ddr_world` stand below, and `replay` above.
+ghost use Rattle.std.specs.Io.KnownBytes.{Appends};
+ghost use Rattle.std.specs.Prelude.{◌≡◌, [], ◌≢◌, ◌==◌, ◌⊎◌, ℕ, ◌+◌, ◌-◌, ◌<◌, ◌≤◌, false, true, IfErr, IfOk, IfSome, IsErrOf, IsOk, IsTrue, OnOk, Option, Result, Some, Ok};
 ghost use Rattle.ddr_counting.specs.Noting.{AreNoted};
 ghost use Rattle.ddr_rounds.specs.Rounds.{channels_served, items_of, outstanding, until_refused};
+ghost use Rattle.ddr_rounds.specs.Telling.{channels_told};
 ghost use Rattle.ddr_world.specs.Events.{Collect, Release};
 ghost use Rattle.ddr_world.specs.Kept.{state_of};
 ghost use Rattle.ddr_world.specs.Quiet.{passed};
-ghost use Rattle.ddr_rounds.specs.Drains.{is_draining};
-ghost use Rattle.ddr_stream.specs.Stream.{Queues, queue_at};
+ghost use Rattle.ddr_stream.specs.Stream.{Queues};
 ghost use Rattle.ddr_stream.specs.Waiting.{All, IsAhead, IsSaidFault, IsSized, IsStreamFault, Knows, all_in};
-ghost use Rattle.ddr_replay.specs.Ahead.{AreAllSubmitted, AreSubmitted, Carries, IsEnded, IsOver, IsReplayFault, IsStopped, Leads, LeadsAlike, is_of_run};
-ghost use Rattle.ddr_replay.specs.Drains.{all_drained, drained};
+ghost use Rattle.ddr_replay.specs.Ahead.{AreAllSubmitted, AreSubmitted, Carries, HasTold, IsCutShort, IsEnded, IsOver, IsReplayFault, IsStopped, IsTurnFault, Leads, LeadsAlike, is_of_run};
+ghost use Rattle.ddr_replay.specs.Books.{all_found};
+ghost use Rattle.ddr_replay.specs.Activities.{all_acted};
+ghost use Rattle.ddr_replay.specs.Activity.{seen_at};
+ghost use Rattle.ddr_replay.specs.Ledgers.{with_activity};
 ghost use Rattle.ddr_replay.specs.Runs.{begun, first_port, port_served, port_submitted, ports_served, round_made, unserved};
 ghost use Rattle.ddr_replay.specs.Stuck.{CannotGoOn};
 ghost use Rattle.ddr_timing.specs.declared.config.Config.{Config};
+ghost use Rattle.ddr_text.specs.Sink.{write_fault};
 ghost use Rattle.ddr_text.specs.declared.fault.Fault.{Fault};
-ghost use Rattle.ddr_replay.specs.View.{IsButLedger, IsCycleFault, IsFrontReleased, IsSame, Replay, run_of, whole_run};
+ghost use Rattle.ddr_replay.specs.Told.{IsKept, comes_at_end, keeps_served, wanted_of};
+ghost use Rattle.ddr_replay.specs.View.{IsBeforeSame, IsButBooks, IsButLedger, IsCycleFault, IsFrontReleased, IsSame, IsTold, Replay, Tells, run_of, whole_run};
 ghost use Rattle.ddr_replay.specs.Waits.{AreQuiet, IsWaitingIn, all_full, come_of, filled};
 
+use crate::activity::Seen;
+use crate::books::Books;
+use crate::laws::all_are_legal;
 use crate::ledger::Ledger;
 use crate::order::{Asking, Order};
 use crate::submitting::submit_from;
+use crate::teller::{Tale, Teller, note_release};
+use crate::wanted::{Wanted, channel_of, keeps_served};
 use crate::watch::Watch;
+use ddr_address_map::request::Kind;
 use ddr_counting::noting::Noting;
 use ddr_latency::clocks::leaves_time;
 use ddr_reorder::reply::{Reply, Service};
@@ -32,6 +44,7 @@ use ddr_rounds::rounds::pass;
 use ddr_stream::requests::Requests;
 use ddr_stream::stream::Stream;
 use ddr_text::fault::Fault;
+use ddr_text::sink::Sink;
 use ddr_text::source::Source;
 use ddr_timing::config::Config;
 use ddr_world::event::Refusal;
@@ -48,19 +61,20 @@ pub const STUCK_INTERVALS: u64 = 64;
 /// In how many turns a watcher is told once: a turn is a round, or some quiet ones that are made at once.
 const TOLD_EVERY: u32 = 4096;
 
-/// A replay. Contracts see it as `Replay`.
+/// A replay. No channel keeps its trace. Contracts see it as `Replay`.
 #[derive(Drop)]
 pub struct Replaying {
+    alloc: Global,
     config: Config,
     /// In which order the ports submit next.
     asking: Asking,
     world: World,
-    /// What the channels' commands come to.
-    noting: Noting,
     /// What the ports have still to submit, read as far as of each the next request is known.
     stream: Stream,
-    /// When requests were accepted, and how long they took.
-    ledger: Ledger,
+    /// What the channels' commands come to, when requests were accepted, and how long they took.
+    books: Books,
+    /// What is told of it.
+    teller: Teller,
     /// How many rounds were made.
     round: u32,
     /// How many replies were released.
@@ -84,32 +98,42 @@ impl Model for Replaying {
 }
 
 impl Replaying {
-    /// A replay before its first round, whose ports submit in this order. `keeps` says whether the requests that were served are kept, and `traces` whether the channels'
-    /// traces are. Of the stream no request was taken, and of each port the next is known.
+    /// A replay before its first round, of which this is to be told, and whose ports submit in this order. Of the stream no request was
+    /// taken, and of each port the next is known.
     pub fn open(
         alloc: Global,
         config: &Config,
-        keeps: bool,
-        traces: bool,
+        wanted: Wanted,
         order: Order,
         stream: Stream,
     ) -> Result<Replaying, AllocError>
         requires config { stream.config ≡ config.now }
         requires sized { IsSized stream }
         requires new { stream.taken ≡ 0 }
-        ensures begun { IfOk result (λ replay. run_of replay ≡ begun config.now keeps order stream.queues) }
+        ensures begun { IfOk result (λ replay. run_of replay ≡ begun config.now (keeps_served wanted) order stream.queues) }
         ensures stream { IfOk result (λ replay. replay.stream ≡ stream) }
         ensures config { IfOk result (λ replay. replay.config ≡ config.now) }
-        ensures traces { IfOk result (λ replay. replay.world.keeps ≡ traces) }
+        ensures wanted { IfOk result (λ replay. replay.wanted ≡ wanted) }
+        ensures told { IfOk result (IsTold []) }
     {
-        let ledger = Ledger::open(alloc, config.geometry.channels, config.limits.ports, keeps)?;
+        let (channels, ports) = (config.geometry.channels, config.limits.ports);
+        let ledger = Ledger::open(alloc, channels, ports, keeps_served(wanted))?;
+        let books = Books {
+            noting: Noting::open(alloc, config)?,
+            ledger,
+            watched: channel_of(wanted),
+            newest: None,
+        };
+        let teller = Teller::open(alloc, wanted)?;
+        let world = World::open_without_traces(alloc, config)?;
         Ok(Replaying {
+            alloc,
             config: *config,
             asking: Asking { order, first: 0 },
-            world: World::open_as(alloc, config, 0, 0, traces)?,
-            noting: Noting::open(alloc, config)?,
+            world,
             stream,
-            ledger,
+            books,
+            teller,
             round: 0,
             released: 0,
             went_on_at: 0,
@@ -118,21 +142,31 @@ impl Replaying {
     }
 
     /// Makes rounds until all requests were submitted and their replies released, and tells the watcher how far it has come. Lines are
-    /// read as their requests are asked for.
+    /// read as their requests are asked for, and what is told as it comes is written behind each turn.
     ///
     /// Fails as `first` of `Stream` does at the first line that is at fault; where none is, as `ReplayLimit` where one round too many is
     /// to be made, as `ClockSpent`, and as `ReplayStuck`, where a refresh interval leaves no time to serve a request, once requests waited
-    /// for `STUCK_INTERVALS` of them in which none was accepted or served; and as `OutOfMemory`.
-    pub fn run<R: Source, V: Watch>(&mut self, reader: &mut R, watch: &mut V) -> Result<(), Fault>
-        requires { IsAhead self.old.stream }
+    /// for `STUCK_INTERVALS` of them in which none was accepted or served; as `Write`, and as `OutOfMemory`.
+    pub fn run<R: Source, W: Sink, V: Watch>(
+        &mut self,
+        reader: &mut R,
+        writer: &mut W,
+        watch: &mut V,
+    ) -> Result<(), Fault>
+        requires ahead { IsAhead self.old.stream }
+        requires told { IsTold [] self.old }
         ensures ok { OnOk result (IfSome (all_in self.old.stream (R.remaining reader.old)) (λ said. (all : All) × (said ≡ Ok all) × IsOver self.old.config (MOST_ROUNDS - self.old.round) self.old self.new all)) }
         ensures fault { IfErr result (λ fault. IsEnded self.old.config (MOST_ROUNDS - self.old.round) self.old fault (all_in self.old.stream (R.remaining reader.old))) }
         ensures kind { IfErr result IsReplayFault }
         ensures sure { IsErrOf result Fault.Read → IsTrue R.may_fail }
         ensures config { self.new.config ≡ self.old.config }
-        ensures traces { self.new.world.keeps ≡ self.old.world.keeps }
+        ensures wanted { self.new.wanted ≡ self.old.wanted }
+        ensures told { OnOk result (HasTold self.new (W.contents writer.old) (W.contents writer.new)) }
+        ensures begun { IfErr result (λ fault. IsCutShort self.old.config self.old fault (W.contents writer.old) (W.contents writer.new) (all_in self.old.stream (R.remaining reader.old))) }
+        ensures idle { comes_at_end self.old.wanted ≡ true → (writer.new ≡ writer.old) × ¬ IsErrOf result Fault.Write }
+        ensures taken { IsErrOf result Fault.Write → IsTrue W.may_fail }
     {
-        match self.make_rounds(reader, watch) {
+        match self.make_rounds(reader, writer, watch) {
             Ok(()) => Ok(()),
             Err(fault) => Err(self.first_fault(fault, reader)),
         }
@@ -144,9 +178,11 @@ impl Replaying {
         requires { IsReplayFault fault }
         ensures ended { (config : Config) (left : ℕ) (old : Replay) (all : Option (Result All Fault)) → IsStopped config left old fault all (all_in self.old.stream (R.remaining reader.old)) → IsEnded config left old result all }
         ensures kind { IsReplayFault result }
+        ensures write { fault ≡ Fault.Write → result ≡ Fault.Write }
+        ensures unwritten { result ≡ Fault.Write → fault ≡ Fault.Write }
         ensures sure { result ≡ Fault.Read → (fault ≡ Fault.Read) ⊎ IsTrue R.may_fail }
         ensures config { self.new.config ≡ self.old.config }
-        ensures traces { self.new.world.keeps ≡ self.old.world.keeps }
+        ensures wanted { self.new.wanted ≡ self.old.wanted }
     {
         if !is_of_run(fault) {
             return fault;
@@ -158,22 +194,29 @@ impl Replaying {
     }
 
     /// Makes rounds as `run` does. Fails as it does, but doesn't look at the lines that are left.
-    fn make_rounds<R: Source, V: Watch>(
+    fn make_rounds<R: Source, W: Sink, V: Watch>(
         &mut self,
         reader: &mut R,
+        writer: &mut W,
         watch: &mut V,
     ) -> Result<(), Fault>
-        requires { IsAhead self.old.stream }
+        requires ahead { IsAhead self.old.stream }
+        requires told { IsTold [] self.old }
         ensures ok { OnOk result (IfSome (all_in self.old.stream (R.remaining reader.old)) (λ said. (all : All) × (said ≡ Ok all) × IsOver self.old.config (MOST_ROUNDS - self.old.round) self.old self.new all)) }
         ensures fault { IfErr result (λ fault. IsStopped self.old.config (MOST_ROUNDS - self.old.round) self.old fault (all_in self.old.stream (R.remaining reader.old)) (all_in self.new.stream (R.remaining reader.new))) }
         ensures kind { IfErr result IsReplayFault }
         ensures sure { IsErrOf result Fault.Read → IsTrue R.may_fail }
         ensures config { self.new.config ≡ self.old.config }
-        ensures traces { self.new.world.keeps ≡ self.old.world.keeps }
+        ensures wanted { self.new.wanted ≡ self.old.wanted }
+        ensures told { OnOk result (HasTold self.new (W.contents writer.old) (W.contents writer.new)) }
+        ensures begun { IfErr result (λ fault. IsCutShort self.old.config self.old fault (W.contents writer.old) (W.contents writer.new) (all_in self.old.stream (R.remaining reader.old))) }
+        ensures idle { comes_at_end self.old.wanted ≡ true → (writer.new ≡ writer.old) × ¬ IsErrOf result Fault.Write }
+        ensures taken { IsErrOf result Fault.Write → IsTrue W.may_fail }
     {
         let mut turns: u32 = 0;
         'rounds: while !self.is_over() {
             self.turn(reader)?;
+            self.write(writer)?;
             if let Some(cycle) = self.stuck_at() {
                 return Err(Fault::ReplayStuck { cycle });
             }
@@ -183,10 +226,24 @@ impl Replaying {
         Ok(())
     }
 
+    /// Writes what was told and not written yet. Fails as `Sink` does.
+    pub fn write<W: Sink>(&mut self, writer: &mut W) -> Result<(), Fault>
+        ensures same { OnOk result (self.new ≡ record self.old { text = [] }) }
+        ensures written { OnOk result (Appends (W.contents writer.old) (W.contents writer.new) self.old.text) }
+        ensures idle { self.old.text ≡ [] → (writer.new ≡ writer.old) × IsOk result }
+        ensures refused { IfErr result (λ fault. fault ≡ write_fault W.may_fail) }
+        ensures spared { IsErrOf result Fault.OutOfMemory → W.contents writer.new ≡ W.contents writer.old }
+        ensures config { self.new.config ≡ self.old.config }
+        ensures wanted { self.new.wanted ≡ self.old.wanted }
+        ensures stream { self.new.stream ≡ self.old.stream }
+    {
+        self.teller.write(writer)
+    }
+
     /// Tells the watcher how far the replay has come, where so many turns call for it.
     fn tell<V: Watch>(&self, turns: u32, watch: &mut V) {
         if turns % TOLD_EVERY == 0 {
-            watch.told(u128::from(self.ledger.total().count()), self.round);
+            watch.told(u128::from(self.books.ledger.total().count()), self.round);
         }
     }
 
@@ -233,10 +290,11 @@ impl Replaying {
         ensures more { OnOk result (self.old.round < self.new.round) }
         ensures within { self.new.round ≤ MOST_ROUNDS }
         ensures fault { IfErr result (λ fault. IsStopped self.old.config (MOST_ROUNDS - self.old.round) self.old fault (all_in self.old.stream (R.remaining reader.old)) (all_in self.new.stream (R.remaining reader.new))) }
-        ensures kind { IfErr result IsReplayFault }
+        ensures kind { IfErr result IsTurnFault }
         ensures sure { IsErrOf result Fault.Read → IsTrue R.may_fail }
         ensures config { self.new.config ≡ self.old.config }
-        ensures traces { self.new.world.keeps ≡ self.old.world.keeps }
+        ensures wanted { self.new.wanted ≡ self.old.wanted }
+        ensures told { OnOk result (Tells self.old self.new) }
     {
         if self.round == MOST_ROUNDS {
             return Err(Fault::ReplayLimit);
@@ -260,9 +318,8 @@ impl Replaying {
         ensures fault { IfErr result (λ fault. IsSaidFault fault (all_in self.old.stream (R.remaining reader.old))) }
         ensures kind { IfErr result IsStreamFault }
         ensures sure { IsErrOf result Fault.Read → IsTrue R.may_fail }
-        ensures config { self.new.config ≡ self.old.config }
-        ensures traces { self.new.world.keeps ≡ self.old.world.keeps }
-        ensures round { self.new.round ≡ self.old.round }
+        ensures same { IsBeforeSame self.old self.new }
+        ensures told { OnOk result (Tells self.old self.new) }
     {
         let first = self.first_port();
         let ports = self.config.limits.ports;
@@ -295,9 +352,8 @@ impl Replaying {
         ensures fault { IfErr result (λ fault. IsSaidFault fault (all_in self.old.stream (R.remaining reader.old))) }
         ensures kind { IfErr result IsStreamFault }
         ensures sure { IsErrOf result Fault.Read → IsTrue R.may_fail }
-        ensures config { self.new.config ≡ self.old.config }
-        ensures traces { self.new.world.keeps ≡ self.old.world.keeps }
-        ensures round { self.new.round ≡ self.old.round }
+        ensures same { IsBeforeSame self.old self.new }
+        ensures told { OnOk result (Tells self.old self.new) }
     {
         let _ = &self.config;
         let mut until = u64::MAX;
@@ -319,15 +375,14 @@ impl Replaying {
         ensures fault { IfErr result (λ fault. IsSaidFault fault (all_in self.old.stream (R.remaining reader.old))) }
         ensures kind { IfErr result IsStreamFault }
         ensures sure { IsErrOf result Fault.Read → IsTrue R.may_fail }
-        ensures config { self.new.config ≡ self.old.config }
-        ensures traces { self.new.world.keeps ≡ self.old.world.keeps }
-        ensures round { self.new.round ≡ self.old.round }
+        ensures same { IsBeforeSame self.old self.new }
+        ensures told { OnOk result (Tells self.old self.new) }
     {
         let taken = self.stream.taken();
         let until = submit_from(
             &mut self.world,
             &mut self.stream,
-            &mut self.ledger,
+            &mut self.books.ledger,
             reader,
             port,
             self.round,
@@ -355,21 +410,22 @@ impl Replaying {
     }
 
     /// Makes so many quiet rounds at once: before the first of them each port has submitted, and before each other one those whose
-    /// next request's cycle has come find their windows full again. In all of them the same channels drain writes.
+    /// next request's cycle has come find their windows full again. In all of them the same is seen of each channel.
     fn pass(&mut self, count: u32)
         requires quiet { AreQuiet self.old.config count (state_of self.old.world) }
         requires within { count ≤ MOST_ROUNDS - self.old.round }
         ensures state { state_of self.new.world ≡ passed count (state_of self.old.world) }
         ensures round { self.new.round ≡ self.old.round + count }
         ensures stream { self.new.stream ≡ self.old.stream }
-        ensures ledger { self.new.ledger ≡ all_drained count (is_draining (state_of self.new.world)) self.old.config.geometry.channels (all_full (count - 1) (come_of self.old.round self.old.stream.queues) self.old.config.limits.ports self.old.ledger) }
+        ensures ledger { self.new.ledger ≡ all_acted count (seen_at (state_of self.new.world)) self.old.config.geometry.channels (all_full (count - 1) (come_of self.old.round self.old.stream.queues) self.old.config.limits.ports self.old.ledger) }
         ensures config { self.new.config ≡ self.old.config }
-        ensures traces { self.new.world.keeps ≡ self.old.world.keeps }
+        ensures wanted { self.new.wanted ≡ self.old.wanted }
         ensures asking { self.new.asking ≡ self.old.asking }
+        ensures told { Tells self.old self.new }
     {
         self.fill_all(u64::from(count.saturating_sub(1)));
-        pass(&mut self.world, u64::from(count), &mut self.noting);
-        self.drain_all(u64::from(count));
+        pass(&mut self.world, u64::from(count), &mut self.books);
+        self.act_all(u64::from(count));
         self.round += count;
     }
 
@@ -390,7 +446,7 @@ impl Replaying {
         ensures rest { IsButLedger self.old self.new }
     {
         if self.has_come(port) {
-            self.ledger.fill(port, rounds);
+            self.books.ledger.fill(port, rounds);
         }
     }
 
@@ -405,33 +461,40 @@ impl Replaying {
         }
     }
 
-    /// Counts so many cycles more in each channel where writes were drained in the cycle before.
-    fn drain_all(&mut self, cycles: u64)
-        ensures ledger { self.new.ledger ≡ all_drained cycles (is_draining (state_of self.old.world)) self.old.config.geometry.channels self.old.ledger }
+    /// Counts so many cycles more of each channel, with what is seen of it.
+    fn act_all(&mut self, cycles: u64)
+        ensures ledger { self.new.ledger ≡ all_acted cycles (seen_at (state_of self.old.world)) self.old.config.geometry.channels self.old.ledger }
         ensures rest { IsButLedger self.old self.new }
     {
         for channel in 0..self.config.geometry.channels {
-            self.drain(channel, cycles);
+            self.act(channel, cycles);
         }
     }
 
-    /// Counts so many cycles more in a channel, if writes were drained there in the cycle before.
-    fn drain(&mut self, channel: u32, cycles: u64)
-        ensures ledger { self.new.ledger ≡ drained cycles (is_draining (state_of self.old.world)) channel self.old.ledger }
+    /// Counts so many cycles more of a channel, with what is seen of it.
+    fn act(&mut self, channel: u32, cycles: u64)
+        ensures ledger { self.new.ledger ≡ with_activity channel cycles (seen_at (state_of self.old.world) channel) self.old.ledger }
         ensures rest { IsButLedger self.old self.new }
     {
-        if self.is_draining(channel) {
-            self.ledger.drain(channel, cycles);
-        }
+        let seen = self.seen(channel);
+        self.books.ledger.act(channel, cycles, &seen);
     }
 
-    /// Whether writes were drained in the channel of that number in the cycle before.
-    fn is_draining(&self, channel: u32) -> bool
-        ensures { result ≡ is_draining (state_of self.now.world) channel }
+    /// What is seen of the channel of that number.
+    fn seen(&self, channel: u32) -> Seen
+        ensures { result ≡ seen_at (state_of self.now.world) channel }
     {
-        match self.world.channel(channel) {
-            Some(channel) => channel.is_draining(),
-            None => false,
+        let Some(there) = self.world.channel(channel) else {
+            return Seen::NOTHING;
+        };
+        let Some(waiting) = self.world.waiting(channel) else {
+            return Seen::NOTHING;
+        };
+        Seen {
+            draining: there.is_draining(),
+            reads: u64::from(there.pending(Kind::Read)),
+            writes: u64::from(there.pending(Kind::Write)),
+            waiting: waiting as u64,
         }
     }
 
@@ -442,12 +505,13 @@ impl Replaying {
         ensures stream { self.new.stream ≡ self.old.stream }
         ensures fault { IfErr result (λ fault. IsCycleFault fault (channels_served self.old.config.geometry.channels (state_of self.old.world))) }
         ensures config { self.new.config ≡ self.old.config }
-        ensures traces { self.new.world.keeps ≡ self.old.world.keeps }
+        ensures wanted { self.new.wanted ≡ self.old.wanted }
         ensures round { OnOk result (self.new.round ≡ self.old.round + 1) }
         ensures within { self.new.round ≤ MOST_ROUNDS }
+        ensures told { OnOk result (Tells self.old self.new) }
     {
         self.serve_channels()?;
-        self.drain_all(1);
+        self.act_all(1);
         self.serve_ports()?;
         self.round += 1;
         Ok(())
@@ -456,15 +520,23 @@ impl Replaying {
     /// The channels' part of a round.
     fn serve_channels(&mut self) -> Result<(), Fault>
         ensures served { OnOk result (channels_served self.old.config.geometry.channels (state_of self.old.world) ≡ Some (state_of self.new.world)) }
+        ensures ledger { OnOk result (self.new.ledger ≡ all_found (state_of self.old.world) (channels_told self.old.config.geometry.channels (state_of self.old.world)) self.old.ledger) }
         ensures fault { IfErr result (λ fault. IsCycleFault fault (channels_served self.old.config.geometry.channels (state_of self.old.world))) }
-        ensures same { IsSame self.old self.new }
+        ensures rest { IsButBooks self.old self.new }
+        ensures told { OnOk result (Tells self.old self.new) }
     {
         let channels = self.config.geometry.channels;
-        match serve_channels(&mut self.world, channels, &mut self.noting) {
-            Ok(()) => Ok(()),
-            Err(Refusal::OutOfMemory) => Err(Fault::OutOfMemory),
-            Err(_) => Err(Fault::ClockSpent),
+        self.books.newest = None;
+        match serve_channels(&mut self.world, channels, &mut self.books) {
+            Ok(()) => {}
+            Err(Refusal::OutOfMemory) => return Err(Fault::OutOfMemory),
+            Err(_) => return Err(Fault::ClockSpent),
         }
+        all_are_legal(&self.world, channels);
+        if let Some(entry) = self.books.newest {
+            self.teller.command(self.alloc, &entry)?;
+        }
+        Ok(())
     }
 
     /// The ports' part of a round.
@@ -472,8 +544,9 @@ impl Replaying {
         ensures run { OnOk result (run_of self.new ≡ ports_served self.old.config.limits.ports (run_of self.old)) }
         ensures stream { self.new.stream ≡ self.old.stream }
         ensures config { self.new.config ≡ self.old.config }
-        ensures traces { self.new.world.keeps ≡ self.old.world.keeps }
+        ensures wanted { self.new.wanted ≡ self.old.wanted }
         ensures round { self.new.round ≡ self.old.round }
+        ensures told { OnOk result (Tells self.old self.new) }
     {
         for port in 0..self.config.limits.ports {
             self.serve_port(port)?;
@@ -486,8 +559,9 @@ impl Replaying {
         ensures run { OnOk result (run_of self.new ≡ port_served port (run_of self.old)) }
         ensures stream { self.new.stream ≡ self.old.stream }
         ensures config { self.new.config ≡ self.old.config }
-        ensures traces { self.new.world.keeps ≡ self.old.world.keeps }
+        ensures wanted { self.new.wanted ≡ self.old.wanted }
         ensures round { self.new.round ≡ self.old.round }
+        ensures told { OnOk result (Tells self.old self.new) }
     {
         self.collect(port);
         'replies: while self.release_front(port)? {}
@@ -498,6 +572,7 @@ impl Replaying {
     fn collect(&mut self, port: u32)
         ensures state { state_of self.new.world ≡ until_refused (Collect port) (state_of self.old.world) }
         ensures same { IsSame self.old self.new }
+        ensures told { Tells self.old self.new }
     {
         self.went_on |= collect(&mut self.world, port);
     }
@@ -508,16 +583,23 @@ impl Replaying {
         ensures fewer { IfOk result (λ more. more ≡ true → items_of (state_of self.old.world) (Release port) ≡ items_of (state_of self.new.world) (Release port) + 1) }
         ensures stream { self.new.stream ≡ self.old.stream }
         ensures config { self.new.config ≡ self.old.config }
-        ensures traces { self.new.world.keeps ≡ self.old.world.keeps }
+        ensures wanted { self.new.wanted ≡ self.old.wanted }
         ensures round { self.new.round ≡ self.old.round }
+        ensures told { OnOk result (Tells self.old self.new) }
     {
         let Some(reply) = self.world.front(port) else {
             return Ok(false);
         };
         let Reply { issued, due, .. } = reply;
-        self.ledger
-            .release(port, Service { issued, due }, self.round)?;
-        let _ = release(&mut self.world, port, &mut self.noting);
+        note_release(
+            self.alloc,
+            &mut self.books.ledger,
+            &mut self.teller,
+            port,
+            Service { issued, due },
+            self.round,
+        )?;
+        let _ = release(&mut self.world, port, &mut self.books);
         self.released += 1;
         Ok(true)
     }
@@ -533,7 +615,7 @@ impl Replaying {
     pub fn ledger(&self) -> &Ledger
         ensures { result.now ≡ self.now.ledger }
     {
-        &self.ledger
+        &self.books.ledger
     }
 
     /// Of each port how many requests were read.
@@ -543,16 +625,25 @@ impl Replaying {
         self.stream.asked()
     }
 
+    /// What is kept of it to be told at its end.
+    pub(crate) fn tale(&self) -> &Tale
+        ensures wanted { wanted_of result.now ≡ self.now.wanted }
+        ensures kept { IsKept result.now self.now.ledger.served }
+    {
+        &self.teller.tale
+    }
+
     /// What the channels' commands come to.
     pub fn noting(&self) -> &Noting
         ensures { AreNoted self.entry.now.world.config (state_of self.entry.now.world) result.now }
     {
-        &self.noting
+        &self.books.noting
     }
 
     /// The core.
     pub fn world(&self) -> &World
-        ensures { result.now ≡ self.now.world }
+        ensures value { result.now ≡ self.now.world }
+        ensures config { result.now.config ≡ self.now.config }
     {
         &self.world
     }

@@ -1,16 +1,22 @@
 //! The statistics of a replay as text.
 //!
-//! `numbers`, `waited`, `places`, `times_report` and `ddr_statistics` stand below, and `telling` above. `specs/Report.antt` has the text, byte for byte.
+//! `numbers`, `rows`, `waited`, `activity`, `places`, `times_report` and `ddr_statistics` stand below, and `telling` above. `specs/Report.antt` has
+//! the text, byte for byte.
 ghost use Rattle.std.specs.Prelude.{◌≡◌, IfOk, slice_index_or, string_bytes};
-ghost use Rattle.ddr_replay.specs.Drains.{both_drains, drains_together};
-ghost use Rattle.ddr_replay.specs.Report.{channel_table, channel_tables, head_text, numbers_lines, port_table, port_tables, report_lines, requests_lines, total_table, waited_lines};
+ghost use Rattle.ddr_replay.specs.Activities.{and_drains, drains_together};
+ghost use Rattle.ddr_replay.specs.Activity.{no_activity};
+ghost use Rattle.ddr_replay.specs.Report.{activity_lines, channel_table, channel_tables, counts_lines, head_text, held_lines, numbers_lines, port_table, port_tables, report_lines, requests_lines, rows_lines, total_table, waited_lines};
+ghost use Rattle.ddr_replay.specs.Rows.{no_rows};
 ghost use Rattle.ddr_replay.specs.Waited.{no_wait};
 
+use crate::activity::{Activity, Held};
 use crate::ledger::Ledger;
 use crate::numbers::{Numbers, many, together};
 use crate::places::debt_line;
+use crate::rows::{RowCounts, Rows, all_rows};
 use crate::times_report::ledger_tables;
 use crate::waited::{Waited, all_waited};
+use ddr_measure::text::thousandths;
 use ddr_statistics::text::counts_text;
 use ddr_stream::requests::Requests;
 use ddr_timing::config::Config;
@@ -35,13 +41,14 @@ pub fn report_lines(
         alloc,
         &many(requests),
         &all_waited(ledger.waited()),
-        drains_together(ledger.drains()),
+        &all_rows(ledger.rows()),
+        drains_together(ledger.activity()),
         &together(numbers),
     )?;
     text.push_str(total.as_str())?;
-    let channels = channel_tables(alloc, numbers, ledger.drains())?;
+    let channels = channel_tables(alloc, cycles, numbers, ledger.activity())?;
     text.push_str(channels.as_str())?;
-    let ports = port_tables(alloc, requests, ledger.waited())?;
+    let ports = port_tables(alloc, requests, ledger.waited(), ledger.rows())?;
     text.push_str(ports.as_str())?;
     let times = ledger_tables(alloc, ledger)?;
     text.push_str(times.as_str())?;
@@ -63,87 +70,122 @@ fn total_table(
     alloc: Global,
     requests: &Requests,
     waited: &Waited,
+    rows: &Rows,
     drains: u64,
     numbers: &Numbers,
 ) -> Result<String, AllocError>
-    ensures { IfOk result (λ text. string_bytes text ≡ total_table requests.now waited.now drains numbers.now) }
+    ensures { IfOk result (λ text. string_bytes text ≡ total_table requests.now waited.now rows.now drains numbers.now) }
 {
     let mut text = String::from_str(alloc, "\n[total]\n")?;
     let asked = requests_lines(alloc, requests)?;
     text.push_str(asked.as_str())?;
     let waits = waited_lines(alloc, waited)?;
     text.push_str(waits.as_str())?;
+    let found = rows_lines(alloc, rows)?;
+    text.push_str(found.as_str())?;
     let counted = numbers_lines(alloc, drains, numbers)?;
     text.push_str(counted.as_str())?;
     Ok(text)
 }
 
-/// The tables of the channels, of which a channel that isn't told of drained no writes.
-fn channel_tables(alloc: Global, numbers: &[Numbers], drains: &[u64]) -> Result<String, AllocError>
-    ensures { IfOk result (λ text. string_bytes text ≡ channel_tables 0 numbers.now drains.now) }
+/// The tables of the channels, of which a channel that isn't told of did nothing.
+fn channel_tables(
+    alloc: Global,
+    cycles: u32,
+    numbers: &[Numbers],
+    activity: &[Activity],
+) -> Result<String, AllocError>
+    ensures { IfOk result (λ text. string_bytes text ≡ channel_tables cycles 0 numbers.now activity.now) }
 {
     let mut text = String::new(alloc);
     for (channel, one) in numbers.iter().enumerate() {
-        let table = channel_table(alloc, channel, drains_at(drains, channel), one)?;
+        let table = channel_table(alloc, channel, cycles, &activity_at(activity, channel), one)?;
         text.push_str(table.as_str())?;
     }
     Ok(text)
 }
 
-/// In how many cycles a channel drained writes; in none where it isn't told of.
-fn drains_at(drains: &[u64], channel: usize) -> u64
-    ensures { result ≡ slice_index_or drains.now channel 0 }
+/// What a channel did in its cycles; nothing where it isn't told of.
+fn activity_at(activity: &[Activity], channel: usize) -> Activity
+    ensures { result ≡ slice_index_or activity.now channel no_activity }
 {
-    match drains.get(channel) {
+    match activity.get(channel) {
         Some(one) => *one,
-        None => 0,
+        None => Activity::NONE,
     }
 }
 
 /// In how many cycles several channels drained writes, together.
-fn drains_together(drains: &[u64]) -> u64
-    ensures { result ≡ drains_together drains.now }
+fn drains_together(activity: &[Activity]) -> u64
+    ensures { result ≡ drains_together activity.now }
 {
     let mut all: u64 = 0;
-    for one in drains {
-        all = both_drains(all, *one);
+    for one in activity {
+        all = and_drains(all, one);
     }
     all
 }
 
-fn both_drains(a: u64, b: u64) -> u64
-    ensures { result ≡ both_drains a b }
+fn and_drains(all: u64, activity: &Activity) -> u64
+    ensures { result ≡ and_drains all activity.now }
 {
-    a.saturating_add(b)
+    all.saturating_add(activity.drains)
 }
 
-/// The table of a channel, behind an empty line.
+/// The table of a channel that made so many cycles, behind an empty line.
 #[tactic(auto, unfolding(crate::specs::Report::channel_table))]
 fn channel_table(
     alloc: Global,
     channel: usize,
-    drains: u64,
+    cycles: u32,
+    activity: &Activity,
     numbers: &Numbers,
 ) -> Result<String, AllocError>
-    ensures { IfOk result (λ text. string_bytes text ≡ channel_table channel drains numbers.now) }
+    ensures { IfOk result (λ text. string_bytes text ≡ channel_table channel cycles activity.now numbers.now) }
 {
     let mut text = format!(in alloc; "\n[channel.{channel}]\n")?;
-    let lines = numbers_lines(alloc, drains, numbers)?;
+    let lines = numbers_lines(alloc, activity.drains, numbers)?;
     text.push_str(lines.as_str())?;
+    let acted = activity_lines(alloc, cycles, activity)?;
+    text.push_str(acted.as_str())?;
     Ok(text)
 }
 
-/// The tables of the ports, of which a port that isn't told of waited for no clock.
+/// How many requests were pending in a channel of so many cycles, and waited in its queue.
+fn activity_lines(alloc: Global, cycles: u32, activity: &Activity) -> Result<String, AllocError>
+    ensures { IfOk result (λ text. string_bytes text ≡ activity_lines cycles activity.now) }
+{
+    let mut text = held_lines(alloc, "pending_reads", cycles, &activity.reads)?;
+    let writes = held_lines(alloc, "pending_writes", cycles, &activity.writes)?;
+    text.push_str(writes.as_str())?;
+    let waiting = held_lines(alloc, "intake", cycles, &activity.waiting)?;
+    text.push_str(waiting.as_str())?;
+    Ok(text)
+}
+
+/// How many of these there were in so many cycles: on the mean, and the most.
+#[tactic(auto, unfolding(crate::specs::Report::held_lines))]
+fn held_lines(alloc: Global, name: &str, cycles: u32, held: &Held) -> Result<String, AllocError>
+    ensures { IfOk result (λ text. string_bytes text ≡ held_lines name.now cycles held.now) }
+{
+    let mean = thousandths(alloc, held.mean(cycles))?;
+    let most = held.most;
+    format!(in alloc; "{name}_mean = {mean}\n{name}_most = {most}\n")
+}
+
+/// The tables of the ports, of which a port that isn't told of waited for no clock, and read and wrote nothing.
 fn port_tables(
     alloc: Global,
     requests: &[Requests],
     waited: &[Waited],
+    rows: &[Rows],
 ) -> Result<String, AllocError>
-    ensures { IfOk result (λ text. string_bytes text ≡ port_tables 0 requests.now waited.now) }
+    ensures { IfOk result (λ text. string_bytes text ≡ port_tables 0 requests.now waited.now rows.now) }
 {
     let mut text = String::new(alloc);
     for (port, one) in requests.iter().enumerate() {
-        let table = port_table(alloc, port, one, &waited_at(waited, port))?;
+        let (waits, found) = (waited_at(waited, port), rows_at(rows, port));
+        let table = port_table(alloc, port, one, &waits, &found)?;
         text.push_str(table.as_str())?;
     }
     Ok(text)
@@ -159,6 +201,16 @@ fn waited_at(waited: &[Waited], port: usize) -> Waited
     }
 }
 
+/// How a port's reads and writes found their banks; none where it isn't told of.
+fn rows_at(rows: &[Rows], port: usize) -> Rows
+    ensures { result ≡ slice_index_or rows.now port no_rows }
+{
+    match rows.get(port) {
+        Some(one) => *one,
+        None => Rows::NONE,
+    }
+}
+
 /// The table of a port, behind an empty line.
 #[tactic(auto, unfolding(crate::specs::Report::port_table))]
 fn port_table(
@@ -166,15 +218,42 @@ fn port_table(
     port: usize,
     requests: &Requests,
     waited: &Waited,
+    rows: &Rows,
 ) -> Result<String, AllocError>
-    ensures { IfOk result (λ text. string_bytes text ≡ port_table port requests.now waited.now) }
+    ensures { IfOk result (λ text. string_bytes text ≡ port_table port requests.now waited.now rows.now) }
 {
     let mut text = format!(in alloc; "\n[port.{port}]\n")?;
     let lines = requests_lines(alloc, requests)?;
     text.push_str(lines.as_str())?;
     let waits = waited_lines(alloc, waited)?;
     text.push_str(waits.as_str())?;
+    let found = rows_lines(alloc, rows)?;
+    text.push_str(found.as_str())?;
     Ok(text)
+}
+
+/// How reads and writes found their banks.
+#[tactic(auto, unfolding(crate::specs::Report::rows_lines))]
+fn rows_lines(alloc: Global, rows: &Rows) -> Result<String, AllocError>
+    ensures { IfOk result (λ text. string_bytes text ≡ rows_lines rows.now) }
+{
+    let mut text = counts_lines(alloc, "read", &rows.reads)?;
+    let writes = counts_lines(alloc, "write", &rows.writes)?;
+    text.push_str(writes.as_str())?;
+    Ok(text)
+}
+
+/// How those of one kind found their banks.
+#[tactic(auto, unfolding(crate::specs::Report::counts_lines))]
+fn counts_lines(alloc: Global, kind: &str, counts: &RowCounts) -> Result<String, AllocError>
+    ensures { IfOk result (λ text. string_bytes text ≡ counts_lines kind.now counts.now) }
+{
+    let hits = counts.hits;
+    let misses = counts.misses;
+    let conflicts = counts.conflicts;
+    format!(in alloc;
+        "{kind}_row_hits = {hits}\n{kind}_row_misses = {misses}\n{kind}_row_conflicts = {conflicts}\n"
+    )
 }
 
 #[tactic(auto, unfolding(crate::specs::Report::waited_lines))]

@@ -1,12 +1,9 @@
-//! A request whose reply was released, and the text of all of them.
+//! A request whose reply was released, and its line of text.
 //!
-//! `found` and `ddr_stream` stand below, and `ledger` and `telling` above. `specs/ServedText.antt` has the text, byte for byte.
+//! `ddr_stream` stands below, and `ledger` and `teller` above. `specs/ServedText.antt` has the text, byte for byte.
 ghost use Rattle.std.specs.Prelude.{◌≡◌, IfOk, string_bytes};
-ghost use Rattle.ddr_replay.specs.Found.{all_found_in};
-ghost use Rattle.ddr_replay.specs.ServedText.{asked_fields, found_of, found_word, kind_word, served_line, served_text, times_fields};
+ghost use Rattle.ddr_replay.specs.ServedText.{asked_fields, found_word, kind_word, served_line, times_fields};
 
-use crate::found::Findings;
-use ddr_address_map::map::Map;
 use ddr_address_map::request::Kind;
 use ddr_statistics::counts::Finding;
 use ddr_stream::ask::Ask;
@@ -27,46 +24,22 @@ pub struct Served {
     pub due: u64,
     /// The round in which its reply was released, counted from 0.
     pub released: u32,
+    /// How that column command found its bank.
+    pub found: Option<Finding>,
 }
 
-/// The requests as comma-separated values, a line each behind one that names the columns. `findings` are those of each channel.
-#[tactic(auto, unfolding(crate::specs::ServedText::served_text))]
-pub fn served_text(
-    alloc: Global,
-    map: &Map,
-    findings: &[Findings],
-    all: &[Served],
-) -> Result<String, AllocError>
-    ensures { IfOk result (λ text. string_bytes text ≡ served_text map.now.geometry (all_found_in findings.now) all.now) }
-{
-    let mut text = String::from_str(
-        alloc,
-        "line,port,number,op,addr,at,accepted,issued,done,released,found\n",
-    )?;
-    for served in all {
-        let line = served_line(alloc, served, found_of(map, findings, served))?;
-        text.push_str(line.as_str())?;
-    }
-    Ok(text)
-}
+/// The line that names the columns.
+pub(crate) const HEAD: &str = "line,port,number,op,addr,at,accepted,issued,done,released,found\n";
 
+/// The line of a request, in comma-separated values.
 #[tactic(auto, unfolding(crate::specs::ServedText::served_line))]
-fn served_line(alloc: Global, served: &Served, found: Option<Finding>) -> Result<String, AllocError>
-    ensures { IfOk result (λ text. string_bytes text ≡ served_line served.now found) }
+pub(crate) fn served_line(alloc: Global, served: &Served) -> Result<String, AllocError>
+    ensures { IfOk result (λ text. string_bytes text ≡ served_line served.now) }
 {
     let asked = asked_fields(alloc, served)?;
     let times = times_fields(alloc, served)?;
-    let word = found_word(found);
+    let word = found_word(served.found);
     format!(in alloc; "{asked},{times},{word}\n")
-}
-
-/// How a request's read or write found its bank.
-pub(crate) fn found_of(map: &Map, findings: &[Findings], served: &Served) -> Option<Finding>
-    ensures { result ≡ found_of map.now.geometry (all_found_in findings.now) served.now }
-{
-    let place = map.place(served.ask.addr)?;
-    let channel = findings.get(place.channel as usize)?;
-    channel.at(served.issued)
 }
 
 fn found_word(found: Option<Finding>) -> &'static str

@@ -37,6 +37,7 @@ pub fn submit_from<R: Source>(
     ensures sized { IsSized stream.new }
     ensures config { world.new.config ≡ world.old.config }
     ensures keeps { world.new.keeps ≡ world.old.keeps }
+    ensures served { ledger.new.served ≡ ledger.old.served }
     ensures traces { (c : ℕ) → trace_at (state_of world.new) c ≡ trace_at (state_of world.old) c }
     ensures count { stream.old.taken + outstanding (state_of world.new) ≡ stream.new.taken + outstanding (state_of world.old) }
     ensures kind { IfErr result IsStreamFault }

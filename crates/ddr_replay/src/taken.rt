@@ -1,7 +1,7 @@
 //! The requests of a stream as a replay takes them: by their cycles as they stand, or counted from the first one's.
 //!
 //! `ddr_stream` stands below, and `replay` above.
-ghost use Rattle.std.specs.Prelude.{◌≡◌, IfErr, IfOk, IfSome, IsErrOf, IsTrue, OnOk, Some, map};
+ghost use Rattle.std.specs.Prelude.{◌≡◌, IfErr, IfOk, IfSome, IsErrOf, IsTrue, OnOk, map};
 ghost use Rattle.ddr_capture.specs.Feed.{IsWell, left};
 ghost use Rattle.ddr_stream.specs.Waiting.{IsAhead, IsSized, IsStreamFault, all_in};
 ghost use Rattle.ddr_replay.specs.Taken.{IsTaken, IsTakenFault, first_from, first_of, shifted, shifted_ask};

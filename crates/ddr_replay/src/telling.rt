@@ -1,131 +1,137 @@
-//! What is told of a replay that has come to its end.
+//! What is told of a replay that has come to its end, behind what was told as it came.
 //!
-//! `wanted`, `replaying`, `report`, `places`, `served`, `found`, `measured` and `drampower` stand below, and `replay` above.
-ghost use Rattle.std.specs.Prelude.{◌≡◌, true, IfErr, IfOk};
-ghost use Rattle.ddr_trace.specs.Text.{trace_text};
+//! `wanted`, `replaying`, `report`, `places`, `teller` and `drampower` stand below, and `replay` above.
+ghost use Rattle.std.specs.Prelude.{◌≡◌, ◌++◌, ◌<◌, ℕ, [], drop, false, map, IfErr, IfOk};
 ghost use Rattle.ddr_world.specs.Kept.{state_of};
-ghost use Rattle.ddr_replay.specs.Drampower.{drampower_text};
-ghost use Rattle.ddr_replay.specs.Replays.{IsCounted, IsSaid, channel_commands, channel_text, keeps_traces, listed, measured, reported, requests_behind, series, told_of};
-ghost use Rattle.ddr_replay.specs.View.{run_of};
+ghost use Rattle.ddr_world.specs.Promise.{trace_at};
+ghost use Rattle.ddr_replay.specs.Measured.{timed_of};
+ghost use Rattle.ddr_replay.specs.Replays.{IsSaid, channel_commands, channel_text, listed, measured, names_no_channel, reported, series, told_of};
+ghost use Rattle.ddr_replay.specs.Runs.{Run};
+ghost use Rattle.ddr_replay.specs.Told.{said};
+ghost use Rattle.ddr_replay.specs.View.{run_of, told_so_far};
+ghost use Rattle.ddr_replay.specs.declared.wanted.Wanted.{Wanted};
 
-use crate::drampower::drampower_text;
-use crate::found::findings_of;
-use crate::measured::{behind, timed};
+use crate::drampower::end_line;
 use crate::numbers::{is_any_spent, numbers_of};
 use crate::places::places_tables;
 use crate::replaying::Replaying;
 use crate::report::report_lines;
-use crate::served::served_text;
-use crate::wanted::Wanted;
-use ddr_address_map::map::Map;
-use ddr_channel::channel::Channel;
+use crate::teller::Tale;
+use ddr_measure::measured::Measured;
 use ddr_measure::series::series_text;
 use ddr_measure::text::measured_text;
 use ddr_measure::timed::Timed;
 use ddr_stream::requests::Requests;
 use ddr_text::fault::Fault;
 use ddr_timing::config::Config;
-use ddr_trace::text::write_trace;
+use ddr_trace::text::end_text;
 use ddr_world::world::World;
 use std::alloc::Global;
 
-/// What is to be told of a replay of these requests, whose core keeps traces where that wants them.
-pub fn told_of(
+/// What is to be told of a replay of these requests behind what was told as it came. Fails as `ClockSpent` where a channel's clock has come
+/// to its end, unless the commands of a channel are asked for.
+pub fn ending_of(
     alloc: Global,
     config: &Config,
-    wanted: Wanted,
     requests: &[Requests],
     replaying: &Replaying,
 ) -> Result<Vec<u8>, Fault>
-    requires { keeps_traces wanted ≡ true → replaying.now.world.keeps ≡ true }
-    ensures { IsSaid (λ v. v.items) result (told_of config.now wanted requests.now (run_of replaying.now)) }
+    requires config { replaying.now.config ≡ config.now }
+    requires channel { names_no_channel config.now replaying.now.wanted ≡ false }
+    ensures { IsSaid (λ v. told_so_far replaying.now ++ v.items) result (told_of config.now replaying.now.wanted requests.now (run_of replaying.now)) }
 {
-    match wanted {
-        Wanted::Statistics => reported(alloc, config, requests, replaying),
-        Wanted::Requests => listed(alloc, config, replaying),
-        Wanted::Trace { channel } => channel_text(alloc, replaying.world(), channel),
-        Wanted::Drampower { channel } => channel_commands(alloc, replaying.world(), channel),
-        Wanted::Numbers { skip, clock } => measured(alloc, config, skip, clock, replaying),
-        Wanted::Intervals { skip, every } => series(alloc, config, skip, every, replaying),
+    let world = replaying.world();
+    match replaying.tale() {
+        Tale::Statistics => reported(alloc, config, requests, replaying),
+        Tale::Requests => rows_ended(alloc, config, world),
+        Tale::Trace { channel } => trace_ended(alloc, world, *channel),
+        Tale::Drampower { channel } => commands_ended(alloc, world, *channel),
+        Tale::Numbers {
+            clock,
+            requests,
+            ..
+        } => measured(alloc, config, *clock, requests, world),
+        Tale::Intervals {
+            every,
+            requests,
+            ..
+        } => series(alloc, config, *every, requests.as_slice(), world),
     }
 }
 
-/// The requests. Fails as `ClockSpent` where a channel's clock has come to its end.
-fn listed(alloc: Global, config: &Config, replaying: &Replaying) -> Result<Vec<u8>, Fault>
-    requires { replaying.now.world.keeps ≡ true }
-    ensures { IsSaid (λ v. v.items) result (listed config.now (run_of replaying.now)) }
+/// What stands behind the requests: nothing. Fails as `ClockSpent` where a channel's clock has come to its end.
+fn rows_ended(alloc: Global, config: &Config, world: &World) -> Result<Vec<u8>, Fault>
+    ensures { (run : Run) → run.state ≡ state_of world.now → IsSaid (λ v. said Wanted.Requests run.ledger.served [] ++ v.items) result (listed config.now run) }
 {
-    let world = replaying.world();
-    let channels = config.geometry.channels;
-    if is_any_spent(world, channels) {
+    if is_any_spent(world, config.geometry.channels) {
         return Err(Fault::ClockSpent);
     }
-    let findings = findings_of(alloc, world, channels)?;
-    let map = Map::new(config);
-    let text = served_text(
-        alloc,
-        &map,
-        findings.as_slice(),
-        replaying.ledger().served(),
-    )?;
+    Ok(Vec::new(alloc))
+}
+
+/// What stands behind the commands of a channel.
+fn trace_ended(alloc: Global, world: &World, channel: u32) -> Result<Vec<u8>, Fault>
+    requires { channel < world.now.config.geometry.channels }
+    ensures text { IfOk result (λ v. said (Wanted.Trace channel) [] (trace_at (state_of world.now) channel) ++ v.items ≡ channel_text (state_of world.now) channel) }
+    ensures refused { IfErr result (λ fault. fault ≡ Fault.OutOfMemory) }
+{
+    let _ = world.still(); // it has as many channels as it was opened with
+    let Some(channel) = world.channel(channel) else {
+        return Ok(Vec::new(alloc));
+    };
+    match end_text(alloc, channel.now()) {
+        Ok(text) => Ok(text),
+        Err(_) => Err(Fault::OutOfMemory),
+    }
+}
+
+/// What stands behind the commands of a channel in DRAMPower's form.
+fn commands_ended(alloc: Global, world: &World, channel: u32) -> Result<Vec<u8>, Fault>
+    requires { channel < world.now.config.geometry.channels }
+    ensures text { IfOk result (λ v. said (Wanted.Drampower channel) [] (trace_at (state_of world.now) channel) ++ v.items ≡ channel_commands (state_of world.now) channel) }
+    ensures refused { IfErr result (λ fault. fault ≡ Fault.OutOfMemory) }
+{
+    let _ = world.still(); // it has as many channels as it was opened with
+    let Some(channel) = world.channel(channel) else {
+        return Ok(Vec::new(alloc));
+    };
+    let text = end_line(alloc, channel.now())?;
     Ok(text.into_bytes())
 }
 
-/// The numbers of the requests behind the first so many. Fails as `ClockSpent` where a channel's clock has come to its end.
+/// The numbers of these requests. Fails as `ClockSpent` where a channel's clock has come to its end.
 fn measured(
     alloc: Global,
     config: &Config,
-    skip: u32,
     clock: Option<u32>,
-    replaying: &Replaying,
+    requests: &Measured,
+    world: &World,
 ) -> Result<Vec<u8>, Fault>
-    requires { replaying.now.world.keeps ≡ true }
-    ensures { IsSaid (λ v. v.items) result (measured config.now skip clock (run_of replaying.now)) }
+    ensures { (skip : ℕ) (run : Run) → run.state ≡ state_of world.now → requests.now ≡ map timed_of (drop skip run.ledger.served) → IsSaid (λ v. v.items) result (measured config.now skip clock run) }
 {
-    let requests = requests_behind(alloc, config, skip, replaying)?;
-    let channels = config.geometry.channels;
-    let text = measured_text(alloc, channels, clock, requests.as_slice())?;
-    Ok(text.into_bytes())
-}
-
-/// The numbers of each interval of so many cycles, of the requests behind the first so many. Fails as `ClockSpent` where a channel's
-/// clock has come to its end.
-fn series(
-    alloc: Global,
-    config: &Config,
-    skip: u32,
-    every: u32,
-    replaying: &Replaying,
-) -> Result<Vec<u8>, Fault>
-    requires { replaying.now.world.keeps ≡ true }
-    ensures { IsSaid (λ v. v.items) result (series config.now skip every (run_of replaying.now)) }
-{
-    let requests = requests_behind(alloc, config, skip, replaying)?;
-    let text = series_text(alloc, every, requests.as_slice())?;
-    Ok(text.into_bytes())
-}
-
-/// The requests behind the first so many, with how each found its bank. Fails as `ClockSpent` where a channel's clock has come to its
-/// end.
-fn requests_behind(
-    alloc: Global,
-    config: &Config,
-    skip: u32,
-    replaying: &Replaying,
-) -> Result<Vec<Timed>, Fault>
-    requires { replaying.now.world.keeps ≡ true }
-    ensures { IsCounted (λ v. v.items) result (requests_behind config.now skip (run_of replaying.now)) }
-{
-    let world = replaying.world();
     let channels = config.geometry.channels;
     if is_any_spent(world, channels) {
         return Err(Fault::ClockSpent);
     }
-    let findings = findings_of(alloc, world, channels)?;
-    let map = Map::new(config);
-    let served = behind(replaying.ledger().served(), skip);
-    let requests = timed(alloc, &map, findings.as_slice(), served)?;
-    Ok(requests)
+    let text = measured_text(alloc, channels, clock, requests)?;
+    Ok(text.into_bytes())
+}
+
+/// The numbers of each interval of so many cycles, of these requests. Fails as `ClockSpent` where a channel's clock has come to its end.
+fn series(
+    alloc: Global,
+    config: &Config,
+    every: u32,
+    requests: &[Timed],
+    world: &World,
+) -> Result<Vec<u8>, Fault>
+    ensures { (skip : ℕ) (run : Run) → run.state ≡ state_of world.now → requests.now ≡ map timed_of (drop skip run.ledger.served) → IsSaid (λ v. v.items) result (series config.now skip every run) }
+{
+    if is_any_spent(world, config.geometry.channels) {
+        return Err(Fault::ClockSpent);
+    }
+    let text = series_text(alloc, every, requests)?;
+    Ok(text.into_bytes())
 }
 
 /// The statistics. Fails as `ClockSpent` where a channel's clock has come to its end.
@@ -152,51 +158,4 @@ fn reported(
     let places = places_tables(alloc, world, noting, channels)?;
     report.push_str(places.as_str())?;
     Ok(report.into_bytes())
-}
-
-/// The trace of a channel as a text, empty where there is no such channel.
-fn channel_text(alloc: Global, world: &World, channel: u32) -> Result<Vec<u8>, Fault>
-    requires { world.now.keeps ≡ true }
-    ensures text { IfOk result (λ v. v.items ≡ channel_text (state_of world.now) channel) }
-    ensures refused { IfErr result (λ fault. fault ≡ Fault.OutOfMemory) }
-{
-    match world.channel(channel) {
-        Some(channel) => trace_text(alloc, channel),
-        None => Ok(Vec::new(alloc)),
-    }
-}
-
-/// The text of a channel's trace.
-fn trace_text(alloc: Global, channel: &Channel) -> Result<Vec<u8>, Fault>
-    requires { channel.now.keeps ≡ true }
-    ensures text { IfOk result (λ v. v.items ≡ trace_text channel.now.trace channel.now.now) }
-    ensures refused { IfErr result (λ fault. fault ≡ Fault.OutOfMemory) }
-{
-    let mut text = Vec::new(alloc);
-    match write_trace(alloc, channel.trace(), channel.now(), &mut text) {
-        Ok(()) => Ok(text),
-        Err(_) => Err(Fault::OutOfMemory),
-    }
-}
-
-/// The commands of a channel in DRAMPower's form, an empty text where there is no such channel.
-fn channel_commands(alloc: Global, world: &World, channel: u32) -> Result<Vec<u8>, Fault>
-    requires { world.now.keeps ≡ true }
-    ensures text { IfOk result (λ v. v.items ≡ channel_commands (state_of world.now) channel) }
-    ensures refused { IfErr result (λ fault. fault ≡ Fault.OutOfMemory) }
-{
-    match world.channel(channel) {
-        Some(channel) => commands_text(alloc, channel),
-        None => Ok(Vec::new(alloc)),
-    }
-}
-
-/// The text of a channel's commands in DRAMPower's form.
-fn commands_text(alloc: Global, channel: &Channel) -> Result<Vec<u8>, Fault>
-    requires { channel.now.keeps ≡ true }
-    ensures text { IfOk result (λ v. v.items ≡ drampower_text channel.now.trace channel.now.now) }
-    ensures refused { IfErr result (λ fault. fault ≡ Fault.OutOfMemory) }
-{
-    let text = drampower_text(alloc, channel.trace(), channel.now())?;
-    Ok(text.into_bytes())
 }

@@ -17,8 +17,10 @@ use Rattle.ddr_stream.specs.Asks.{asked_by}
 use Rattle.ddr_replay.specs.declared.served.Served.{Served}
 use Rattle.ddr_replay.specs.declared.times.Accepted.{Accepted}
 use Rattle.ddr_replay.specs.declared.times.Times.{Times}
-use Rattle.ddr_replay.specs.Drains.{all_drained}
-use Rattle.ddr_replay.specs.Ledgers.{Ledger, with_drained}
+use Rattle.ddr_world.specs.State.{State}
+use Rattle.ddr_replay.specs.Activities.{all_acted}
+use Rattle.ddr_replay.specs.Activity.{seen_at}
+use Rattle.ddr_replay.specs.Ledgers.{Ledger}
 use Rattle.ddr_replay.specs.Times.{count_of, no_times, timed, with_kind, with_time}
 use Rattle.ddr_replay_deadline.specs.InReplay.{replay_opening}
 use Rattle.ddr_replay_deadline.specs.Rows.{IsInOrder, IsRowOf, rows_of}
@@ -174,21 +176,12 @@ ledger_begun config keeps = record {
   numbered = λ kept p. refl;
 }
 
--- the cycles in which writes are drained change nothing of it
+-- what channels do in their cycles changes nothing of it
 
-pub drained_lists : (n : ℕ) (draining : ℕ → Bool) (ledger : Ledger)
-    → ((all_drained 1 draining n ledger).accepted ≡ ledger.accepted) × ((all_drained 1 draining n ledger).ports ≡ ledger.ports) × ((all_drained 1 draining n ledger).keeps ≡ ledger.keeps) × ((all_drained 1 draining n ledger).served ≡ ledger.served)
-drained_lists zero draining ledger = (refl, refl, refl, refl)
-drained_lists (suc c) draining ledger =
-    let before = all_drained 1 draining c ledger in
-    let one = by_test (draining c) before in
-    let rest = drained_lists c draining ledger in
-    (one.0 ∙ rest.0, one.1 ∙ rest.1, one.2 ∙ rest.2, one.3 ∙ rest.3)
-  where
-    by_test : (b : Bool) (l : Ledger)
-        → ((cond b (with_drained c 1 l) l).accepted ≡ l.accepted) × ((cond b (with_drained c 1 l) l).ports ≡ l.ports) × ((cond b (with_drained c 1 l) l).keeps ≡ l.keeps) × ((cond b (with_drained c 1 l) l).served ≡ l.served)
-    by_test true l = (refl, refl, refl, refl)
-    by_test false l = (refl, refl, refl, refl)
+pub acted_lists : (n : ℕ) (s : State) (ledger : Ledger)
+    → ((all_acted 1 (seen_at s) n ledger).accepted ≡ ledger.accepted) × ((all_acted 1 (seen_at s) n ledger).ports ≡ ledger.ports) × ((all_acted 1 (seen_at s) n ledger).keeps ≡ ledger.keeps) × ((all_acted 1 (seen_at s) n ledger).served ≡ ledger.served)
+acted_lists zero s ledger = (refl, refl, refl, refl)
+acted_lists (suc c) s ledger = acted_lists c s ledger
 
 -- the times of one request more
 

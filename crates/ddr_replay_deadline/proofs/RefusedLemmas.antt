@@ -19,8 +19,8 @@ use Rattle.ddr_core_deadline.proofs.RoundLemmas.{IsReached, Leads, channels_part
 use Rattle.ddr_stream.specs.declared.ask.Ask.{Ask}
 use Rattle.ddr_stream.specs.Asks.{asked_by}
 use Rattle.ddr_stream.specs.Stream.{queue_at}
-use Rattle.ddr_replay.specs.Runs.{Run, all_submitted, channels_counted, first_port, ports_served, ports_submitted, round_closed, round_made, turn}
-use Rattle.ddr_replay_deadline.specs.InReplay.{events_of_all_submitted, events_of_port_served, events_of_ports_served, events_of_ports_submitted, events_of_round_made, events_of_turn, events_of_turns, events_released, events_submitted, turns}
+use Rattle.ddr_replay.specs.Runs.{Run, all_submitted, channels_counted, first_port, ports_served, ports_submitted, round_closed, round_made, turn, turns}
+use Rattle.ddr_replay_deadline.specs.InReplay.{events_of_all_submitted, events_of_port_served, events_of_ports_served, events_of_ports_submitted, events_of_round_made, events_of_turn, events_of_turns, events_released, events_submitted}
 use Rattle.ddr_replay_deadline.proofs.PartLemmas.{all_submitted_part}
 use Rattle.ddr_replay_deadline.proofs.TurnLemmas.{turn_part}
 

@@ -16,8 +16,8 @@ use Rattle.ddr_core_deadline.proofs.NoneLemmas.{begun_none}
 use Rattle.ddr_core_deadline.proofs.RoundLemmas.{IsPart, begun_reached}
 use Rattle.ddr_stream.specs.Stream.{Queues}
 use Rattle.ddr_replay.specs.declared.order.Order.{Order}
-use Rattle.ddr_replay.specs.Runs.{Run, begun, replayed}
-use Rattle.ddr_replay_deadline.specs.InReplay.{events_of_turns, replay_opening, turns}
+use Rattle.ddr_replay.specs.Runs.{Run, begun, replayed, turns}
+use Rattle.ddr_replay_deadline.specs.InReplay.{events_of_turns, replay_opening}
 use Rattle.ddr_replay_deadline.specs.Waits.{IsAdmittedIn, acceptances, admitted_in}
 use Rattle.ddr_replay_deadline.proofs.AdmitLemmas.{run_waits}
 use Rattle.ddr_replay_deadline.proofs.ClockLemmas.{Waits, left_in_time, waiting_in_time}

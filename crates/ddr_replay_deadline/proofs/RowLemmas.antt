@@ -6,6 +6,7 @@ use Rattle.std.proofs.lemmas.List.Sums.{fold-append}
 use Rattle.ddr_timing.specs.declared.config.Config.{Config}
 use Rattle.ddr_reorder.specs.declared.reply.Service.{Service}
 use Rattle.ddr_rounds.specs.Rounds.{channels_served, items_of, until_refused}
+use Rattle.ddr_rounds.specs.Telling.{channels_told}
 use Rattle.ddr_rounds.specs.Rounds as rounds
 use Rattle.ddr_world.specs.declared.event.Refusal.{Refusal}
 use Rattle.ddr_world.specs.Events.{Event, Submit, Take, Cycle, Deliver, Collect, Release}
@@ -19,7 +20,6 @@ use Rattle.ddr_core_deadline.specs.InRounds.{NoneDone, events_of_channel, events
 use Rattle.ddr_core_deadline.proofs.NoneLemmas.{begun_none}
 use Rattle.ddr_core_deadline.proofs.EventLemmas.{at_replicate}
 use Rattle.ddr_core_deadline.proofs.RoundLemmas.{IsReached, begun_reached, channels_part, reached_then, until_leads}
-use Rattle.ddr_rounds.specs.Drains.{is_draining}
 use Rattle.ddr_stream.specs.declared.ask.Ask.{Ask}
 use Rattle.ddr_stream.specs.Asks.{asked_by}
 use Rattle.ddr_stream.specs.Stream.{Queues, queue_at}
@@ -27,12 +27,14 @@ use Rattle.ddr_replay.specs.declared.order.Order.{Order}
 use Rattle.ddr_replay.specs.declared.served.Served.{Served}
 use Rattle.ddr_replay.specs.declared.times.Accepted.{Accepted}
 use Rattle.ddr_replay.specs.declared.times.Times.{Times}
+use Rattle.ddr_replay.specs.Books.{all_found}
 use Rattle.ddr_replay.specs.Ledgers.{Ledger, noted, with_accepted, with_wait}
-use Rattle.ddr_replay.specs.Runs.{Run, Submitted, accepted_in, after_answer, all_submitted, begun, channels_counted, first_port, port_served, ports_served, ports_submitted, released, released_by, round_closed, round_made, submitted, turn}
+use Rattle.ddr_replay.proofs.BooksLemmas.{found_lists}
+use Rattle.ddr_replay.specs.Runs.{Run, Submitted, accepted_in, after_answer, all_submitted, begun, channels_counted, first_port, port_served, ports_served, ports_submitted, released, released_by, round_closed, round_made, submitted, turn, turns}
 use Rattle.ddr_replay.proofs.RoundLemmas.{first_within}
-use Rattle.ddr_replay_deadline.specs.InReplay.{events_of_all_submitted, events_of_port_served, events_of_ports_served, events_of_ports_submitted, events_of_round_made, events_of_turn, events_of_turns, events_released, events_submitted, replay_opening, turns}
+use Rattle.ddr_replay_deadline.specs.InReplay.{events_of_all_submitted, events_of_port_served, events_of_ports_served, events_of_ports_submitted, events_of_round_made, events_of_turn, events_of_turns, events_released, events_submitted, replay_opening}
 use Rattle.ddr_replay_deadline.proofs.GrowthLemmas.{AreInner, IsInner}
-use Rattle.ddr_replay_deadline.proofs.LedgerLemmas.{drained_lists, ledger_begun}
+use Rattle.ddr_replay_deadline.proofs.LedgerLemmas.{acted_lists, ledger_begun}
 use Rattle.ddr_replay_deadline.proofs.NowLemmas.{channels_now, until_clocks}
 use Rattle.ddr_replay_deadline.proofs.PartLemmas.{all_submitted_part}
 use Rattle.ddr_replay_deadline.proofs.TellLemmas.{IsTold, IsToldBy, inner_told, release_told, submit_told}
@@ -238,7 +240,9 @@ round_made_told config clock events run next reached none round k made = by_serv
         omega (arith, ap (λ (t : State). length t.channels) (sym led.state), ap (λ (h : History). length h.state.channels) whole, (run_keeps o (events ++ first)).channels_are) in
         let now = channels_now clock config.geometry.channels run.state s is few k.clocks in
         let one = inner_told config clock (clock + 1) events first run.state s run.ledger.accepted run.ledger.ports run.ledger.keeps run.ledger.served k part.leads (channels_inner config.geometry.channels run.state) now in
-        let two = lists_told config (clock + 1) (events ++ first) s run.ledger counted.ledger (drained_lists config.geometry.channels (is_draining s) run.ledger) one in
+        let found = all_found run.state (channels_told config.geometry.channels run.state) run.ledger in
+        let found_told = lists_told config (clock + 1) (events ++ first) s run.ledger found (found_lists run.state (channels_told config.geometry.channels run.state) run.ledger) one in
+        let two = lists_told config (clock + 1) (events ++ first) s found counted.ledger (acted_lists config.geometry.channels s found) found_told in
         let last = ports_served config.limits.ports counted in
         let three = ports_served_told config config.limits.ports clock (events ++ first) counted (omega arith) round two in
         let same : round_closed config run s ≡ next = cc in

@@ -17,8 +17,8 @@ use Rattle.ddr_core_deadline.proofs.RoundLemmas.{begun_reached}
 use Rattle.ddr_stream.specs.Stream.{Queues}
 use Rattle.ddr_replay.specs.declared.order.Order.{Order}
 use Rattle.ddr_replay.specs.declared.served.Served.{Served}
-use Rattle.ddr_replay.specs.Runs.{Run, begun, replayed}
-use Rattle.ddr_replay_deadline.specs.InReplay.{IsServedIn, events_of_turns, replay_opening, turns}
+use Rattle.ddr_replay.specs.Runs.{Run, begun, replayed, turns}
+use Rattle.ddr_replay_deadline.specs.InReplay.{IsServedIn, events_of_turns, replay_opening}
 use Rattle.ddr_replay_deadline.specs.Rows.{IsRowInTime, IsRowOf, TellsRows, channel_by}
 use Rattle.ddr_replay_deadline.specs.Waits.{IsAdmittedIn, admitted_in, longest_wait}
 use Rattle.ddr_replay_deadline.proofs.AdmitLemmas.{there_is}

@@ -41,10 +41,11 @@ use Rattle.ddr_core_deadline.specs.InCore.{TakesAllIn, calls_of}
 use Rattle.ddr_core_deadline.proofs.RoundLemmas.{Leads}
 use Rattle.ddr_stream.specs.declared.ask.Ask.{Ask}
 use Rattle.ddr_stream.specs.Asks.{asked_by, line_asked}
+use Rattle.ddr_statistics.specs.declared.counts.Finding.{Finding}
 use Rattle.ddr_replay.specs.declared.served.Served.{Served}
 use Rattle.ddr_replay.specs.declared.times.Accepted.{Accepted}
 use Rattle.ddr_replay.specs.declared.times.Times.{Times}
-use Rattle.ddr_replay.specs.Ledgers.{Ledger, accepted_at, noted, times_at, with_accepted, with_oldest, with_times, without_oldest}
+use Rattle.ddr_replay.specs.Ledgers.{Ledger, accepted_at, found_at, noted, oldest_found, times_at, with_accepted, with_oldest, with_times, without_oldest}
 use Rattle.ddr_replay.specs.Runs.{accepted_in}
 use Rattle.ddr_replay.specs.Times.{count_of, no_times, timed}
 use Rattle.ddr_replay_deadline.specs.InReplay.{replay_opening}
@@ -286,8 +287,8 @@ told_clock config clock events s lists times keeps rows c k inside =
     sym (ap (λ (t : channel_state.State). t.now) made) ∙ k.clocks c channel.0 at
 
 -- the row of the port's oldest request, as its reply is released
-abbrev row_for : ℕ → ℕ → Service → Accepted → Times → Served
-row_for p clock v x times = record { ask = x.ask; port = p; number = count_of times; accepted = x.round; issued = v.issued; due = v.due; released = clock }
+abbrev row_for : ℕ → ℕ → Service → Accepted → Times → Option Finding → Served
+row_for p clock v x times found = record { ask = x.ask; port = p; number = count_of times; accepted = x.round; issued = v.issued; due = v.due; released = clock; found = found }
 
 -- how many replies the port released
 taken_few : (config : Config) (events : List Answered) (p : ℕ) (port : PortSide) → IsFollowedBy (replay_opening config) events → slice_get (run (replay_opening config) events).state.ports p ≡ Some port
@@ -296,9 +297,9 @@ taken_few config events p port by there =
     let keeps = (run_keeps (replay_opening config) events).ports p port there in
     omega (arith, keeps.counted, keeps.next, (by.served p port there).few)
 
-row_told : (config : Config) (clock : ℕ) (events : List Answered) (s : State) (lists : List (List Accepted)) (times : List Times) (keeps : Bool) (rows : List Served) (p : ℕ) (v : Service) (x : Accepted) → IsTold config (clock + 1) events s lists times keeps rows
-    → p < config.limits.ports → IsFront s p v → slice_get (slice_index_or lists p []) 0 ≡ Some x → IsRow config events (row_for p clock v x (slice_index_or times p no_times))
-row_told config clock events s lists times keeps rows p v x k inside front oldest =
+row_told : (config : Config) (clock : ℕ) (events : List Answered) (s : State) (lists : List (List Accepted)) (times : List Times) (keeps : Bool) (rows : List Served) (p : ℕ) (v : Service) (x : Accepted) (found : Option Finding) → IsTold config (clock + 1) events s lists times keeps rows
+    → p < config.limits.ports → IsFront s p v → slice_get (slice_index_or lists p []) 0 ≡ Some x → IsRow config events (row_for p clock v x (slice_index_or times p no_times) found)
+row_told config clock events s lists times keeps rows p v x found k inside front oldest =
     let o = replay_opening config in
     let h = run o events in
     let core = run_keeps o events in
@@ -371,13 +372,13 @@ released_port config clock events more p v x accepted times a k first few sent t
 -- the row is kept, or it is not
 kept_or_not : (config : Config) (now : ℕ) (events : List Answered) (next : State) (ledger : Ledger) (p : ℕ) (v : Service) (clock : ℕ) (x : Accepted) (y : Option Accepted) → y ≡ Some x
     → (ledger.keeps ≡ false → IsTold config now events next (slice_set ledger.accepted p (drop 1 (accepted_at ledger p))) (slice_set ledger.ports p (timed x v.issued clock (times_at ledger p))) ledger.keeps ledger.served)
-    → IsTold config now events next (slice_set ledger.accepted p (drop 1 (accepted_at ledger p))) (slice_set ledger.ports p (timed x v.issued clock (times_at ledger p))) ledger.keeps (ledger.served ++ row_for p clock v x (times_at ledger p) ∷ [])
+    → IsTold config now events next (slice_set ledger.accepted p (drop 1 (accepted_at ledger p))) (slice_set ledger.ports p (timed x v.issued clock (times_at ledger p))) ledger.keeps (ledger.served ++ row_for p clock v x (times_at ledger p) (oldest_found (found_at ledger p)) ∷ [])
     → IsToldBy config now events next (with_oldest p v clock y (without_oldest p ledger))
 kept_or_not config now events next ledger p v clock x y oldest without with_it =
     subst (λ (z : Option Accepted). IsToldBy config now events next (with_oldest p v clock z (without_oldest p ledger))) (sym oldest) (by_keeps ledger.keeps refl)
   where
     by_keeps : (b : Bool) → ledger.keeps ≡ b → IsToldBy config now events next (with_times p v.issued clock x
-        (cond b (record (without_oldest p ledger) { served = ledger.served ++ row_for p clock v x (times_at ledger p) ∷ [] }) (without_oldest p ledger)))
+        (cond b (record (without_oldest p ledger) { served = ledger.served ++ row_for p clock v x (times_at ledger p) (oldest_found (found_at ledger p)) ∷ [] }) (without_oldest p ledger)))
     by_keeps true is = with_it
     by_keeps false is = without is
 
@@ -400,8 +401,8 @@ release_told config clock events s ledger p v inside k is =
     let told = k.ledger.ports p inside in
     let oldest = at_place (accepted_at ledger p) 0 (omega (arith, told.counted, keeps.counted, slice_get_within front.port.core.reorder.outstanding 0 front.entry front.first)) in
     let x = oldest.0 in
-    let row = row_for p clock v x (times_at ledger p) in
-    let is_row : IsRow config (events ++ more) row = row_still config events more row (row_told config clock events s ledger.accepted ledger.ports ledger.keeps ledger.served p v x k inside front oldest.1) in
+    let row = row_for p clock v x (times_at ledger p) (oldest_found (found_at ledger p)) in
+    let is_row : IsRow config (events ++ more) row = row_still config events more row (row_told config clock events s ledger.accepted ledger.ports ledger.keeps ledger.served p v x (oldest_found (found_at ledger p)) k inside front oldest.1) in
     let times = timed x v.issued clock (times_at ledger p) in
     let port = released_port config clock events more p v x (accepted_at ledger p) (times_at ledger p) front.answer told oldest.1 (taken_few config events p front.port by there) (ap (λ (f : ℕ → List Whereabouts). f p) sent)
     (ap (λ (f : ℕ → List Answer). f p) taken ∙ with_next_same h.taken p front.answer) in

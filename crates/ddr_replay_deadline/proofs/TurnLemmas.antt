@@ -17,8 +17,8 @@ use Rattle.ddr_core_deadline.proofs.NoneLemmas.{begun_none}
 use Rattle.ddr_core_deadline.proofs.RoundLemmas.{IsPart, IsReached, begun_reached, channels_part, none_part, part_then, reached_then}
 use Rattle.ddr_stream.specs.Stream.{Queues}
 use Rattle.ddr_replay.specs.declared.order.Order.{Order}
-use Rattle.ddr_replay.specs.Runs.{Run, all_submitted, begun, channels_counted, replayed, round_closed, round_made, turn, unserved}
-use Rattle.ddr_replay_deadline.specs.InReplay.{IsServedIn, events_of_all_submitted, events_of_ports_served, events_of_round_made, events_of_turn, events_of_turns, replay_opening, turns}
+use Rattle.ddr_replay.specs.Runs.{Run, all_submitted, begun, channels_counted, replayed, round_closed, round_made, turn, turns, unserved}
+use Rattle.ddr_replay_deadline.specs.InReplay.{IsServedIn, events_of_all_submitted, events_of_ports_served, events_of_round_made, events_of_turn, events_of_turns, replay_opening}
 use Rattle.ddr_replay_deadline.proofs.PartLemmas.{all_submitted_part, ports_served_part}
 
 -- a turn

@@ -1,5 +1,5 @@
 -- The events of a replay, and how long its requests take in their channels.
-use Rattle.std.specs.Prelude.{◌≡◌, ℕ, ◌+◌, ◌-◌, suc, zero, true, nat_lt, if◌then◌else◌, List, [], ◌∷◌, ◌++◌, Option, Some, option_and_then}
+use Rattle.std.specs.Prelude.{◌≡◌, ℕ, ◌+◌, ◌-◌, suc, zero, true, nat_lt, if◌then◌else◌, List, [], ◌∷◌, ◌++◌}
 use Rattle.std.specs.Option.{option_map_or}
 use Rattle.ddr_timing.specs.declared.config.Config.{Config}
 use Rattle.ddr_rounds.specs.Rounds.{channels_served, items_of, until_refused}
@@ -20,11 +20,6 @@ use Rattle.ddr_replay.specs.Runs.{Run, all_submitted, channels_counted, first_po
 -- a replay begins at cycle 0, and numbers the requests of each port from 0; whether traces are kept changes no state
 abbrev pub replay_opening : Config → Opening
 replay_opening config = record { config = config; keeps = true; cycle = 0; number = 0 }
-
--- so many turns of a replay, one behind another; none where a clock is spent
-abbrev pub turns : Config → ℕ → Run → Option Run
-turns config zero run = Some run
-turns config (suc n) run = option_and_then (turns config n) (turn config run)
 
 -- a port's requests in order, while their cycle has come and they are not refused (`submitted`)
 abbrev pub events_submitted : ℕ → ℕ → List Ask → State → List Answered

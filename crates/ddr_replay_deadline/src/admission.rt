@@ -5,8 +5,8 @@ ghost use Rattle.ddr_latency.specs.Bound.{leaves_room};
 ghost use Rattle.ddr_stream.specs.Stream.{Queues};
 ghost use Rattle.ddr_world.specs.State.{ChannelSide};
 ghost use Rattle.ddr_replay.specs.declared.order.Order.{Order};
-ghost use Rattle.ddr_replay.specs.Runs.{Run, begun, replayed};
-ghost use Rattle.ddr_replay_deadline.specs.InReplay.{events_of_turns, turns};
+ghost use Rattle.ddr_replay.specs.Runs.{Run, begun, replayed, turns};
+ghost use Rattle.ddr_replay_deadline.specs.InReplay.{events_of_turns};
 ghost use Rattle.ddr_replay_deadline.specs.Waits.{IsAdmittedIn};
 
 /// Whatever stream is replayed, each request that a port accepted waited at most `intake * latency` cycles of its channel in the queue that

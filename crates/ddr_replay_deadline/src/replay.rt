@@ -5,8 +5,8 @@ ghost use Rattle.ddr_latency.specs.Bound.{leaves_room};
 ghost use Rattle.ddr_stream.specs.Stream.{Queues};
 ghost use Rattle.ddr_world.specs.State.{ChannelSide};
 ghost use Rattle.ddr_replay.specs.declared.order.Order.{Order};
-ghost use Rattle.ddr_replay.specs.Runs.{Run, begun, replayed};
-ghost use Rattle.ddr_replay_deadline.specs.InReplay.{IsServedIn, events_of_turns, turns};
+ghost use Rattle.ddr_replay.specs.Runs.{Run, begun, replayed, turns};
+ghost use Rattle.ddr_replay_deadline.specs.InReplay.{IsServedIn, events_of_turns};
 
 /// Whatever stream is replayed, each request that a channel admitted took fewer than `latency` clocks (`ddr_deadline`) from its admission
 /// to its completion, or has not waited for as long, where each refresh interval leaves time to serve a request (`leaves_room`): behind

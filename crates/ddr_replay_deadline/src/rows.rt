@@ -3,8 +3,8 @@ ghost use Rattle.std.specs.Prelude.{◌≡◌, ◌≤◌, ℕ, Bool, Ok, Some};
 ghost use Rattle.ddr_timing.specs.declared.config.Config.{Config};
 ghost use Rattle.ddr_stream.specs.Stream.{Queues};
 ghost use Rattle.ddr_replay.specs.declared.order.Order.{Order};
-ghost use Rattle.ddr_replay.specs.Runs.{Run, begun, replayed};
-ghost use Rattle.ddr_replay_deadline.specs.InReplay.{events_of_turns, turns};
+ghost use Rattle.ddr_replay.specs.Runs.{Run, begun, replayed, turns};
+ghost use Rattle.ddr_replay_deadline.specs.InReplay.{events_of_turns};
 ghost use Rattle.ddr_replay_deadline.specs.Rows.{TellsRows};
 
 /// Whatever stream is replayed, each row of a served request (`Served`, which `replay` prints, and of which the times of requests are taken)

@@ -16,6 +16,7 @@ invariant-asks g l = record {
   config : l.world.config ≡ l.fn.world.config;
   keeps : l.world.keeps ≡ l.fn.world.keeps;
   traces : (d : ℕ) → trace_at (state_of l.world) d ≡ trace_at (state_of l.fn.world) d;
+  served : l.ledger.served ≡ l.fn.ledger.served;
   count : l.fn.stream.taken + outstanding (state_of l.world) ≡ l.stream.taken + outstanding (state_of l.fn.world);
 }
 

@@ -7,5 +7,5 @@ use Rattle.ddr_replay.proofs.replaying.Replaying.collect.Goals as goal
 pub invariant_of-self : goal.invariant_of-self
 invariant_of-self c =
     let a = c.self.inside in
-    let noted = noted_still a.config (state_of a.world) (state_of c.collect.new.world) a.noting c.self.invariant.noted c.collect.ensures.traces in
+    let noted = noted_still a.config (state_of a.world) (state_of c.collect.new.world) a.books.noting c.self.invariant.noted c.collect.ensures.traces in
     search (rules, noted)

@@ -4,7 +4,7 @@ use Rattle.ddr_text.specs.declared.fault.Fault.{Fault}
 use Rattle.ddr_stream.specs.Waiting.{All, IsSaidFault, all_in}
 use Rattle.ddr_replay.specs.Ahead.{IsEnded}
 use Rattle.ddr_replay.specs.View.{Replay}
-use Rattle.ddr_replay.proofs.AheadLemmas.{ended_first, ended_other, ended_run}
+use Rattle.ddr_replay.proofs.AheadLemmas.{ended_first, ended_other, ended_run, line_writes_nothing, run_writes_nothing}
 use Rattle.ddr_replay.proofs.replaying.Replaying.first_fault.Goals.{in-Ok, in-Err}
 use Rattle.ddr_replay.proofs.replaying.Replaying.first_fault.Goals as goal
 
@@ -27,3 +27,14 @@ returns-clause-ended g c = λ config left old all stopped.
           (ended_first config left old c.args.fault w.in-Err.first all rest own stopped
           (subst (λ (r : Replay). IsSaidFault w.in-Err.first (all_in r.stream more)) c.self.view_is w.in-Err.ensures.fault))
     ]
+
+pub returns-clause-write : goal.returns-clause-write
+returns-clause-write g c = λ write.
+    let own = sym c.is_of_run.ensures ∙ c.if-not-is_of_run.false in
+    absurd (run_writes_nothing c.args.fault own write)
+
+pub returns-clause-unwritten : goal.returns-clause-unwritten
+returns-clause-unwritten g c = λ write. elim c.match-skip_all.branch [
+  | in-Ok w ↦ sym w.result-is ∙ write
+  | in-Err w ↦ absurd (line_writes_nothing w.in-Err.first w.in-Err.ensures.kind (sym w.result-is ∙ write))
+]

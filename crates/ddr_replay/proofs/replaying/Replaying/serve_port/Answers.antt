@@ -16,8 +16,9 @@ replies-preserved c =
       run = released_more c.args.port now next there.0 there.1 there.2 (released.fewer c.if-branch.true) ∙ kept.run;
       stream = c.release_front.ensures.stream ∙ kept.stream;
       config = c.release_front.ensures.config ∙ kept.config;
-      traces = c.release_front.ensures.traces ∙ kept.traces;
+      wanted = c.release_front.ensures.wanted ∙ kept.wanted;
       round = c.release_front.ensures.round ∙ kept.round;
+      told = λ earlier told. released.told earlier (kept.told earlier told);
     }
 
 pub replies-smaller : goal.replies-smaller
@@ -39,8 +40,11 @@ returns-clause-stream c = c.release_front.ensures.stream ∙ c.replies.invariant
 pub returns-clause-config : goal.returns-clause-config
 returns-clause-config c = c.release_front.ensures.config ∙ c.replies.invariant.config ∙ c.collect.ensures.same.config
 
-pub returns-clause-traces : goal.returns-clause-traces
-returns-clause-traces c = c.release_front.ensures.traces ∙ c.replies.invariant.traces ∙ c.collect.ensures.same.traces
+pub returns-clause-wanted : goal.returns-clause-wanted
+returns-clause-wanted c = c.release_front.ensures.wanted ∙ c.replies.invariant.wanted ∙ c.collect.ensures.same.wanted
 
 pub returns-clause-round : goal.returns-clause-round
 returns-clause-round c = c.release_front.ensures.round ∙ c.replies.invariant.round ∙ c.collect.ensures.same.round
+
+pub returns-clause-told : goal.returns-clause-told
+returns-clause-told c = λ earlier told. c.in_ok-release_front.ensures.told earlier (c.replies.invariant.told earlier (c.collect.ensures.told earlier told))

@@ -13,6 +13,7 @@ loop-port-preserved c =
       run = c.in_ok-serve_port.ensures.run ∙ ap (port_served p) kept.run ∙ sym (ap (λ n. ports_served n (run_of c.args.self.now)) (add-one p));
       stream = serve.stream ∙ kept.stream;
       config = serve.config ∙ kept.config;
-      traces = serve.traces ∙ kept.traces;
+      wanted = serve.wanted ∙ kept.wanted;
       round = serve.round ∙ kept.round;
+      told = λ earlier told. c.in_ok-serve_port.ensures.told earlier (kept.told earlier told);
     }

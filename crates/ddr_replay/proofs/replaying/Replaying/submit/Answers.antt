@@ -1,7 +1,5 @@
 -- What was taken and not released is outstanding, and no command was issued.
-use Rattle.std.proofs.Common.{◌<◌, arith, false, refl, sym, subst, true, ◌∙◌}
-use Rattle.ddr_counting.proofs.NotingLemmas.{noted_still}
-use Rattle.ddr_world.specs.Kept.{state_of}
+use Rattle.std.proofs.Common.{◌<◌, false, refl, sym, subst, true, ◌∙◌}
 use Rattle.ddr_stream.specs.Waiting.{all_in}
 use Rattle.ddr_replay.specs.Ahead.{Carries, Leads}
 use Rattle.ddr_replay.specs.Runs.{port_submitted}
@@ -9,45 +7,28 @@ use Rattle.ddr_replay.specs.View.{Replay, replay_of, whole_run}
 use Rattle.ddr_replay.specs.Waits.{IsWaitingIn}
 use Rattle.ddr_replay.proofs.PortLemmas.{port_led}
 use Rattle.ddr_replay.proofs.SubmitLemmas.{port_within}
+use Rattle.ddr_replay.proofs.WholeLemmas.{whole_submitted}
 use Rattle.ddr_replay.proofs.replaying.Replaying.submit.Goals as goal
 
 pub invariant_of-self : goal.invariant_of-self
 invariant_of-self g c =
-    let a = c.self.inside in
-    record {
-      config = c.submit_from.ensures.config ∙ c.self.invariant.config;
-      stream = c.submit_from.ensures.stream ∙ c.self.invariant.stream;
-      sized = c.submit_from.ensures.sized;
-      counted = omega (arith, c.submit_from.ensures.count, c.self.invariant.counted);
-      noted = noted_still a.config (state_of a.world) (state_of c.submit_from.new.world) a.noting c.self.invariant.noted c.submit_from.ensures.traces;
-    }
+    let submit = c.submit_from.ensures in
+    whole_submitted c.self.inside c.self.inside.asking c.submit_from.new.world c.submit_from.new.stream c.submit_from.new.ledger c.self.inside.went_on c.self.invariant submit.config submit.keeps submit.stream submit.sized submit.count submit.traces submit.served
 
 pub invariant_of-self-then-taken : goal.invariant_of-self-then-taken
 invariant_of-self-then-taken g c =
-    let a = c.self.inside in
-    record {
-      config = c.submit_from.ensures.config ∙ c.self.invariant.config;
-      stream = c.submit_from.ensures.stream ∙ c.self.invariant.stream;
-      sized = c.submit_from.ensures.sized;
-      counted = omega (arith, c.submit_from.ensures.count, c.self.invariant.counted);
-      noted = noted_still a.config (state_of a.world) (state_of c.submit_from.new.world) a.noting c.self.invariant.noted c.submit_from.ensures.traces;
-    }
+    let submit = c.submit_from.ensures in
+    whole_submitted c.self.inside c.note.new.self c.submit_from.new.world c.submit_from.new.stream c.submit_from.new.ledger true c.self.invariant submit.config submit.keeps submit.stream submit.sized submit.count submit.traces submit.served
 
 pub invariant_of-self-else-taken : goal.invariant_of-self-else-taken
 invariant_of-self-else-taken g c =
-    let a = c.self.inside in
-    record {
-      config = c.submit_from.ensures.config ∙ c.self.invariant.config;
-      stream = c.submit_from.ensures.stream ∙ c.self.invariant.stream;
-      sized = c.submit_from.ensures.sized;
-      counted = omega (arith, c.submit_from.ensures.count, c.self.invariant.counted);
-      noted = noted_still a.config (state_of a.world) (state_of c.submit_from.new.world) a.noting c.self.invariant.noted c.submit_from.ensures.traces;
-    }
+    let submit = c.submit_from.ensures in
+    whole_submitted c.self.inside c.self.inside.asking c.submit_from.new.world c.submit_from.new.stream c.submit_from.new.ledger c.self.inside.went_on c.self.invariant submit.config submit.keeps submit.stream submit.sized submit.count submit.traces submit.served
 
 pub returns-then-taken-clause-run : goal.returns-then-taken-clause-run
 returns-then-taken-clause-run g c =
     let old = replay_of c.self.inside in
-    let new : Replay = record { config = old.config; asking = c.note.new.self; world = c.submit_from.new.world; stream = c.submit_from.new.stream; ledger = c.submit_from.new.ledger; round = old.round } in
+    let new : Replay = record { config = old.config; asking = c.note.new.self; world = c.submit_from.new.world; stream = c.submit_from.new.stream; ledger = c.submit_from.new.ledger; round = old.round; wanted = old.wanted; text = old.text } in
     let p = c.args.port in
     let until = c.in_ok-until.until in
     let before = g.R.Read.remaining c.args.reader.now in
@@ -59,7 +40,7 @@ returns-then-taken-clause-run g c =
 pub returns-else-taken-clause-run : goal.returns-else-taken-clause-run
 returns-else-taken-clause-run g c =
     let old = replay_of c.self.inside in
-    let new : Replay = record { config = old.config; asking = old.asking; world = c.submit_from.new.world; stream = c.submit_from.new.stream; ledger = c.submit_from.new.ledger; round = old.round } in
+    let new : Replay = record { config = old.config; asking = old.asking; world = c.submit_from.new.world; stream = c.submit_from.new.stream; ledger = c.submit_from.new.ledger; round = old.round; wanted = old.wanted; text = old.text } in
     let p = c.args.port in
     let until = c.in_ok-until.until in
     let before = g.R.Read.remaining c.args.reader.now in

@@ -37,7 +37,7 @@ pub returns-clause-ahead : goal.returns-clause-ahead
 returns-clause-ahead g c = λ p below.
     let one = c.submit_from_to.ensures in
     let two = c.submit_from_to-2.ensures in
-    let config_is : c.submit_from_to-2.new.self.stream.config.limits.ports ≡ c.args.self.now.config.limits.ports = ap (λ (k : Config). k.limits.ports) (two.stream ∙ two.config ∙ one.config) in
+    let config_is : c.submit_from_to-2.new.self.stream.config.limits.ports ≡ c.args.self.now.config.limits.ports = ap (λ (k : Config). k.limits.ports) (two.stream ∙ two.same.config ∙ one.same.config) in
     let ports_are : c.self.inside.config.limits.ports ≡ c.args.self.now.config.limits.ports = subst (λ (r : Replay). c.self.inside.config.limits.ports ≡ r.config.limits.ports) c.self.view_is refl in
     elim (cases_lt p c.first_port-first.result) [
       | inl early ↦ c.in_ok-submit_from_to.ensures.knows p (omega arith) early

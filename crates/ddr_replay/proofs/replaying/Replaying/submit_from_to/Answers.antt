@@ -25,9 +25,8 @@ loop-port-init g c =
       others = λ q apart known. known;
       sized = subst (λ (r : Replay). IsSized r.stream) c.self.view_is c.self.invariant.sized;
       stream = subst (λ (r : Replay). r.stream.config ≡ r.config) c.self.view_is c.self.invariant.stream;
-      config = refl;
-      traces = refl;
-      round = refl;
+      same = record { config = refl; wanted = refl; round = refl };
+      told = λ earlier told. told;
     }
 
 pub loop-port-preserved : goal.loop-port-preserved
@@ -52,9 +51,12 @@ loop-port-preserved g c =
       ];
       sized = submit.sized;
       stream = submit.stream;
-      config = submit.config ∙ kept.config;
-      traces = submit.traces ∙ kept.traces;
-      round = submit.round ∙ kept.round;
+      same = record {
+        config = submit.same.config ∙ kept.same.config;
+        wanted = submit.same.wanted ∙ kept.same.wanted;
+        round = submit.same.round ∙ kept.same.round;
+      };
+      told = λ earlier told. c.in_ok-submit.ensures.told earlier (kept.told earlier told);
     }
 
 pub returns-clause-run : goal.returns-clause-run

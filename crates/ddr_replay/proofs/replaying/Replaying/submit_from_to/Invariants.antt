@@ -1,6 +1,7 @@
 use Rattle.std.proofs.Common.{◌≡◌, ◌<◌, ◌≤◌, ◌-◌, ◌⊎◌, ℕ}
 use Rattle.ddr_stream.specs.Waiting.{IsSized, Knows, all_in}
 use Rattle.ddr_replay.specs.Ahead.{AreSubmitted, Carries}
+use Rattle.ddr_replay.specs.View.{IsBeforeSame, Tells}
 use Rattle.ddr_replay.proofs.replaying.Replaying.submit_from_to.Given as goal
 
 abbrev pub invariant-loop-port : goal.invariant-loop-port
@@ -10,7 +11,6 @@ invariant-loop-port g l = record {
   others : (q : ℕ) → (q < l.from) ⊎ (l.port ≤ q) → Knows l.fn.self.stream q → Knows l.self.stream q;
   sized : IsSized l.self.stream;
   stream : l.self.stream.config ≡ l.self.config;
-  config : l.self.config ≡ l.fn.self.config;
-  traces : l.self.world.keeps ≡ l.fn.self.world.keeps;
-  round : l.self.round ≡ l.fn.self.round;
+  same : IsBeforeSame l.fn.self l.self;
+  told : Tells l.fn.self l.self;
 }

@@ -18,7 +18,7 @@ returns-then-quiet-gt0-clause-leads g c =
     let quiet = c.quiet_rounds-quiet.ensures in
     let some = c.if-quiet-gt0.true in
     passed_turn c.args.self.now c.submit_all.new.self c.in_ok-until.until (g.R.Read.remaining c.args.reader.now) (g.R.Read.remaining c.submit_all.new.reader) c.pass.new.self c.quiet_rounds-quiet.result
-    c.in_ok-until.ensures.run (record { config = submit.config; round = submit.round }) (subst (λ (r : Replay). IsSized r.stream) is c.self.invariant.sized) (subst (λ (r : Replay). r.stream.config ≡ r.config) is c.self.invariant.stream) c.requires
+    c.in_ok-until.ensures.run (record { config = submit.same.config; round = submit.same.round }) (subst (λ (r : Replay). IsSized r.stream) is c.self.invariant.sized) (subst (λ (r : Replay). r.stream.config ≡ r.config) is c.self.invariant.stream) c.requires
     submit.sized submit.stream c.in_ok-until.ensures.ahead some (quiet.quiet some) (quiet.waits some) quiet.within c.pass.ensures.asking c.pass.ensures.state c.pass.ensures.round c.pass.ensures.stream c.pass.ensures.ledger
 
 pub returns-clause-leads : goal.returns-clause-leads
@@ -27,8 +27,8 @@ returns-clause-leads g c =
     let submit = c.submit_all.ensures in
     let here = subst (λ (r : Replay). (r.round ≡ 4294967295 → ⊥) × (r.round ≤ 4294967295)) is (c.if-self.false, omega arith) in
     made_turn c.args.self.now c.submit_all.new.self c.in_ok-until.until (g.R.Read.remaining c.args.reader.now) (g.R.Read.remaining c.submit_all.new.reader) c.make_round.new.self c.make_round.result
-    c.in_ok-until.ensures.run (record { config = submit.config; round = submit.round }) (subst (λ (r : Replay). IsSized r.stream) is c.self.invariant.sized) (subst (λ (r : Replay). r.stream.config ≡ r.config) is c.self.invariant.stream) c.requires
-    (omega (arith, submit.round, here.0, here.1)) c.make_round.ensures.made c.make_round.ensures.round c.make_round.ensures.stream
+    c.in_ok-until.ensures.run (record { config = submit.same.config; round = submit.same.round }) (subst (λ (r : Replay). IsSized r.stream) is c.self.invariant.sized) (subst (λ (r : Replay). r.stream.config ≡ r.config) is c.self.invariant.stream) c.requires
+    (omega (arith, submit.same.round, here.0, here.1)) c.make_round.ensures.made c.make_round.ensures.round c.make_round.ensures.stream
 
 pub returns-clause-fault : goal.returns-clause-fault
 returns-clause-fault g c =
@@ -36,5 +36,5 @@ returns-clause-fault g c =
     let submit = c.submit_all.ensures in
     let here = subst (λ (r : Replay). (r.round ≡ 4294967295 → ⊥) × (r.round ≤ 4294967295)) is (c.if-self.false, omega arith) in
     failed_turn c.args.self.now c.submit_all.new.self c.in_ok-until.until (g.R.Read.remaining c.args.reader.now) (g.R.Read.remaining c.submit_all.new.reader) c.make_round.new.self c.make_round.result
-    c.in_ok-until.ensures.run (record { config = submit.config; round = submit.round }) (subst (λ (r : Replay). IsSized r.stream) is c.self.invariant.sized) (subst (λ (r : Replay). r.stream.config ≡ r.config) is c.self.invariant.stream) c.requires
-    (omega (arith, submit.round, here.0, here.1)) c.make_round.ensures.stream c.make_round.ensures.fault
+    c.in_ok-until.ensures.run (record { config = submit.same.config; round = submit.same.round }) (subst (λ (r : Replay). IsSized r.stream) is c.self.invariant.sized) (subst (λ (r : Replay). r.stream.config ≡ r.config) is c.self.invariant.stream) c.requires
+    (omega (arith, submit.same.round, here.0, here.1)) c.make_round.ensures.stream c.make_round.ensures.fault
