@@ -259,8 +259,8 @@ Numbers traced(ddr::Core &core, const std::string &config, std::uint32_t channel
     return counter.numbers;
 }
 
-// All numbers, as `./ddr replay` prints them: of all together, of each channel, and of each port, of which the first alone has requests. It
-// takes each in the cycle in which it is taken, so that none waits.
+// The numbers that the library tells, as `./ddr replay` prints them: of all together, of each channel, and of each port, of which the first
+// alone has requests. It takes each in the cycle in which it is taken, so that none waits.
 void print_statistics(std::ostream &to, ddr::Core &core, const std::vector<Numbers> &channels, const Numbers &total, const Latency &reads, const Latency &writes) {
     const std::uint32_t ports = core.ports();
     to << "channels = " << channels.size() << "\nports = " << ports << "\ncycles = " << core.cycle(0) << '\n';
