@@ -10,12 +10,12 @@ use Rattle.ddr_channel.specs.State as channel
 use Rattle.ddr_channel.proofs.QuietLemmas.{cycles_idle}
 use Rattle.ddr_world.specs.Quiet.{IsQuietSide, passed, side_passed}
 use Rattle.ddr_world.specs.State.{ChannelSide, State}
-use Rattle.ddr_replay.specs.declared.activity.Activity.{Activity}
-use Rattle.ddr_replay.specs.declared.activity.Held.{Held}
-use Rattle.ddr_replay.specs.declared.activity.Seen.{Seen}
-use Rattle.ddr_replay.specs.Activities.{all_acted}
-use Rattle.ddr_replay.specs.Activity.{acted, held, no_activity, nothing_seen, seen_at, seen_of}
-use Rattle.ddr_replay.specs.Ledgers.{Ledger, with_activity, with_full}
+use Rattle.ddr_ledger.specs.declared.activity.Activity.{Activity}
+use Rattle.ddr_ledger.specs.declared.activity.Held.{Held}
+use Rattle.ddr_ledger.specs.declared.activity.Seen.{Seen}
+use Rattle.ddr_ledger.specs.Activities.{all_acted}
+use Rattle.ddr_ledger.specs.Activity.{acted, held, no_activity, nothing_seen, seen_at, seen_of}
+use Rattle.ddr_ledger.specs.Ledgers.{Ledger, with_activity, with_full}
 use Rattle.ddr_replay.specs.Waits.{all_full, filled}
 
 -- of one channel

@@ -37,8 +37,8 @@ use Rattle.ddr_world.specs.State.{ChannelSide, State}
 use Rattle.ddr_replay.specs.declared.books.Books.{Books}
 use Rattle.ddr_replay.specs.Books.{all_found, found_told, heard, newest_of}
 use Rattle.ddr_replay.specs.Laws.{IsLegalAt}
-use Rattle.ddr_replay.specs.Ledgers.{Ledger, found_at, times_at, with_column, with_found}
-use Rattle.ddr_replay.specs.Times.{count_of}
+use Rattle.ddr_ledger.specs.Ledgers.{Ledger, found_at, times_at, with_column, with_found}
+use Rattle.ddr_ledger.specs.Times.{count_of}
 
 -- ---- the statistics are those that a watcher of their own would have
 

@@ -1,7 +1,6 @@
 mod ActivityLemmas
 mod AheadLemmas
 pub mod BooksLemmas
-mod NumberLemmas
 mod PortLemmas
 mod QuietLemmas
 mod ReleaseLemmas

@@ -24,10 +24,10 @@ use Rattle.ddr_rounds.specs.Telling.{channel_told, channels_told, issue_told}
 use Rattle.ddr_rounds.proofs.EventLemmas.{nothing_popped}
 use Rattle.ddr_rounds.proofs.QuietLemmas.{channels_quiet, fewer_quiet, none_collected, passed_more}
 use Rattle.ddr_replay.specs.Books.{all_found}
-use Rattle.ddr_replay.specs.Activities.{all_acted}
-use Rattle.ddr_replay.specs.Activity.{seen_at}
+use Rattle.ddr_ledger.specs.Activities.{all_acted}
+use Rattle.ddr_ledger.specs.Activity.{seen_at}
 use Rattle.ddr_replay.specs.declared.order.Asking.{Asking}
-use Rattle.ddr_replay.specs.Ledgers.{Ledger}
+use Rattle.ddr_ledger.specs.Ledgers.{Ledger}
 use Rattle.ddr_replay.specs.Runs.{Run, all_submitted, channels_counted, port_served, ports_served, released, replayed, round_closed, round_made, turn, turns, unserved}
 use Rattle.ddr_stream.specs.Stream.{queue_at}
 use Rattle.ddr_stream.specs.Waiting.{Waiting}

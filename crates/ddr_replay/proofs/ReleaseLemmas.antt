@@ -19,7 +19,7 @@ use Rattle.ddr_rounds.specs.Rounds.{after_step, items_of, outstanding, until_ref
 use Rattle.ddr_rounds.proofs.EventLemmas.{front_answered}
 use Rattle.ddr_rounds.proofs.StepCounts.{Counted, at_port_has, made_counts, maybe_has}
 use Rattle.ddr_replay.specs.declared.order.Asking.{Asking}
-use Rattle.ddr_replay.specs.Ledgers.{Ledger, noted}
+use Rattle.ddr_ledger.specs.Ledgers.{Ledger, noted}
 use Rattle.ddr_replay.specs.Runs.{Run, port_served, released, released_by}
 use Rattle.ddr_stream.specs.Waiting.{Waiting}
 use Rattle.ddr_replay.specs.View.{IsSame, Replay, run_of}

@@ -17,7 +17,7 @@ use Rattle.ddr_world.specs.Served.{front_service}
 use Rattle.ddr_world.specs.State.{State}
 use Rattle.ddr_world.specs.Step.{Step, step}
 use Rattle.ddr_replay.specs.declared.order.Asking.{Asking}
-use Rattle.ddr_replay.specs.Ledgers.{Ledger, with_accepted, with_wait}
+use Rattle.ddr_ledger.specs.Ledgers.{Ledger, with_accepted, with_wait}
 use Rattle.ddr_replay.specs.Runs.{Run, Submitted, accepted_in, after_answer, all_submitted, channels_counted, first_port, port_served, port_submitted, ports_served, ports_submitted, released, released_by, round_closed, round_made, submitted, unserved}
 use Rattle.ddr_replay.proofs.SubmitLemmas.{one_more}
 

@@ -29,7 +29,7 @@ use Rattle.ddr_stream.specs.Waiting.{All, IsSized, Knows, Waiting, all_in, dropp
 use Rattle.ddr_stream.proofs.AllLemmas.{all_first, all_popped, all_popped_fault, all_sized}
 use Rattle.ddr_text.specs.declared.fault.Fault.{Fault}
 use Rattle.ddr_replay.specs.Ahead.{Carries, IsSubmitted}
-use Rattle.ddr_replay.specs.Ledgers.{Ledger, with_accepted, with_wait}
+use Rattle.ddr_ledger.specs.Ledgers.{Ledger, with_accepted, with_wait}
 use Rattle.ddr_replay.specs.Runs.{Submitted, accepted_in, after_answer, submitted}
 use Rattle.ddr_replay.specs.Waits.{IsFull, IsWaiting}
 use Rattle.ddr_replay.proofs.AheadLemmas.{carries_same, same_itself}

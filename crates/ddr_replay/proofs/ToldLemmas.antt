@@ -20,13 +20,13 @@ use Rattle.ddr_world.specs.declared.event.Outcome.{Outcome}
 use Rattle.ddr_world.specs.declared.event.Outcome.TheVariants as outcome
 use Rattle.ddr_world.specs.declared.event.Refusal.{Refusal}
 use Rattle.ddr_replay.proofs.BooksLemmas.{entries_of, newest_list}
-use Rattle.ddr_replay.specs.Drampower.{drampower_line}
-use Rattle.ddr_replay.specs.Ledgers.{Ledger, accepted_at, next_row, noted, served_of, with_oldest, without_oldest}
-use Rattle.ddr_replay.specs.ServedText.{served_head, served_line}
+use Rattle.ddr_ledger.specs.Drampower.{drampower_line}
+use Rattle.ddr_ledger.specs.Ledgers.{Ledger, accepted_at, next_row, noted, served_of, with_oldest, without_oldest}
+use Rattle.ddr_ledger.specs.ServedText.{served_head, served_line}
 use Rattle.ddr_replay.specs.Told.{IsNoted, command_text, commands_of, comes_at_end, channel_of, head_of, row_text, said}
 use Rattle.ddr_replay.specs.View.{IsTold, Replay, Tells, told_so_far}
-use Rattle.ddr_replay.specs.declared.served.Served.{Served}
-use Rattle.ddr_replay.specs.declared.times.Accepted.{Accepted}
+use Rattle.ddr_ledger.specs.declared.served.Served.{Served}
+use Rattle.ddr_ledger.specs.declared.times.Accepted.{Accepted}
 use Rattle.ddr_replay.specs.declared.wanted.Wanted.{Wanted}
 use Rattle.ddr_replay.specs.declared.wanted.Wanted.TheVariants as told
 

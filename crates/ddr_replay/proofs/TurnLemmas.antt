@@ -16,9 +16,9 @@ use Rattle.ddr_stream.specs.Waiting.{All, IsAhead, IsSized, Waiting, all_in}
 use Rattle.ddr_stream.proofs.AllLemmas.{all_first, all_least, all_sized}
 use Rattle.ddr_replay.specs.Ahead.{AreAllSubmitted, Carries, IsCutOff, IsStopped, Leads, LeadsAlike}
 use Rattle.ddr_replay.specs.declared.order.Asking.{Asking}
-use Rattle.ddr_replay.specs.Activities.{all_acted}
-use Rattle.ddr_replay.specs.Activity.{seen_at}
-use Rattle.ddr_replay.specs.Ledgers.{Ledger}
+use Rattle.ddr_ledger.specs.Activities.{all_acted}
+use Rattle.ddr_ledger.specs.Activity.{seen_at}
+use Rattle.ddr_ledger.specs.Ledgers.{Ledger}
 use Rattle.ddr_replay.specs.Runs.{Run, all_submitted, replayed, round_made, unserved}
 use Rattle.ddr_replay.specs.View.{IsCycleFault, Replay, run_of, whole_run}
 use Rattle.ddr_replay.specs.Waits.{AreQuiet, all_full, come_of, has_come}

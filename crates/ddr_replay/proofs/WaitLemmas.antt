@@ -12,7 +12,7 @@ use Rattle.ddr_world.specs.State.{State}
 use Rattle.ddr_world.specs.Step.{step}
 use Rattle.ddr_stream.specs.declared.ask.Ask.{Ask}
 use Rattle.ddr_stream.specs.Asks.{asked_by}
-use Rattle.ddr_replay.specs.Ledgers.{Ledger, with_accepted, with_full, with_wait}
+use Rattle.ddr_ledger.specs.Ledgers.{Ledger, with_accepted, with_full, with_wait}
 use Rattle.ddr_replay.specs.Runs.{Run, Submitted, accepted_in, after_answer, all_submitted, first_behind, first_port, port_submitted, ports_submitted, submitted, with_submitted}
 use Rattle.ddr_stream.specs.Stream.{Queues, queue_at}
 use Rattle.ddr_replay.specs.Waits.{AreWaiting, IsFull, IsWaiting, IsWaitingIn, all_full, come_of, filled, has_come}

@@ -1,18 +1,11 @@
 -- Rounds in which ports wait for their windows, some after others.
-use Rattle.std.proofs.Common.{◌≡◌, ◌≢◌, ◌<◌, ◌≤◌, ◌^◌, ℕ, zero, suc, Bool, true, false, List, [], ◌∷◌, if◌then◌else◌, refl, ap, ◌∙◌, arith}
+use Rattle.std.proofs.Common.{◌≡◌, ◌≢◌, ◌<◌, ◌≤◌, ℕ, zero, suc, Bool, true, false, List, [], ◌∷◌, if◌then◌else◌, refl, ap, ◌∙◌, arith}
 use Rattle.std.specs.List.{slice_index_or, slice_set}
 use Rattle.ddr_statistics.specs.Noted.{raised}
-use Rattle.ddr_replay.specs.declared.waited.Waited.{Waited}
-use Rattle.ddr_replay.specs.Ledgers.{Ledger, with_full}
-use Rattle.ddr_replay.specs.Waited.{no_wait, window_waited}
+use Rattle.ddr_ledger.specs.declared.waited.Waited.{Waited}
+use Rattle.ddr_ledger.specs.Ledgers.{Ledger, with_full}
+use Rattle.ddr_ledger.specs.Waited.{no_wait, window_waited}
 use Rattle.ddr_replay.specs.Waits.{all_full, filled}
-
--- as many rounds as a number holds
-pub full_for : (rounds window : ℕ) (w : Waited) → w.window < 2 ^ 64 → window ≡ raised rounds w.window → record w { window = window } ≡ window_waited rounds w
-full_for zero window w small is =
-    let same : window ≡ w.window = omega (arith, small, is) in
-    ap (λ n. record w { window = n }) same
-full_for (suc more) window w small is = ap (λ n. record w { window = n }) is
 
 once_more : (rounds : ℕ) (w : Waited) → window_waited rounds (window_waited 1 w) ≡ window_waited (suc rounds) w
 once_more zero w = refl

@@ -10,11 +10,11 @@ use Rattle.ddr_stream.specs.Waiting.{IsSized, Waiting}
 use Rattle.ddr_replay.specs.declared.books.Books.{Books}
 use Rattle.ddr_replay.specs.declared.order.Asking.{Asking}
 use Rattle.ddr_replay.specs.declared.replaying.Replaying.TheInside.{Inside}
-use Rattle.ddr_replay.specs.declared.served.Served.{Served}
+use Rattle.ddr_ledger.specs.declared.served.Served.{Served}
 use Rattle.ddr_replay.specs.declared.teller.Tale.{Tale}
 use Rattle.ddr_replay.specs.declared.teller.Teller.{Teller}
 use Rattle.ddr_replay.specs.Books.{heard}
-use Rattle.ddr_replay.specs.Ledgers.{Ledger}
+use Rattle.ddr_ledger.specs.Ledgers.{Ledger}
 use Rattle.ddr_replay.specs.Told.{IsKept, channel_of, wanted_of}
 use Rattle.ddr_replay.specs.View.{IsWhole}
 use Rattle.ddr_replay.proofs.BooksLemmas.{all_watched, heard_served, noting_heard}

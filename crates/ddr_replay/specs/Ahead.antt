@@ -8,7 +8,7 @@ use Rattle.ddr_world.specs.State.{State}
 use Rattle.ddr_stream.specs.declared.ask.Ask.{Ask}
 use Rattle.ddr_stream.specs.Stream.{queue_at}
 use Rattle.ddr_stream.specs.Waiting.{All, IsSaidFault}
-use Rattle.ddr_replay.specs.Ledgers.{Ledger}
+use Rattle.ddr_ledger.specs.Ledgers.{Ledger}
 use Rattle.ddr_replay.specs.Runs.{Run, all_submitted, ports_submitted, replayed, submitted, turns}
 use Rattle.ddr_replay.specs.Told.{commands_of, said}
 use Rattle.ddr_replay.specs.View.{IsRunFault, IsTold, Replay, whole_run}

@@ -11,7 +11,7 @@ use Rattle.ddr_trace.specs.declared.command.Entry.{Entry}
 use Rattle.ddr_world.specs.Promise.{trace_at}
 use Rattle.ddr_world.specs.State.{State}
 use Rattle.ddr_replay.specs.declared.books.Books.{Books}
-use Rattle.ddr_replay.specs.Ledgers.{Ledger, with_found}
+use Rattle.ddr_ledger.specs.Ledgers.{Ledger, with_found}
 
 -- ---- how a request finds its bank: by the commands that its channel had before the round
 

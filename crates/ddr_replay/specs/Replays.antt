@@ -20,12 +20,12 @@ use Rattle.ddr_stream.specs.Requests.{requests_in}
 use Rattle.ddr_measure.specs.Series.{series_text}
 use Rattle.ddr_measure.specs.Text.{measured_text}
 use Rattle.ddr_measure.specs.declared.timed.Timed.{Timed}
-use Rattle.ddr_replay.specs.Drampower.{drampower_text}
-use Rattle.ddr_replay.specs.Measured.{timed_of}
-use Rattle.ddr_replay.specs.Numbers.{is_any_spent}
+use Rattle.ddr_ledger.specs.Drampower.{drampower_text}
+use Rattle.ddr_ledger.specs.Measured.{timed_of}
+use Rattle.ddr_ledger.specs.Numbers.{is_any_spent}
 use Rattle.ddr_replay.specs.Report.{report_text}
 use Rattle.ddr_replay.specs.Runs.{Run, begun, replayed, turns}
-use Rattle.ddr_replay.specs.ServedText.{served_text}
+use Rattle.ddr_ledger.specs.ServedText.{served_text}
 use Rattle.ddr_replay.specs.Stuck.{IsStuckBody}
 use Rattle.ddr_replay.specs.Told.{comes_at_end, commands_of, keeps_served, said}
 use Rattle.ddr_stream.specs.Stream.{Queues}

@@ -3,23 +3,23 @@ use Rattle.std.specs.Prelude.{ℕ, ◌+◌, List, [], ◌∷◌, ◌++◌, codes
 use Rattle.std.specs.Fmt.{decimal}
 use Rattle.ddr_timing.specs.declared.config.Config.{Config}
 use Rattle.ddr_statistics.specs.Text.{counts_text, line}
-use Rattle.ddr_replay.specs.declared.numbers.Numbers.{Numbers}
+use Rattle.ddr_ledger.specs.declared.numbers.Numbers.{Numbers}
 use Rattle.ddr_stream.specs.declared.requests.Requests.{Requests}
-use Rattle.ddr_replay.specs.declared.rows.RowCounts.{RowCounts}
-use Rattle.ddr_replay.specs.declared.rows.Rows.{Rows}
-use Rattle.ddr_replay.specs.declared.waited.Waited.{Waited}
+use Rattle.ddr_ledger.specs.declared.rows.RowCounts.{RowCounts}
+use Rattle.ddr_ledger.specs.declared.rows.Rows.{Rows}
+use Rattle.ddr_ledger.specs.declared.waited.Waited.{Waited}
 use Rattle.ddr_measure.specs.Text.{thousandths}
-use Rattle.ddr_replay.specs.declared.activity.Activity.{Activity}
-use Rattle.ddr_replay.specs.declared.activity.Held.{Held}
-use Rattle.ddr_replay.specs.Activities.{drains_together}
-use Rattle.ddr_replay.specs.Activity.{mean_of, no_activity}
-use Rattle.ddr_replay.specs.Ledgers.{Ledger}
-use Rattle.ddr_replay.specs.Places.{debt_line, places_tables}
-use Rattle.ddr_replay.specs.Numbers.{many, numbers_of, together}
-use Rattle.ddr_replay.specs.Rows.{all_rows, no_rows}
+use Rattle.ddr_ledger.specs.declared.activity.Activity.{Activity}
+use Rattle.ddr_ledger.specs.declared.activity.Held.{Held}
+use Rattle.ddr_ledger.specs.Activities.{drains_together}
+use Rattle.ddr_ledger.specs.Activity.{mean_of, no_activity}
+use Rattle.ddr_ledger.specs.Ledgers.{Ledger}
+use Rattle.ddr_ledger.specs.Places.{debt_line, places_tables}
+use Rattle.ddr_ledger.specs.Numbers.{many, numbers_of, together}
+use Rattle.ddr_ledger.specs.Rows.{all_rows, no_rows}
 use Rattle.ddr_replay.specs.Runs.{Run}
-use Rattle.ddr_replay.specs.TimesReport.{ledger_tables}
-use Rattle.ddr_replay.specs.Waited.{all_waited, no_wait}
+use Rattle.ddr_ledger.specs.TimesReport.{ledger_tables}
+use Rattle.ddr_ledger.specs.Waited.{all_waited, no_wait}
 
 unfoldable pub head_text : Config → ℕ → List ℕ
 head_text config cycles =

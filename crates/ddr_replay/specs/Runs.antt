@@ -16,12 +16,12 @@ use Rattle.ddr_stream.specs.declared.ask.Ask.{Ask}
 use Rattle.ddr_replay.specs.declared.order.Asking.{Asking}
 use Rattle.ddr_replay.specs.declared.order.Order.{Order}
 use Rattle.ddr_replay.specs.declared.order.Order.TheVariants as orders
-use Rattle.ddr_replay.specs.declared.times.Accepted.{Accepted}
+use Rattle.ddr_ledger.specs.declared.times.Accepted.{Accepted}
 use Rattle.ddr_stream.specs.Asks.{asked_by}
 use Rattle.ddr_replay.specs.Books.{all_found}
-use Rattle.ddr_replay.specs.Activities.{all_acted}
-use Rattle.ddr_replay.specs.Activity.{seen_at}
-use Rattle.ddr_replay.specs.Ledgers.{Ledger, no_ledger, noted, with_accepted, with_wait}
+use Rattle.ddr_ledger.specs.Activities.{all_acted}
+use Rattle.ddr_ledger.specs.Activity.{seen_at}
+use Rattle.ddr_ledger.specs.Ledgers.{Ledger, no_ledger, noted, with_accepted, with_wait}
 use Rattle.ddr_stream.specs.Stream.{Queues, queue_at}
 
 -- what a replay has come to: in which order its ports submit next, the core's state, what each port has still to submit, what is known of the

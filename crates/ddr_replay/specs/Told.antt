@@ -5,10 +5,10 @@ use Rattle.ddr_trace.specs.declared.command.Entry.{Entry}
 use Rattle.ddr_trace.specs.Text.{command_fields, header, record_text}
 use Rattle.ddr_world.specs.Promise.{trace_at}
 use Rattle.ddr_world.specs.State.{State}
-use Rattle.ddr_replay.specs.Drampower.{drampower_line}
-use Rattle.ddr_replay.specs.Measured.{timed_of}
-use Rattle.ddr_replay.specs.ServedText.{served_head, served_line}
-use Rattle.ddr_replay.specs.declared.served.Served.{Served}
+use Rattle.ddr_ledger.specs.Drampower.{drampower_line}
+use Rattle.ddr_ledger.specs.Measured.{timed_of}
+use Rattle.ddr_ledger.specs.ServedText.{served_head, served_line}
+use Rattle.ddr_ledger.specs.declared.served.Served.{Served}
 use Rattle.ddr_replay.specs.declared.teller.Tale.{Tale}
 use Rattle.ddr_replay.specs.declared.teller.Tale.TheVariants as tale
 use Rattle.ddr_replay.specs.declared.wanted.Wanted.{Wanted}

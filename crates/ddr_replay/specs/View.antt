@@ -10,7 +10,7 @@ use Rattle.ddr_text.specs.declared.fault.Fault.{Fault}
 use Rattle.ddr_text.specs.declared.fault.Fault.TheVariants as faults
 use Rattle.ddr_replay.specs.declared.order.Asking.{Asking}
 use Rattle.ddr_replay.specs.declared.replaying.Replaying.TheInside.{Inside}
-use Rattle.ddr_replay.specs.Ledgers.{Ledger}
+use Rattle.ddr_ledger.specs.Ledgers.{Ledger}
 use Rattle.ddr_rounds.specs.Rounds.{outstanding}
 use Rattle.ddr_replay.specs.Runs.{Run, released_by}
 use Rattle.ddr_replay.specs.Stuck.{IsStuckIn}

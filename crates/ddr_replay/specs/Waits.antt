@@ -8,7 +8,7 @@ use Rattle.ddr_world.specs.Served.{front_service}
 use Rattle.ddr_world.specs.State.{PortSide, State}
 use Rattle.ddr_stream.specs.declared.ask.Ask.{Ask}
 use Rattle.ddr_stream.specs.Asks.{asked_by}
-use Rattle.ddr_replay.specs.Ledgers.{Ledger, with_full}
+use Rattle.ddr_ledger.specs.Ledgers.{Ledger, with_full}
 use Rattle.ddr_replay.specs.Runs.{Run}
 use Rattle.ddr_stream.specs.Stream.{Queues, queue_at}
 

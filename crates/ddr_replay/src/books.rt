@@ -4,9 +4,9 @@
 ghost use Rattle.std.specs.Prelude.{◌≡◌};
 ghost use Rattle.ddr_replay.specs.Books.{with_issued, with_newest};
 
-use crate::ledger::Ledger;
 use ddr_channel::issued::Issued;
 use ddr_counting::noting::Noting;
+use ddr_ledger::ledger::Ledger;
 use ddr_rounds::told::Told;
 use ddr_rounds::watcher::Watcher;
 use ddr_trace::command::Entry;

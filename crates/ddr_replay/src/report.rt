@@ -3,19 +3,19 @@
 //! `numbers`, `rows`, `waited`, `activity`, `places`, `times_report` and `ddr_statistics` stand below, and `telling` above. `specs/Report.antt` has
 //! the text, byte for byte.
 ghost use Rattle.std.specs.Prelude.{◌≡◌, IfOk, slice_index_or, string_bytes};
-ghost use Rattle.ddr_replay.specs.Activities.{and_drains, drains_together};
-ghost use Rattle.ddr_replay.specs.Activity.{no_activity};
+ghost use Rattle.ddr_ledger.specs.Activities.{and_drains, drains_together};
+ghost use Rattle.ddr_ledger.specs.Activity.{no_activity};
 ghost use Rattle.ddr_replay.specs.Report.{activity_lines, channel_table, channel_tables, counts_lines, head_text, held_lines, numbers_lines, port_table, port_tables, report_lines, requests_lines, rows_lines, total_table, waited_lines};
-ghost use Rattle.ddr_replay.specs.Rows.{no_rows};
-ghost use Rattle.ddr_replay.specs.Waited.{no_wait};
+ghost use Rattle.ddr_ledger.specs.Rows.{no_rows};
+ghost use Rattle.ddr_ledger.specs.Waited.{no_wait};
 
-use crate::activity::{Activity, Held};
-use crate::ledger::Ledger;
-use crate::numbers::{Numbers, many, together};
-use crate::places::debt_line;
-use crate::rows::{RowCounts, Rows, all_rows};
-use crate::times_report::ledger_tables;
-use crate::waited::{Waited, all_waited};
+use ddr_ledger::activity::{Activity, Held};
+use ddr_ledger::ledger::Ledger;
+use ddr_ledger::numbers::{Numbers, many, together};
+use ddr_ledger::places::debt_line;
+use ddr_ledger::rows::{RowCounts, Rows, all_rows};
+use ddr_ledger::times_report::ledger_tables;
+use ddr_ledger::waited::{Waited, all_waited};
 use ddr_measure::text::thousandths;
 use ddr_statistics::text::counts_text;
 use ddr_stream::requests::Requests;

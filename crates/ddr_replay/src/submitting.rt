@@ -8,8 +8,8 @@ ghost use Rattle.ddr_world.specs.Promise.{trace_at};
 ghost use Rattle.ddr_stream.specs.Waiting.{IsSaidFault, IsSized, IsStreamFault, Knows, all_in};
 ghost use Rattle.ddr_replay.specs.Ahead.{Carries, IsSubmitted};
 
-use crate::ledger::Ledger;
-use crate::times::Accepted;
+use ddr_ledger::ledger::Ledger;
+use ddr_ledger::times::Accepted;
 use ddr_stream::stream::Stream;
 use ddr_text::fault::Fault;
 use ddr_text::source::Source;

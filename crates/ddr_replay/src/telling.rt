@@ -4,19 +4,19 @@
 ghost use Rattle.std.specs.Prelude.{◌≡◌, ◌++◌, ◌<◌, ℕ, [], drop, false, map, IfErr, IfOk};
 ghost use Rattle.ddr_world.specs.Kept.{state_of};
 ghost use Rattle.ddr_world.specs.Promise.{trace_at};
-ghost use Rattle.ddr_replay.specs.Measured.{timed_of};
+ghost use Rattle.ddr_ledger.specs.Measured.{timed_of};
 ghost use Rattle.ddr_replay.specs.Replays.{IsSaid, channel_commands, channel_text, listed, measured, names_no_channel, reported, series, told_of};
 ghost use Rattle.ddr_replay.specs.Runs.{Run};
 ghost use Rattle.ddr_replay.specs.Told.{said};
 ghost use Rattle.ddr_replay.specs.View.{run_of, told_so_far};
 ghost use Rattle.ddr_replay.specs.declared.wanted.Wanted.{Wanted};
 
-use crate::drampower::end_line;
-use crate::numbers::{is_any_spent, numbers_of};
-use crate::places::places_tables;
 use crate::replaying::Replaying;
 use crate::report::report_lines;
 use crate::teller::Tale;
+use ddr_ledger::drampower::end_line;
+use ddr_ledger::numbers::{is_any_spent, numbers_of};
+use ddr_ledger::places::places_tables;
 use ddr_measure::measured::Measured;
 use ddr_measure::series::series_text;
 use ddr_measure::text::measured_text;

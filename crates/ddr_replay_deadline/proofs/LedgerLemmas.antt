@@ -14,14 +14,14 @@ use Rattle.ddr_reorder.specs.Replies.{Answer}
 use Rattle.ddr_ports.specs.Asked.{echo_of}
 use Rattle.ddr_world.specs.History.{Answered, Whereabouts, begun, run}
 use Rattle.ddr_stream.specs.Asks.{asked_by}
-use Rattle.ddr_replay.specs.declared.served.Served.{Served}
-use Rattle.ddr_replay.specs.declared.times.Accepted.{Accepted}
-use Rattle.ddr_replay.specs.declared.times.Times.{Times}
+use Rattle.ddr_ledger.specs.declared.served.Served.{Served}
+use Rattle.ddr_ledger.specs.declared.times.Accepted.{Accepted}
+use Rattle.ddr_ledger.specs.declared.times.Times.{Times}
 use Rattle.ddr_world.specs.State.{State}
-use Rattle.ddr_replay.specs.Activities.{all_acted}
-use Rattle.ddr_replay.specs.Activity.{seen_at}
-use Rattle.ddr_replay.specs.Ledgers.{Ledger}
-use Rattle.ddr_replay.specs.Times.{count_of, no_times, timed, with_kind, with_time}
+use Rattle.ddr_ledger.specs.Activities.{all_acted}
+use Rattle.ddr_ledger.specs.Activity.{seen_at}
+use Rattle.ddr_ledger.specs.Ledgers.{Ledger}
+use Rattle.ddr_ledger.specs.Times.{count_of, no_times, timed, with_kind, with_time}
 use Rattle.ddr_replay_deadline.specs.InReplay.{replay_opening}
 use Rattle.ddr_replay_deadline.specs.Rows.{IsInOrder, IsRowOf, rows_of}
 use Rattle.ddr_replay_deadline.specs.Waits.{acceptances}

@@ -18,7 +18,7 @@ use Rattle.ddr_core_deadline.proofs.RoundLemmas.{IsPart, leads_first, no_cycle_f
 use Rattle.ddr_stream.specs.declared.ask.Ask.{Ask}
 use Rattle.ddr_stream.specs.Asks.{asked_by}
 use Rattle.ddr_stream.specs.Stream.{queue_at}
-use Rattle.ddr_replay.specs.Ledgers.{Ledger, with_accepted, with_wait}
+use Rattle.ddr_ledger.specs.Ledgers.{Ledger, with_accepted, with_wait}
 use Rattle.ddr_replay.specs.Runs.{Run, Submitted, accepted_in, after_answer, all_submitted, first_port, port_served, ports_served, ports_submitted, released, released_by, submitted}
 use Rattle.ddr_replay_deadline.specs.InReplay.{events_of_all_submitted, events_of_port_served, events_of_ports_served, events_of_ports_submitted, events_released, events_submitted}
 

@@ -24,11 +24,11 @@ use Rattle.ddr_stream.specs.declared.ask.Ask.{Ask}
 use Rattle.ddr_stream.specs.Asks.{asked_by}
 use Rattle.ddr_stream.specs.Stream.{Queues, queue_at}
 use Rattle.ddr_replay.specs.declared.order.Order.{Order}
-use Rattle.ddr_replay.specs.declared.served.Served.{Served}
-use Rattle.ddr_replay.specs.declared.times.Accepted.{Accepted}
-use Rattle.ddr_replay.specs.declared.times.Times.{Times}
+use Rattle.ddr_ledger.specs.declared.served.Served.{Served}
+use Rattle.ddr_ledger.specs.declared.times.Accepted.{Accepted}
+use Rattle.ddr_ledger.specs.declared.times.Times.{Times}
 use Rattle.ddr_replay.specs.Books.{all_found}
-use Rattle.ddr_replay.specs.Ledgers.{Ledger, noted, with_accepted, with_wait}
+use Rattle.ddr_ledger.specs.Ledgers.{Ledger, noted, with_accepted, with_wait}
 use Rattle.ddr_replay.proofs.BooksLemmas.{found_lists}
 use Rattle.ddr_replay.specs.Runs.{Run, Submitted, accepted_in, after_answer, all_submitted, begun, channels_counted, first_port, port_served, ports_served, ports_submitted, released, released_by, round_closed, round_made, submitted, turn, turns}
 use Rattle.ddr_replay.proofs.RoundLemmas.{first_within}

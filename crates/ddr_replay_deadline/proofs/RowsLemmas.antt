@@ -16,7 +16,7 @@ use Rattle.ddr_core_deadline.proofs.NoneLemmas.{begun_none}
 use Rattle.ddr_core_deadline.proofs.RoundLemmas.{begun_reached}
 use Rattle.ddr_stream.specs.Stream.{Queues}
 use Rattle.ddr_replay.specs.declared.order.Order.{Order}
-use Rattle.ddr_replay.specs.declared.served.Served.{Served}
+use Rattle.ddr_ledger.specs.declared.served.Served.{Served}
 use Rattle.ddr_replay.specs.Runs.{Run, begun, replayed, turns}
 use Rattle.ddr_replay_deadline.specs.InReplay.{IsServedIn, events_of_turns, replay_opening}
 use Rattle.ddr_replay_deadline.specs.Rows.{IsRowInTime, IsRowOf, TellsRows, channel_by}

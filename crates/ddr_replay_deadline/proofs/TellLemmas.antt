@@ -42,12 +42,12 @@ use Rattle.ddr_core_deadline.proofs.RoundLemmas.{Leads}
 use Rattle.ddr_stream.specs.declared.ask.Ask.{Ask}
 use Rattle.ddr_stream.specs.Asks.{asked_by, line_asked}
 use Rattle.ddr_statistics.specs.declared.counts.Finding.{Finding}
-use Rattle.ddr_replay.specs.declared.served.Served.{Served}
-use Rattle.ddr_replay.specs.declared.times.Accepted.{Accepted}
-use Rattle.ddr_replay.specs.declared.times.Times.{Times}
-use Rattle.ddr_replay.specs.Ledgers.{Ledger, accepted_at, found_at, noted, oldest_found, times_at, with_accepted, with_oldest, with_times, without_oldest}
+use Rattle.ddr_ledger.specs.declared.served.Served.{Served}
+use Rattle.ddr_ledger.specs.declared.times.Accepted.{Accepted}
+use Rattle.ddr_ledger.specs.declared.times.Times.{Times}
+use Rattle.ddr_ledger.specs.Ledgers.{Ledger, accepted_at, found_at, noted, oldest_found, times_at, with_accepted, with_oldest, with_times, without_oldest}
 use Rattle.ddr_replay.specs.Runs.{accepted_in}
-use Rattle.ddr_replay.specs.Times.{count_of, no_times, timed}
+use Rattle.ddr_ledger.specs.Times.{count_of, no_times, timed}
 use Rattle.ddr_replay_deadline.specs.InReplay.{replay_opening}
 use Rattle.ddr_replay_deadline.specs.Waits.{accepted_by_answer, accepted_by_step, acceptances, clock_at, goes_to}
 use Rattle.ddr_replay_deadline.proofs.AdmitLemmas.{there_is}

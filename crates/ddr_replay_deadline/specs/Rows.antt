@@ -13,7 +13,7 @@ use Rattle.ddr_world.specs.Promise.{request_there}
 use Rattle.ddr_world.specs.Record.{IsRecord}
 use Rattle.ddr_core_deadline.specs.InCore.{calls_of}
 use Rattle.ddr_stream.specs.Asks.{asked_by}
-use Rattle.ddr_replay.specs.declared.served.Served.{Served}
+use Rattle.ddr_ledger.specs.declared.served.Served.{Served}
 use Rattle.ddr_replay.specs.Runs.{Run}
 use Rattle.ddr_replay_deadline.specs.InReplay.{replay_opening}
 use Rattle.ddr_replay_deadline.specs.Waits.{acceptances, longest_wait}

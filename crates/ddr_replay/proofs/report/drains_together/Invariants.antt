@@ -1,6 +1,6 @@
 use Rattle.std.proofs.Common.{◌≡◌, drop}
 use Rattle.std.specs.Prelude.{fold}
-use Rattle.ddr_replay.specs.Activities.{and_drains, drains_together}
+use Rattle.ddr_ledger.specs.Activities.{and_drains, drains_together}
 use Rattle.ddr_replay.proofs.report.drains_together.Given as goal
 
 abbrev pub invariant-loop-one : goal.invariant-loop-one

@@ -10,7 +10,7 @@ use Rattle.ddr_rounds.specs.Rounds.{outstanding}
 use Rattle.ddr_stream.specs.Asks.{asked_by}
 use Rattle.ddr_stream.specs.Waiting.{Knows, Waiting, all_in}
 use Rattle.ddr_replay.specs.Ahead.{Carries}
-use Rattle.ddr_replay.specs.Ledgers.{Ledger, with_accepted, with_wait}
+use Rattle.ddr_ledger.specs.Ledgers.{Ledger, with_accepted, with_wait}
 use Rattle.ddr_replay.specs.Runs.{accepted_in}
 use Rattle.ddr_replay.specs.Waits.{IsFull}
 use Rattle.ddr_replay.proofs.AheadLemmas.{carries_read}

@@ -1,6 +1,6 @@
 -- A request more is told of, where it is kept.
 use Rattle.std.proofs.Common.{◌++◌, ap, sym, ◌∙◌}
-use Rattle.ddr_replay.specs.Ledgers.{Ledger}
+use Rattle.ddr_ledger.specs.Ledgers.{Ledger}
 use Rattle.ddr_replay.specs.Told.{wanted_of}
 use Rattle.ddr_replay.specs.declared.teller.Teller.{Teller}
 use Rattle.ddr_replay.proofs.ToldLemmas.{noted_more, noted_none, noted_nothing, noted_some}

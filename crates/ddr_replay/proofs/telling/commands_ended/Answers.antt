@@ -3,7 +3,7 @@ use Rattle.std.proofs.Common.{List, ℕ, Vec, Global, ◌++◌, ap, ap₂, sym, 
 use Rattle.std.specs.List.{flat_map}
 use Rattle.ddr_trace.specs.declared.command.Entry.{Entry}
 use Rattle.ddr_counting.proofs.NotingLemmas.{trace_of_channel}
-use Rattle.ddr_replay.specs.Drampower.{drampower_line, drampower_text, end_line}
+use Rattle.ddr_ledger.specs.Drampower.{drampower_line, drampower_text, end_line}
 use Rattle.ddr_replay.proofs.TellingLemmas.{text_there}
 use Rattle.ddr_replay.proofs.telling.commands_ended.Goals as goal
 

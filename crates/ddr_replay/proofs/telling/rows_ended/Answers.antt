@@ -4,10 +4,10 @@ use Rattle.ddr_text.specs.declared.fault.Fault.{Fault}
 use Rattle.ddr_text.specs.declared.fault.Fault.TheVariants as faults
 use Rattle.ddr_timing.specs.declared.config.Config.{Config}
 use Rattle.ddr_world.specs.State.{State}
-use Rattle.ddr_replay.specs.Numbers.{is_any_spent}
+use Rattle.ddr_ledger.specs.Numbers.{is_any_spent}
 use Rattle.ddr_replay.specs.Replays.{listed}
 use Rattle.ddr_replay.specs.Runs.{Run}
-use Rattle.ddr_replay.specs.ServedText.{served_text}
+use Rattle.ddr_ledger.specs.ServedText.{served_text}
 use Rattle.ddr_replay.proofs.telling.rows_ended.Goals as goal
 
 abbrev by_spent : Run → Bool → Result (List ℕ) Fault

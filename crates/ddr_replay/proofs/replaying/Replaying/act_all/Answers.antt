@@ -1,9 +1,9 @@
 -- A cycle more of one channel more was counted.
 use Rattle.std.proofs.Common.{◌≡◌, ◌+◌, suc, ap, arith, ◌∙◌}
 use Rattle.ddr_world.specs.Kept.{Kept, state_of}
-use Rattle.ddr_replay.specs.Activities.{all_acted}
-use Rattle.ddr_replay.specs.Activity.{seen_at}
-use Rattle.ddr_replay.specs.Ledgers.{with_activity}
+use Rattle.ddr_ledger.specs.Activities.{all_acted}
+use Rattle.ddr_ledger.specs.Activity.{seen_at}
+use Rattle.ddr_ledger.specs.Ledgers.{with_activity}
 use Rattle.ddr_replay.proofs.replaying.Replaying.act_all.Goals as goal
 
 pub loop-channel-preserved : goal.loop-channel-preserved

@@ -1,7 +1,7 @@
 use Rattle.std.proofs.Common.{◌≡◌}
 use Rattle.ddr_world.specs.Kept.{state_of}
-use Rattle.ddr_replay.specs.Activities.{all_acted}
-use Rattle.ddr_replay.specs.Activity.{seen_at}
+use Rattle.ddr_ledger.specs.Activities.{all_acted}
+use Rattle.ddr_ledger.specs.Activity.{seen_at}
 use Rattle.ddr_replay.specs.View.{IsButLedger}
 use Rattle.ddr_replay.proofs.replaying.Replaying.act_all.Given as goal
 

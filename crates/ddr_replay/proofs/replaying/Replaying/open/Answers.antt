@@ -5,10 +5,10 @@ use Rattle.ddr_rounds.specs.Rounds.{outstanding}
 use Rattle.ddr_rounds.proofs.StepCounts.{none_opened}
 use Rattle.ddr_counting.proofs.NotingLemmas.{noted_new}
 use Rattle.ddr_world.specs.Kept.{state_of}
-use Rattle.ddr_replay.specs.Ledgers.{Ledger}
+use Rattle.ddr_ledger.specs.Ledgers.{Ledger}
 use Rattle.ddr_replay.specs.Told.{IsKept, channel_of, head_of, wanted_of}
 use Rattle.ddr_replay.specs.View.{Replay}
-use Rattle.ddr_replay.specs.declared.served.Served.{Served}
+use Rattle.ddr_ledger.specs.declared.served.Served.{Served}
 use Rattle.ddr_replay.proofs.ToldLemmas.{begun_told}
 use Rattle.ddr_replay.proofs.replaying.Replaying.open.Goals as goal
 

@@ -7,7 +7,7 @@ use Rattle.ddr_world.specs.Served.{front_service}
 use Rattle.ddr_rounds.specs.Rounds.{items_of}
 use Rattle.ddr_rounds.proofs.EventLemmas.{front_answered, front_fewer}
 use Rattle.ddr_replay.specs.declared.books.Books.{Books}
-use Rattle.ddr_replay.specs.declared.served.Served.{Served}
+use Rattle.ddr_ledger.specs.declared.served.Served.{Served}
 use Rattle.ddr_replay.specs.Runs.{released_by}
 use Rattle.ddr_replay.specs.Told.{IsKept, channel_of, wanted_of}
 use Rattle.ddr_replay.specs.View.{Replay, Tells, replay_of, run_of}

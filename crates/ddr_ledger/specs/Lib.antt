@@ -1,0 +1,12 @@
+pub mod Activities
+pub mod Activity
+pub mod Drampower
+pub mod Ledgers
+pub mod Measured
+pub mod Numbers
+pub mod Places
+pub mod Rows
+pub mod ServedText
+pub mod Times
+pub mod TimesReport
+pub mod Waited

@@ -1,7 +1,0 @@
-use Rattle.std.proofs.Common.{◌≡◌, drop}
-use Rattle.std.specs.Prelude.{fold}
-use Rattle.ddr_replay.specs.Numbers.{both, many}
-use Rattle.ddr_replay.proofs.numbers.many.Given as goal
-
-abbrev pub invariant-loop-one : goal.invariant-loop-one
-invariant-loop-one l = fold both l.all (drop l.one-index l.requests) ≡ many l.requests

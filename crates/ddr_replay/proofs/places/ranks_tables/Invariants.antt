@@ -1,7 +1,0 @@
-use Rattle.std.proofs.Common.{◌≡◌, string_bytes}
-use Rattle.std.specs.List.{flat_map, range_with_len}
-use Rattle.ddr_replay.specs.Places.{rank_table_of}
-use Rattle.ddr_replay.proofs.places.ranks_tables.Given as goal
-
-abbrev pub invariant-loop-rank : goal.invariant-loop-rank
-invariant-loop-rank l = string_bytes l.text ≡ flat_map (rank_table_of l.channel.config l.number l.channel.now l.channel.trace) (range_with_len 0 l.rank)

@@ -1,7 +1,0 @@
-use Rattle.std.proofs.Common.{◌≡◌, drop}
-use Rattle.std.specs.Prelude.{fold}
-use Rattle.ddr_replay.specs.Waited.{all_waited, both_waited}
-use Rattle.ddr_replay.proofs.waited.all_waited.Given as goal
-
-abbrev pub invariant-loop-one : goal.invariant-loop-one
-invariant-loop-one l = fold both_waited l.all (drop l.one-index l.waited) ≡ all_waited l.waited
