@@ -5,7 +5,7 @@ ghost use Rattle.ddr_arbiter.specs.Quiet.{IsQuietUntil};
 ghost use Rattle.ddr_channel.specs.declared.channel.CycleError.TheVariants.{ClockSpent, OutOfMemory};
 ghost use Rattle.ddr_address_map.specs.declared.request.Kind.TheVariants.{Read, Write};
 ghost use Rattle.ddr_timing.specs.declared.units.TheConstants.{CLOCK_STOP};
-ghost use Rattle.std.specs.Option.{is_some};
+ghost use Rattle.std.specs.Option.{is_some, option_map};
 ghost use Rattle.ddr_trace.specs.Commands.{is_column};
 ghost use Rattle.ddr_trace.specs.Legality.{IsLegal, IsRefreshed};
 ghost use Rattle.ddr_legality.specs.Bus as bus;
@@ -457,6 +457,16 @@ impl Channel {
         match kind {
             Kind::Read => self.pending.reads(),
             Kind::Write => self.pending.writes(),
+        }
+    }
+
+    /// The cycle that the channel was at when the oldest pending request was admitted. `None` exactly where nothing is pending.
+    pub fn oldest(&self) -> Option<u64>
+        ensures { result ≡ option_map (λ w. w.admitted) (slice_get self.entry.now.pending 0) }
+    {
+        match self.pending.oldest() {
+            Some((_, admitted)) => Some(admitted),
+            None => None,
         }
     }
 
