@@ -1,6 +1,6 @@
 -- What a channel did in its cycles: in how many of them it drained writes, how many requests were pending, and how many waited in its queue.
-use Rattle.std.specs.Prelude.{ℕ, ◌+◌, ◌*◌, ◌/◌, ◌==◌, min, max, false, if◌then◌else◌, length, slice_get}
-use Rattle.std.specs.Option.{option_map_or}
+use Rattle.std.specs.Prelude.{ℕ, ◌+◌, ◌*◌, ◌/◌, ◌==◌, min, max, false, if◌then◌else◌, length, None, slice_get}
+use Rattle.std.specs.Option.{option_map, option_map_or}
 use Rattle.ddr_statistics.specs.Noted.{raised}
 use Rattle.ddr_address_map.specs.declared.request.Kind.TheVariants.{Read, Write}
 use Rattle.ddr_hazards.specs.PendingList.{pending_count}
@@ -16,10 +16,11 @@ seen_of side = record {
   reads = pending_count Read side.channel.pending;
   writes = pending_count Write side.channel.pending;
   waiting = length side.requests;
+  oldest = option_map (λ w. w.admitted) (slice_get side.channel.pending 0);
 }
 
 abbrev pub nothing_seen : Seen
-nothing_seen = record { draining = false; reads = 0; writes = 0; waiting = 0 }
+nothing_seen = record { draining = false; reads = 0; writes = 0; waiting = 0; oldest = None }
 
 abbrev pub seen_at : State → ℕ → Seen
 seen_at s c = option_map_or seen_of (slice_get s.channels c) nothing_seen

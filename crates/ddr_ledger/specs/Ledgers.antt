@@ -1,6 +1,8 @@
 -- The times of a replay's requests: which were accepted in which round, and how long those took whose replies were released.
-use Rattle.std.specs.Prelude.{ℕ, ◌-◌, Bool, if◌then◌else◌, List, [], ◌∷◌, ◌++◌, drop, replicate, slice_get, slice_index_or, slice_set, Option, Some, None}
+use Rattle.std.specs.Prelude.{ℕ, ◌-◌, Bool, if◌then◌else◌, List, [], ◌∷◌, ◌++◌, drop, length, max, replicate, slice_get, slice_index_or, slice_set, Option, Some, None}
 use Rattle.std.specs.Option.{option_map}
+use Rattle.ddr_timing.specs.declared.config.Config.{Config}
+use Rattle.ddr_trace.specs.declared.command.Entry.{Entry}
 use Rattle.ddr_ledger.specs.declared.times.Accepted.{Accepted}
 use Rattle.ddr_ledger.specs.declared.times.Times.{Times}
 use Rattle.ddr_reorder.specs.declared.reply.Service.{Service}
@@ -12,16 +14,20 @@ use Rattle.ddr_ledger.specs.declared.served.Served.{Served}
 use Rattle.ddr_ledger.specs.Activity.{acted, no_activity}
 use Rattle.ddr_ledger.specs.declared.waited.Waited.{Waited}
 use Rattle.ddr_ledger.specs.Rows.{column_counted, no_rows}
+use Rattle.ddr_ledger.specs.Stalls.{Stalled, idled, issued, no_stalls}
 use Rattle.ddr_ledger.specs.Times.{count_of, no_times, timed}
 use Rattle.ddr_ledger.specs.Waited.{no_wait, waited_for, window_waited}
 use Rattle.ddr_trace.specs.declared.command.Command.{Command}
 use Rattle.ddr_world.specs.declared.event.Refusal.{Refusal}
 
 pub record Ledger : Type 0 where
+  pub config : Config
   -- of each port the requests that were accepted and whose replies weren't released, the oldest first
   pub accepted : List (List Accepted)
   -- how those found their banks whose read or write was issued
   pub found : List (List (Option Finding))
+  -- how many there were of each port at the most
+  pub windows : List ℕ
   -- the times of the others: of all ports, and of each
   pub total : Times
   pub ports : List Times
@@ -31,20 +37,25 @@ pub record Ledger : Type 0 where
   pub waited : List Waited
   -- what each channel did in its cycles
   pub activity : List Activity
+  -- what its commands waited for while requests were pending
+  pub stalls : List Stalled
   -- whether the others are kept, and those that are, in the order in which their replies were released
   pub keeps : Bool
   pub served : List Served
 
--- of so many channels and ports, before the first request
-abbrev pub no_ledger : ℕ → ℕ → Bool → Ledger
-no_ledger channels ports keeps = record {
-  accepted = replicate ports [];
-  found = replicate ports [];
+-- of the channels and ports of this configuration, before the first request
+abbrev pub no_ledger : Config → Bool → Ledger
+no_ledger config keeps = record {
+  config = config;
+  accepted = replicate config.limits.ports [];
+  found = replicate config.limits.ports [];
+  windows = replicate config.limits.ports 0;
   total = no_times;
-  ports = replicate ports no_times;
-  rows = replicate ports no_rows;
-  waited = replicate ports no_wait;
-  activity = replicate channels no_activity;
+  ports = replicate config.limits.ports no_times;
+  rows = replicate config.limits.ports no_rows;
+  waited = replicate config.limits.ports no_wait;
+  activity = replicate config.geometry.channels no_activity;
+  stalls = replicate config.geometry.channels (no_stalls config);
   keeps = keeps;
   served = [];
 }
@@ -54,6 +65,9 @@ accepted_at ledger port = slice_index_or ledger.accepted port []
 
 abbrev pub found_at : Ledger → ℕ → List (Option Finding)
 found_at ledger port = slice_index_or ledger.found port []
+
+abbrev pub window_at : Ledger → ℕ → ℕ
+window_at ledger port = slice_index_or ledger.windows port 0
 
 abbrev pub times_at : Ledger → ℕ → Times
 times_at ledger port = slice_index_or ledger.ports port no_times
@@ -67,6 +81,9 @@ waited_at ledger port = slice_index_or ledger.waited port no_wait
 abbrev pub activity_at : Ledger → ℕ → Activity
 activity_at ledger channel = slice_index_or ledger.activity channel no_activity
 
+abbrev pub stalls_at : Ledger → ℕ → Stalled
+stalls_at ledger channel = slice_index_or ledger.stalls channel (no_stalls ledger.config)
+
 -- a port waits in a round, where its request is refused so
 abbrev pub with_wait : ℕ → Refusal → Ledger → Ledger
 with_wait port cause ledger = record ledger { waited = slice_set ledger.waited port (waited_for cause (waited_at ledger port)) }
@@ -76,15 +93,34 @@ abbrev pub with_full : ℕ → ℕ → Ledger → Ledger
 with_full port rounds ledger = record ledger { waited = slice_set ledger.waited port (window_waited rounds (waited_at ledger port)) }
 
 -- a channel counts so many cycles more, behind each of which this was seen of it
-abbrev pub with_activity : ℕ → ℕ → Seen → Ledger → Ledger
-with_activity channel cycles seen ledger = record ledger { activity = slice_set ledger.activity channel (acted cycles seen (activity_at ledger channel)) }
+abbrev pub with_acted : ℕ → ℕ → Seen → Ledger → Ledger
+with_acted channel cycles seen ledger = record ledger { activity = slice_set ledger.activity channel (acted cycles seen (activity_at ledger channel)) }
 
--- a request more of a port
+-- those from `now` on, behind each of which its oldest pending request was admitted then, if one was pending
+abbrev pub with_idled : ℕ → ℕ → ℕ → Option ℕ → Ledger → Ledger
+with_idled channel now cycles oldest ledger = record ledger { stalls = slice_set ledger.stalls channel (idled now cycles oldest (stalls_at ledger channel)) }
+
+-- both
+abbrev pub with_activity : ℕ → ℕ → ℕ → Seen → Ledger → Ledger
+with_activity channel now cycles seen ledger = with_idled channel now cycles seen.oldest (with_acted channel cycles seen ledger)
+
+-- a channel issues a command, in the cycle that it counts next
+abbrev pub with_command : ℕ → Entry → Ledger → Ledger
+with_command channel e ledger = record ledger { stalls = slice_set ledger.stalls channel (issued e (stalls_at ledger channel)) }
+
+-- a request more of a port, which is not issued yet
+abbrev pub with_outstanding : ℕ → Accepted → Ledger → Ledger
+with_outstanding port accepted ledger = record ledger { accepted = slice_set ledger.accepted port (accepted_at ledger port ++ accepted ∷ []) }
+
+abbrev pub with_unissued : ℕ → Ledger → Ledger
+with_unissued port ledger = record ledger { found = slice_set ledger.found port (found_at ledger port ++ None ∷ []) }
+
+-- as many are outstanding as there are now, or more were before
+abbrev pub with_window : ℕ → Ledger → Ledger
+with_window port ledger = record ledger { windows = slice_set ledger.windows port (max (window_at ledger port) (length (accepted_at ledger port))) }
+
 abbrev pub with_accepted : ℕ → Accepted → Ledger → Ledger
-with_accepted port accepted ledger = record ledger {
-  accepted = slice_set ledger.accepted port (accepted_at ledger port ++ accepted ∷ []);
-  found = slice_set ledger.found port (found_at ledger port ++ None ∷ []);
-}
+with_accepted port accepted ledger = with_window port (with_unissued port (with_outstanding port accepted ledger))
 
 -- a read or a write more of a port, which found its bank so
 abbrev pub with_column : ℕ → Command → Option Finding → Ledger → Ledger

@@ -1,5 +1,7 @@
 pub mod Activities
 pub mod Activity
+pub mod Causes
+pub mod CausesText
 pub mod Drampower
 pub mod Ledgers
 pub mod Measured
@@ -7,6 +9,10 @@ pub mod Numbers
 pub mod Places
 pub mod Rows
 pub mod ServedText
+pub mod Stalls
+pub mod StallsView
+pub mod Sums
 pub mod Times
 pub mod TimesReport
 pub mod Waited
+pub mod Windows

@@ -47,6 +47,8 @@ pub struct Seen {
     pub writes: u64,
     /// How many requests wait in its queue.
     pub waiting: u64,
+    /// When the oldest pending request was admitted, if one is pending.
+    pub oldest: Option<u64>,
 }
 
 impl Seen {
@@ -56,6 +58,7 @@ impl Seen {
         reads: 0,
         writes: 0,
         waiting: 0,
+        oldest: None,
     };
 }
 

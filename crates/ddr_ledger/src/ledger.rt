@@ -1,11 +1,12 @@
 //! When requests were accepted, how they found their banks, how long those took whose replies were released, for how long ports waited,
-//! and what channels did in their cycles.
+//! what channels did in their cycles, and what their commands waited for.
 //!
-//! `times`, `rows`, `waited`, `activity`, `found` and `served` stand below, and `ddr_replay` above.
-ghost use Rattle.std.specs.Prelude.{◌≡◌, [], ◌∷◌, ◌++◌, drop, replicate, slice_get, IfOk, OnOk, Some};
+//! `times`, `rows`, `waited`, `activity`, `stalls`, `found` and `served` stand below, and `ddr_replay` above.
+ghost use Rattle.std.specs.Prelude.{◌≡◌, [], ◌∷◌, ◌++◌, drop, length, replicate, slice_get, IfOk, OnOk, Some};
 ghost use Rattle.ddr_ledger.specs.Activity.{no_activity};
-ghost use Rattle.ddr_ledger.specs.Ledgers.{accepted_at, found_at, next_row, no_ledger, noted, oldest_found, served_of, times_at, with_accepted, with_activity, with_column, with_finding, with_found, with_full, with_times, with_wait, without_found, without_oldest};
+ghost use Rattle.ddr_ledger.specs.Ledgers.{accepted_at, found_at, next_row, no_ledger, noted, oldest_found, served_of, times_at, with_accepted, with_acted, with_activity, with_column, with_command, with_finding, with_found, with_full, with_idled, with_outstanding, with_times, with_unissued, with_wait, with_window, without_found, without_oldest};
 ghost use Rattle.ddr_ledger.specs.Rows.{no_rows};
+ghost use Rattle.ddr_ledger.specs.Stalls.{no_stalls};
 ghost use Rattle.ddr_ledger.specs.Times.{count_of, no_times};
 ghost use Rattle.ddr_ledger.specs.Waited.{no_wait};
 
@@ -13,12 +14,14 @@ use crate::activity::{Activity, Seen};
 use crate::found::Found;
 use crate::rows::Rows;
 use crate::served::Served;
+use crate::stalls::Stalls;
 use crate::times::{Accepted, Times};
 use crate::waited::Waited;
 use ddr_past::past::Past;
 use ddr_reorder::reply::Service;
 use ddr_statistics::counts::Finding;
-use ddr_trace::command::Command;
+use ddr_timing::config::Config;
+use ddr_trace::command::{Command, Entry};
 use ddr_world::event::Refusal;
 use std::alloc::{AllocError, Global};
 use std::collections::VecDeque;
@@ -55,6 +58,12 @@ impl Outstanding {
         Ok(())
     }
 
+    fn len(&self) -> u64
+        ensures { result ≡ length self.now }
+    {
+        self.requests.len() as u64
+    }
+
     fn oldest(&self) -> Option<Accepted>
         ensures { result ≡ slice_get self.now 0 }
     {
@@ -72,9 +81,12 @@ impl Outstanding {
 /// The times of a replay's requests. Contracts see it as `Ledger`.
 #[derive(Drop)]
 pub struct Ledger {
+    config: Config,
     accepted: Vec<Outstanding>,
     /// How those requests found their banks.
     found: Vec<Found>,
+    /// How many there were of each port at the most.
+    windows: Vec<u64>,
     total: Times,
     ports: Vec<Times>,
     /// How the reads and the writes of each port found their banks.
@@ -83,6 +95,8 @@ pub struct Ledger {
     waited: Vec<Waited>,
     /// What each channel did in its cycles.
     activity: Vec<Activity>,
+    /// What its commands waited for while requests were pending.
+    stalls: Vec<Stalls>,
     /// Whether the requests whose replies were released are kept.
     keeps: bool,
     /// Those that were kept, which `teller` has: here they are for contracts alone.
@@ -94,23 +108,27 @@ impl Model for Ledger {
 
     ghost Value = { Ledger };
 
-    ghost view = { λ a. record { accepted = a.accepted.items; found = a.found.items; total = a.total; ports = a.ports.items; rows = a.rows.items; waited = a.waited.items; activity = a.activity.items; keeps = a.keeps; served = a.served.items } };
+    ghost view = { λ a. record { config = a.config; accepted = a.accepted.items; found = a.found.items; windows = a.windows.items; total = a.total; ports = a.ports.items; rows = a.rows.items; waited = a.waited.items; activity = a.activity.items; stalls = a.stalls.items; keeps = a.keeps; served = a.served.items } };
 }
 
 impl Ledger {
-    /// That of so many channels and ports, before the first request. `keeps` says whether the requests whose replies are released
-    /// are kept.
-    pub fn open(alloc: Global, channels: u32, ports: u32, keeps: bool) -> Result<Ledger, AllocError>
-        ensures { IfOk result (λ ledger. ledger ≡ no_ledger channels ports keeps) }
+    /// That of the channels and ports of this configuration, before the first request. `keeps` says whether the requests whose replies are
+    /// released are kept.
+    pub fn open(alloc: Global, config: &Config, keeps: bool) -> Result<Ledger, AllocError>
+        ensures { IfOk result (λ ledger. ledger ≡ no_ledger config.now keeps) }
     {
+        let (channels, ports) = (config.geometry.channels, config.limits.ports);
         Ok(Ledger {
+            config: *config,
             accepted: none_outstanding(alloc, ports)?,
             found: none_found(alloc, ports)?,
+            windows: no_windows(alloc, ports)?,
             total: Times::NONE,
             ports: no_times(alloc, ports)?,
             rows: no_rows(alloc, ports)?,
             waited: no_waits(alloc, ports)?,
             activity: no_activity(alloc, channels)?,
+            stalls: no_stalls(alloc, config)?,
             keeps,
             served: Past::new(),
         })
@@ -121,13 +139,52 @@ impl Ledger {
         ensures accepted { OnOk result (self.new ≡ with_accepted port accepted self.old) }
         ensures served { self.new.served ≡ self.old.served }
     {
+        self.push(port, accepted)?;
+        self.push_found(port)?;
+        self.widen(port);
+        Ok(())
+    }
+
+    /// Takes a request more for outstanding.
+    fn push(&mut self, port: u32, accepted: Accepted) -> Result<(), AllocError>
+        ensures accepted { OnOk result (self.new ≡ with_outstanding port accepted self.old) }
+        ensures served { self.new.served ≡ self.old.served }
+    {
         if (port as usize) < self.accepted.len() {
             self.accepted[port as usize].push(accepted)?;
         }
+        Ok(())
+    }
+
+    /// It is not issued yet.
+    fn push_found(&mut self, port: u32) -> Result<(), AllocError>
+        ensures found { OnOk result (self.new ≡ with_unissued port self.old) }
+        ensures served { self.new.served ≡ self.old.served }
+    {
         if (port as usize) < self.found.len() {
             self.found[port as usize].push()?;
         }
         Ok(())
+    }
+
+    /// Notes that so many requests of a port are outstanding as are now.
+    fn widen(&mut self, port: u32)
+        ensures { self.new ≡ with_window port self.old }
+    {
+        let count = self.outstanding(port);
+        if (port as usize) < self.windows.len() {
+            self.windows[port as usize] = self.windows[port as usize].max(count);
+        }
+    }
+
+    /// How many requests of a port are outstanding.
+    fn outstanding(&self, port: u32) -> u64
+        ensures { result ≡ length (accepted_at self.now port) }
+    {
+        match self.accepted.get(port as usize) {
+            Some(requests) => requests.len(),
+            None => 0,
+        }
     }
 
     /// Notes how the read or write that serves a port's request of this number found its bank.
@@ -178,12 +235,38 @@ impl Ledger {
         }
     }
 
-    /// Notes so many cycles more of a channel, behind each of which this was seen of it.
-    pub fn act(&mut self, channel: u32, cycles: u64, seen: &Seen)
-        ensures { self.new ≡ with_activity channel cycles seen.now self.old }
+    /// Notes so many cycles more of a channel, from `now` on, behind each of which this was seen of it.
+    pub fn act(&mut self, channel: u32, now: u32, cycles: u64, seen: &Seen)
+        ensures { self.new ≡ with_activity channel now cycles seen.now self.old }
+    {
+        self.count_cycles(channel, cycles, seen);
+        self.idle(channel, now, cycles, seen.oldest);
+    }
+
+    /// Notes what a channel did in these cycles.
+    fn count_cycles(&mut self, channel: u32, cycles: u64, seen: &Seen)
+        ensures { self.new ≡ with_acted channel cycles seen.now self.old }
     {
         if (channel as usize) < self.activity.len() {
             self.activity[channel as usize].act(cycles, seen);
+        }
+    }
+
+    /// Notes in which of these cycles it issued nothing though requests were pending.
+    fn idle(&mut self, channel: u32, now: u32, cycles: u64, oldest: Option<u64>)
+        ensures { self.new ≡ with_idled channel now cycles oldest self.old }
+    {
+        if (channel as usize) < self.stalls.len() {
+            self.stalls[channel as usize].idle(now, cycles, oldest);
+        }
+    }
+
+    /// Notes that a channel issues a command, in the cycle that it counts next.
+    pub fn issue(&mut self, channel: u32, entry: &Entry)
+        ensures { self.new ≡ with_command channel entry.now self.old }
+    {
+        if (channel as usize) < self.stalls.len() {
+            self.stalls[channel as usize].issue(entry);
         }
     }
 
@@ -276,6 +359,13 @@ impl Ledger {
         }
     }
 
+    /// How many requests of each port were outstanding at the most.
+    pub fn windows(&self) -> &[u64]
+        ensures { result.now ≡ self.now.windows }
+    {
+        self.windows.as_slice()
+    }
+
     /// The times of all ports together.
     pub fn total(&self) -> &Times
         ensures { result.now ≡ self.now.total }
@@ -304,6 +394,13 @@ impl Ledger {
         self.activity.as_slice()
     }
 
+    /// What each channel's commands waited for while requests were pending.
+    pub fn stalls(&self) -> &[Stalls]
+        ensures { result.now ≡ self.now.stalls }
+    {
+        self.stalls.as_slice()
+    }
+
     /// The times of each port.
     pub fn ports(&self) -> &[Times]
         ensures { result.now ≡ self.now.ports }
@@ -330,6 +427,17 @@ fn none_found(alloc: Global, ports: u32) -> Result<Vec<Found>, AllocError>
     let mut all = Vec::new(alloc);
     for _ in 0..ports {
         all.push(Found::new(alloc))?;
+    }
+    Ok(all)
+}
+
+/// Of so many ports, none of which had an outstanding request.
+fn no_windows(alloc: Global, ports: u32) -> Result<Vec<u64>, AllocError>
+    ensures { IfOk result (λ v. v.items ≡ replicate ports 0) }
+{
+    let mut all = Vec::new(alloc);
+    for _ in 0..ports {
+        all.push(0)?;
     }
     Ok(all)
 }
@@ -363,6 +471,17 @@ fn no_activity(alloc: Global, channels: u32) -> Result<Vec<Activity>, AllocError
     let mut all = Vec::new(alloc);
     for _ in 0..channels {
         all.push(Activity::NONE)?;
+    }
+    Ok(all)
+}
+
+/// Of the channels of this configuration, none of which made a cycle yet.
+fn no_stalls(alloc: Global, config: &Config) -> Result<Vec<Stalls>, AllocError>
+    ensures { IfOk result (λ v. v.items ≡ replicate config.now.geometry.channels (no_stalls config.now)) }
+{
+    let mut all = Vec::new(alloc);
+    for _ in 0..config.geometry.channels {
+        all.push(Stalls::open(alloc, config)?)?;
     }
     Ok(all)
 }

@@ -4,12 +4,15 @@
 //! and the numbers of requests (`ddr_measure`). Above stands `ddr_replay`, which makes the rounds and tells here what comes of them.
 //!
 //! `ledger` keeps when requests were accepted, how they found their banks (`found`), how long they took (`times`), how those of each port
-//! found theirs (`rows`), for how long ports waited (`waited`), and what channels did in their cycles (`activity`). `served` is a request whose
-//! reply was released, with its line of text, and `measured` hands it to `ddr_measure`. `numbers` counts what a replay comes to, `places` is
-//! the text of ranks and banks, and `times_report` that of how long requests took. `drampower` has commands in DRAMPower's form.
+//! found theirs (`rows`), how many were outstanding (`windows`), for how long ports waited (`waited`), what channels did in their cycles (`activity`), and what their commands waited
+//! for while requests were pending (`stalls`, by `causes`; `sums` says that these add up). `served` is a request whose reply was released, with its line of text, and
+//! `measured` hands it to `ddr_measure`. `numbers` counts what a replay comes to, `places` is the text of ranks and banks, `causes_text`
+//! that of causes, and `times_report` that of how long requests took. `drampower` has commands in DRAMPower's form.
 #![tactic(auto)]
 
 pub mod activity;
+pub mod causes;
+pub mod causes_text;
 pub mod drampower;
 mod found;
 pub mod ledger;
@@ -18,6 +21,9 @@ pub mod numbers;
 pub mod places;
 pub mod rows;
 pub mod served;
+pub mod stalls;
+pub mod sums;
 pub mod times;
 pub mod times_report;
 pub mod waited;
+pub mod windows;

@@ -37,7 +37,7 @@ use Rattle.ddr_world.specs.State.{ChannelSide, State}
 use Rattle.ddr_replay.specs.declared.books.Books.{Books}
 use Rattle.ddr_replay.specs.Books.{all_found, found_told, heard, newest_of}
 use Rattle.ddr_replay.specs.Laws.{IsLegalAt}
-use Rattle.ddr_ledger.specs.Ledgers.{Ledger, found_at, times_at, with_column, with_found}
+use Rattle.ddr_ledger.specs.Ledgers.{Ledger, found_at, times_at, with_column, with_command, with_found}
 use Rattle.ddr_ledger.specs.Times.{count_of}
 
 -- ---- the statistics are those that a watcher of their own would have
@@ -191,7 +191,7 @@ module _ (config : Config) (s : State) (books : Books) (channels : ℕ) (noted :
       ∙ one_found config s books.noting (channels_told n s) more n i noted (omega (arith, within, all)) (none_before n n s (omega arith))
       (subst (λ (xs : List Told). AreFew config (trace_at s n ++ entries_told n xs)) all_is (few n within)) in
       ap (λ (xs : List Told). (fold heard before xs).ledger) one.1
-      ∙ ap (λ f. option_map_or (λ v. with_found v.port v.number i.entry.command f before.ledger) i.served before.ledger) found
+      ∙ ap (λ f. with_command n i.entry (option_map_or (λ v. with_found v.port v.number i.entry.command f before.ledger) i.served before.ledger)) found
       ∙ ap (λ (l : Ledger). found_told s l (tell.Issued n i)) so
       ∙ sym (ap (fold (found_told s) (all_found s (channels_told n s) books.ledger)) one.1)
 

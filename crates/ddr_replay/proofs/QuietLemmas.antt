@@ -40,14 +40,14 @@ use Rattle.ddr_replay.proofs.WaitedLemmas.{all_again, all_alike, all_none}
 
 -- after a quiet round
 abbrev later : Config → Run → Run
-later config run = record run { state = passed 1 run.state; ledger = all_acted 1 (seen_at (passed 1 run.state)) config.geometry.channels run.ledger; round = run.round + 1 }
+later config run = record run { state = passed 1 run.state; ledger = all_acted run.round 1 (seen_at (passed 1 run.state)) config.geometry.channels run.ledger; round = run.round + 1 }
 
 -- after so many quiet rounds and one, before each of which but the first the ports with a request that has come wait, and in each
 -- of which the same is seen of each channel
 abbrev pub quietly : Config → ℕ → Run → Run
 quietly config more run = record run {
   state = passed (suc more) run.state;
-  ledger = all_acted (suc more) (seen_at (passed (suc more) run.state)) config.geometry.channels (all_full more (come_of run.round run.queues) config.limits.ports run.ledger);
+  ledger = all_acted run.round (suc more) (seen_at (passed (suc more) run.state)) config.geometry.channels (all_full more (come_of run.round run.queues) config.limits.ports run.ledger);
   round = run.round + suc more;
 }
 
@@ -91,8 +91,8 @@ round_quiet config count run are =
     let each = λ (c : ℕ) (side : ChannelSide) (there : slice_get s.channels c ≡ Some side). fewer_of_side 1 (suc count) side (omega arith) (All-at (IsQuietSide (suc count)) s.channels c side are.core.channels there) in
     let close : Option State → Option Run = option_map (round_closed config run) in
     let none : channels_told config.geometry.channels s ≡ [] = ap (λ n. channels_told n s) (sym are.channels) ∙ told_none (length s.channels) s (omega arith) each in
-    let silent : State → Run = λ t. record run { state = t; ledger = all_acted 1 (seen_at t) config.geometry.channels run.ledger } in
-    let counts : (t : State) → channels_counted config run t ≡ silent t = λ t. ap (λ (told : List Told). record run { state = t; ledger = all_acted 1 (seen_at t) config.geometry.channels (all_found s told run.ledger) }) none in
+    let silent : State → Run = λ t. record run { state = t; ledger = all_acted run.round 1 (seen_at t) config.geometry.channels run.ledger } in
+    let counts : (t : State) → channels_counted config run t ≡ silent t = λ t. ap (λ (told : List Told). record run { state = t; ledger = all_acted run.round 1 (seen_at t) config.geometry.channels (all_found s told run.ledger) }) none in
     ap (λ n. close (channels_served n s)) (sym are.channels)
     ∙ ap close (channels_quiet (length s.channels) s (omega arith) each ∙ ap (λ (xs : List ChannelSide). Some (record s { channels = xs })) (first_all 1 s.channels))
     ∙ ap (λ (r : Run). Some (record r { round = r.round + 1 })) (ap (ports_served config.limits.ports) (counts (passed 1 s)) ∙ ports_quiet config.limits.ports (silent (passed 1 s)) are.core.ports are.fronts)
@@ -113,7 +113,7 @@ module _ {X : Type 0} (config : Config) (on : ℕ → Run → X) (none : X) (goe
   quiet_turns : (k until : ℕ) (run : Run) → AreQuiet config (suc k) run.state → AreWaiting config.limits.ports until run → run.round + suc k ≤ until → (unserved run == 0) ≡ false → option_map_or (on k) (round_made config run) none ≡ on 0 (quietly config k run)
   quiet_turns zero until run are waits within busy =
       ap (λ o. option_map_or (on 0) o none) (round_quiet config 0 run are)
-      ∙ ap (λ (l : Ledger). on 0 (record (later config run) { ledger = all_acted 1 (seen_at (passed 1 run.state)) config.geometry.channels l })) (sym (all_none config.limits.ports (come_of run.round run.queues) run.ledger))
+      ∙ ap (λ (l : Ledger). on 0 (record (later config run) { ledger = all_acted run.round 1 (seen_at (passed 1 run.state)) config.geometry.channels l })) (sym (all_none config.limits.ports (come_of run.round run.queues) run.ledger))
   quiet_turns (suc k) until run are waits within busy =
       let next = later config run in
       let ports = config.limits.ports in
@@ -125,18 +125,18 @@ module _ {X : Type 0} (config : Config) (on : ℕ → Run → X) (none : X) (goe
       let come_next = come_of next.round next.queues in
       let waiting = noted next (all_full 1 come_next ports next.ledger) in
       let alike : (p : ℕ) → p < ports → come_next p ≡ come p = λ p below. come_still p until run.round (queue_at run.queues p) run.state (waits p below (omega (arith, within))) (omega (arith, within)) in
-      let counted : Ledger → Ledger = all_acted (suc k) all channels in
+      let counted : Ledger → Ledger = all_acted next.round (suc k) all channels in
       let waited = all_full (suc k) come ports run.ledger in
-      let ledger_is : counted (all_full k come_next ports (all_full 1 come_next ports next.ledger)) ≡ all_acted (suc (suc k)) all channels waited =
-      ap counted (all_again k ports come_next next.ledger ∙ all_alike (suc k) ports come_next come next.ledger alike ∙ ports_past (suc k) ports 1 channels come first run.ledger ∙ channels_alike 1 channels first all waited same)
-      ∙ channels_again k channels all waited in
+      let ledger_is : counted (all_full k come_next ports (all_full 1 come_next ports next.ledger)) ≡ all_acted run.round (suc (suc k)) all channels waited =
+      ap counted (all_again k ports come_next next.ledger ∙ all_alike (suc k) ports come_next come next.ledger alike ∙ ports_past (suc k) ports run.round 1 channels come first run.ledger ∙ channels_alike run.round 1 channels first all waited same)
+      ∙ channels_again run.round k channels all waited in
       let last : run.round + 1 + suc k ≡ run.round + suc (suc k) = omega arith in
       let still : AreWaiting config.limits.ports until next = λ p below ahead. waits_on until until p run.round next.round run.state next.state (slice_get (queue_at run.queues p) 0) (omega arith) (omega arith) refl (waits p below (omega (arith, ahead))) in
       ap (λ o. option_map_or (on (suc k)) o none) (round_quiet config (suc k) run are)
       ∙ goes k next busy
       ∙ ap (λ (r : Run). option_map_or (on k) (round_made config r) none) (all_wait config until next still (omega (arith, within)))
       ∙ quiet_turns k until waiting (quiet_on config (suc k) run.state are) still (omega (arith, within)) busy
-      ∙ ap₂ (λ (xs : List ChannelSide) (r : ℕ). on 0 (record run { state = record run.state { channels = xs }; ledger = all_acted (suc k) (seen_at (record run.state { channels = xs })) channels (all_full k come_next ports (all_full 1 come_next ports next.ledger)); round = r })) (passed_more (suc k) run.state.channels) last
+      ∙ ap₂ (λ (xs : List ChannelSide) (r : ℕ). on 0 (record run { state = record run.state { channels = xs }; ledger = all_acted next.round (suc k) (seen_at (record run.state { channels = xs })) channels (all_full k come_next ports (all_full 1 come_next ports next.ledger)); round = r })) (passed_more (suc k) run.state.channels) last
       ∙ ap (λ (l : Ledger). on 0 (record run { state = passed (suc (suc k)) run.state; ledger = l; round = run.round + suc (suc k) })) ledger_is
 
 -- the core is quiet for as many rounds or fewer, and no reply is in front
@@ -233,16 +233,16 @@ but_books old new rest =
 -- a round that was made: the channels' part, what is seen of each, and the ports' part
 pub round_ok : (old served counted last : Replay) (new : Run) → channels_served old.config.geometry.channels (state_of old.world) ≡ Some (state_of served.world)
     → served.ledger ≡ all_found (state_of old.world) (channels_told old.config.geometry.channels (state_of old.world)) old.ledger → IsButBooks old served
-    → counted.ledger ≡ all_acted 1 (seen_at (state_of served.world)) served.config.geometry.channels served.ledger → IsButLedger served counted
+    → counted.ledger ≡ all_acted served.round 1 (seen_at (state_of served.world)) served.config.geometry.channels served.ledger → IsButLedger served counted
     → run_of last ≡ ports_served counted.config.limits.ports (run_of counted) → new ≡ record (run_of last) { round = last.round + 1 } → round_made old.config (run_of old) ≡ Some new
 round_ok old served counted last new channels found same drains rest ports next =
     let s = state_of served.world in
     let config_is : counted.config ≡ old.config = rest.config ∙ same.config in
     let run_is : run_of counted ≡ channels_counted old.config (run_of old) s =
-    but_ledger served counted (all_acted 1 (seen_at s) served.config.geometry.channels served.ledger) rest drains
-    ∙ ap (λ (k : Config). record (run_of served) { ledger = all_acted 1 (seen_at s) k.geometry.channels served.ledger }) same.config
-    ∙ ap (λ (r : Run). record r { ledger = all_acted 1 (seen_at s) old.config.geometry.channels r.ledger }) (but_books old served same)
-    ∙ ap (λ (l : Ledger). record (run_of old) { state = s; ledger = all_acted 1 (seen_at s) old.config.geometry.channels l }) found in
+    but_ledger served counted (all_acted served.round 1 (seen_at s) served.config.geometry.channels served.ledger) rest drains
+    ∙ ap₂ (λ (k : Config) (n : ℕ). record (run_of served) { ledger = all_acted n 1 (seen_at s) k.geometry.channels served.ledger }) same.config same.round
+    ∙ ap (λ (r : Run). record r { ledger = all_acted old.round 1 (seen_at s) old.config.geometry.channels r.ledger }) (but_books old served same)
+    ∙ ap (λ (l : Ledger). record (run_of old) { state = s; ledger = all_acted old.round 1 (seen_at s) old.config.geometry.channels l }) found in
     ap (option_map (round_closed old.config (run_of old))) channels
     ∙ ap (λ (r : Run). Some (record r { round = r.round + 1 })) (ap (ports_served old.config.limits.ports) (sym run_is) ∙ ap (λ (k : Config). ports_served k.limits.ports (run_of counted)) (sym config_is) ∙ sym ports)
     ∙ ap (λ (r : Run). Some r) (sym next)

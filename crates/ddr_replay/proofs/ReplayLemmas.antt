@@ -1,6 +1,6 @@
 -- What an input says of a replay.
-use Rattle.std.proofs.Common.{◌≡◌, ℕ, List, [], ◌++◌, append_assoc, Bool, true, false, cond, Option, None, Some, Result, Ok, Err, IfErr, IfOk, IfSome, OnOk, inl, inr, map, refl, sym, ap, subst, ◌∙◌}
-use Rattle.std.specs.Prelude.{◌-◌}
+use Rattle.std.proofs.Common.{◌≡◌, ℕ, List, [], ◌++◌, append_assoc, Bool, true, false, cond, Option, None, Some, Result, Ok, Err, IfErr, IfOk, IfSome, OnOk, if◌then◌else◌, drop, inl, inr, map, refl, sym, ap, subst, ◌∙◌}
+use Rattle.std.specs.Prelude.{◌-◌, max}
 use Rattle.std.specs.Io.KnownBytes.{Appends}
 use Rattle.std.proofs.KnownBytes.{Appends-nil, Appends-trans}
 use Rattle.ddr_timing.specs.declared.config.Config.{Config}
@@ -8,6 +8,13 @@ use Rattle.ddr_replay.specs.Taken.{IsTaken, IsTakenFault, all_of, taken_of}
 use Rattle.ddr_replay.specs.declared.order.Order.{Order}
 use Rattle.ddr_replay.specs.declared.taken.Taking.{Taking}
 use Rattle.ddr_replay.specs.declared.wanted.Wanted.{Wanted}
+use Rattle.ddr_replay.specs.declared.wanted.Wanted.TheVariants as wants
+use Rattle.ddr_ledger.specs.Measured.{timed_of}
+use Rattle.ddr_ledger.specs.Numbers.{is_any_spent}
+use Rattle.ddr_ledger.specs.ServedText.{served_text}
+use Rattle.ddr_measure.specs.Series.{series_text}
+use Rattle.ddr_measure.specs.Text.{measured_text}
+use Rattle.ddr_measure.specs.declared.timed.Timed.{Timed}
 use Rattle.ddr_text.specs.Body.{parts_of}
 use Rattle.ddr_text.specs.Instructions.{◌>>>◌}
 use Rattle.ddr_text.specs.Sink.{write_fault}
@@ -23,7 +30,7 @@ use Rattle.ddr_stream.specs.Stream.{Queues}
 use Rattle.ddr_stream.specs.Waiting.{All}
 use Rattle.ddr_replay.specs.Ahead as ahead
 use Rattle.ddr_replay.specs.Ahead.{IsCutOff, IsCutShort, IsEnded, IsOver}
-use Rattle.ddr_replay.specs.Replays.{HasReplayFault, HasWritten, IsBeginning, IsBeginningOf, IsFaultOf, IsReplayed, IsReported, IsSaid, IsWritten, is_before_rounds, names_no_channel, report_of, told_behind, told_of}
+use Rattle.ddr_replay.specs.Replays.{HasReplayFault, HasWritten, IsBeginning, IsBeginningOf, IsFaultOf, IsReplayed, IsReported, IsSaid, IsWritten, channel_commands, channel_text, is_before_rounds, names_no_channel, report_of, told_behind, told_of}
 use Rattle.ddr_replay.specs.Finished.{IsEndFault, IsFinished, IsPartly, IsUnfinished, all_told}
 use Rattle.ddr_replay.specs.Told.{comes_at_end, commands_of, keeps_served, said}
 use Rattle.ddr_replay.specs.Report.{report_text}
@@ -277,6 +284,51 @@ end_comes_later (Err faults.ClockSpent) A kind = λ early. absurd (let impossibl
 end_comes_later (Err faults.OutOfMemory) A kind = λ early. absurd (let impossible = early in cc)
 end_comes_later (Err faults.Write) A kind = λ early. absurd (let impossible = early in cc)
 end_comes_later (Err _) A kind = absurd kind
+
+-- nothing is read in it
+pub end_reads_nothing : (r : Result (Unit {0}) Fault) → IfErr r IsEndFault → r ≡ Err faults.Read → ⊥
+end_reads_nothing r kind read = subst (λ (x : Result (Unit {0}) Fault). IfErr x IsEndFault) read kind
+
+-- what is to be told at the end ends by a spent clock alone
+abbrev IsSpentAlone : Result (List ℕ) Fault → Type 0
+IsSpentAlone said = (fault : Fault) → said ≡ Err fault → faults.ClockSpent ≡ fault
+
+abbrev failed : Fault → Result (List ℕ) Fault
+failed fault = Err fault
+
+spent_alone : (fault : Fault) → failed faults.ClockSpent ≡ failed fault → faults.ClockSpent ≡ fault
+spent_alone fault is = cc
+
+spent_or : (spent : Bool) (text : List ℕ) → IsSpentAlone (if spent then Err faults.ClockSpent else Ok text)
+spent_or true text fault is = spent_alone fault is
+spent_or false text fault is = absurd (let impossible = is in cc)
+
+spent_then : (spent : Bool) (requests : List Timed) (text : List Timed → List ℕ) → IsSpentAlone ((if spent then Err faults.ClockSpent else Ok requests) >>> λ all. Ok (text all))
+spent_then true requests text fault is = spent_alone fault is
+spent_then false requests text fault is = absurd (let impossible = is in cc)
+
+told_spent : (config : Config) (told : Wanted) (requests : List Requests) (run : Run) → IsSpentAlone (told_of config told requests run)
+told_spent config wants.Statistics requests run = spent_or (is_any_spent run.state config.geometry.channels) (report_text config requests run)
+told_spent config wants.Requests requests run = spent_or (is_any_spent run.state config.geometry.channels) (served_text run.ledger.served)
+told_spent config (wants.Trace channel) requests run = spent_or false (channel_text run.state channel)
+told_spent config (wants.Drampower channel) requests run = spent_or false (channel_commands run.state channel)
+told_spent config (wants.Numbers skip clock) requests run =
+    spent_then (is_any_spent run.state config.geometry.channels) (map timed_of (drop skip run.ledger.served)) (λ all. measured_text config.geometry.channels clock all)
+told_spent config (wants.Intervals skip every) requests run =
+    spent_then (is_any_spent run.state config.geometry.channels) (map timed_of (drop skip run.ledger.served)) (λ all. series_text (max every 1) all)
+
+said_kind : {X : Type 0} (view : X → List ℕ) (said : Result (List ℕ) Fault) → IsSpentAlone said → (fault : Fault) → IsSaid view (Err fault) said → IsEndFault fault
+said_kind view said spent faults.ClockSpent is = tt
+said_kind view said spent faults.OutOfMemory is = tt
+said_kind view said spent (faults.ReplayLine line cause) is = absurd (let impossible = spent (faults.ReplayLine line cause) is in cc)
+said_kind view said spent (faults.ReplayRange line) is = absurd (let impossible = spent (faults.ReplayRange line) is in cc)
+said_kind view said spent faults.InputTooLong is = absurd (let impossible = spent faults.InputTooLong is in cc)
+said_kind view said spent faults.TraceNoSuch is = absurd (let impossible = spent faults.TraceNoSuch is in cc)
+said_kind view said spent faults.ReplayLimit is = absurd (let impossible = spent faults.ReplayLimit is in cc)
+said_kind view said spent _ is = absurd is
+
+pub ending_kind : {X : Type 0} (view : X → List ℕ) (config : Config) (told : Wanted) (requests : List Requests) (run : Run) (fault : Fault) → IsSaid view (Err fault) (told_of config told requests run) → IsEndFault fault
+ending_kind view config told requests run fault is = said_kind view (told_of config told requests run) (told_spent config told requests run) fault is
 
 pub run_comes_later : (fault : Fault) (A : Type 0) → ahead.IsReplayFault fault → is_before_rounds fault ≡ true → A
 run_comes_later (faults.ReplayLine line cause) A kind early = absurd (let impossible = early in cc)

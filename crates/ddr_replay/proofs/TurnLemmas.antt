@@ -89,21 +89,21 @@ made_on old ready new all next is busy led made some behind =
 -- so many quiet ones were
 passed_on : (old ready new : Replay) (count until : ℕ) (all next : All) → IsReady old ready → IsBusy old all → AreAllSubmitted old.config until old ready all next → 0 < count → AreQuiet ready.config count (state_of ready.world) → ready.round + count ≤ until → count ≤ MOST - ready.round
     → ((p : ℕ) → p < old.config.limits.ports → come_of ready.round ready.stream.queues p ≡ come_of ready.round next.queues p)
-    → new.asking ≡ ready.asking → state_of new.world ≡ passed count (state_of ready.world) → new.round ≡ ready.round + count → new.ledger ≡ all_acted count (seen_at (state_of new.world)) ready.config.geometry.channels (all_full (count - 1) (come_of ready.round ready.stream.queues) ready.config.limits.ports ready.ledger)
+    → new.asking ≡ ready.asking → state_of new.world ≡ passed count (state_of ready.world) → new.round ≡ ready.round + count → new.ledger ≡ all_acted ready.round count (seen_at (state_of new.world)) ready.config.geometry.channels (all_full (count - 1) (come_of ready.round ready.stream.queues) ready.config.limits.ports ready.ledger)
     → LeadsAlike old.config (MOST - old.round) (MOST - new.round) old new all next
 passed_on old ready new zero until all next is busy led some are within most alike asking state round ledger = absurd (omega (arith, some))
 passed_on old ready new (suc k) until all next is busy led some are within most alike asking state round ledger =
     let ports = old.config.limits.ports in
     let read = come_of ready.round ready.stream.queues in
     let come = come_of ready.round next.queues in
-    let counted : State → Ledger = λ s. all_acted (suc k) (seen_at s) old.config.geometry.channels (all_full k come ports ready.ledger) in
+    let counted : State → Ledger = λ s. all_acted ready.round (suc k) (seen_at s) old.config.geometry.channels (all_full k come ports ready.ledger) in
     let after = counted (passed (suc k) (state_of ready.world)) in
     let one_less : suc k - 1 ≡ k = omega arith in
     let ledger_is : new.ledger ≡ after =
     ledger
-    ∙ ap (λ n. all_acted (suc k) (seen_at (state_of new.world)) ready.config.geometry.channels (all_full n read ready.config.limits.ports ready.ledger)) one_less
-    ∙ ap (λ (c : Config). all_acted (suc k) (seen_at (state_of new.world)) c.geometry.channels (all_full k read c.limits.ports ready.ledger)) is.config
-    ∙ ap (all_acted (suc k) (seen_at (state_of new.world)) old.config.geometry.channels) (all_alike k ports read come ready.ledger alike)
+    ∙ ap (λ n. all_acted ready.round (suc k) (seen_at (state_of new.world)) ready.config.geometry.channels (all_full n read ready.config.limits.ports ready.ledger)) one_less
+    ∙ ap (λ (c : Config). all_acted ready.round (suc k) (seen_at (state_of new.world)) c.geometry.channels (all_full k read c.limits.ports ready.ledger)) is.config
+    ∙ ap (all_acted ready.round (suc k) (seen_at (state_of new.world)) old.config.geometry.channels) (all_alike k ports read come ready.ledger alike)
     ∙ ap counted state in
     let all_left : MOST - old.round ≡ suc ((MOST - new.round) + k) = omega (arith, is.round, most, round) in
     let still = still_busy old.config (whole_run old all.queues) (whole_run ready next.queues) (omega (arith, busy.size)) led.leads.run busy.some in
@@ -135,7 +135,7 @@ module _ (old ready : Replay) (until : ℕ) (before behind : Option (List ℕ)) 
   -- quiet rounds were made
   pub passed_turn : (new : Replay) (count : ℕ) → AreReady → IsReady old ready → IsSized old.stream → old.stream.config ≡ old.config → (unserved (run_of old) == 0) ≡ false → IsSized ready.stream → ready.stream.config ≡ ready.config → IsAhead ready.stream
       → 0 < count → AreQuiet ready.config count (state_of ready.world) → ready.round + count ≤ until → count ≤ MOST - ready.round
-      → new.asking ≡ ready.asking → state_of new.world ≡ passed count (state_of ready.world) → new.round ≡ ready.round + count → new.stream ≡ ready.stream → new.ledger ≡ all_acted count (seen_at (state_of new.world)) ready.config.geometry.channels (all_full (count - 1) (come_of ready.round ready.stream.queues) ready.config.limits.ports ready.ledger)
+      → new.asking ≡ ready.asking → state_of new.world ≡ passed count (state_of ready.world) → new.round ≡ ready.round + count → new.stream ≡ ready.stream → new.ledger ≡ all_acted ready.round count (seen_at (state_of new.world)) ready.config.geometry.channels (all_full (count - 1) (come_of ready.round ready.stream.queues) ready.config.limits.ports ready.ledger)
       → Carries (Alike new) (all_in old.stream before) (all_in new.stream behind)
   passed_turn new count led is sized config busy ready_sized ready_config ahead some are within most asking state round stream ledger =
       let ports_are : ready.stream.config.limits.ports ≡ old.config.limits.ports = ap (λ (c : Config). c.limits.ports) (ready_config ∙ is.config) in

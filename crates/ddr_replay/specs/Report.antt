@@ -13,13 +13,17 @@ use Rattle.ddr_ledger.specs.declared.activity.Activity.{Activity}
 use Rattle.ddr_ledger.specs.declared.activity.Held.{Held}
 use Rattle.ddr_ledger.specs.Activities.{drains_together}
 use Rattle.ddr_ledger.specs.Activity.{mean_of, no_activity}
-use Rattle.ddr_ledger.specs.Ledgers.{Ledger}
+use Rattle.ddr_ledger.specs.declared.causes.Causes.{Causes}
+use Rattle.ddr_ledger.specs.CausesText.{causes_lines}
+use Rattle.ddr_ledger.specs.Ledgers.{Ledger, rows_at, waited_at}
 use Rattle.ddr_ledger.specs.Places.{debt_line, places_tables}
 use Rattle.ddr_ledger.specs.Numbers.{many, numbers_of, together}
-use Rattle.ddr_ledger.specs.Rows.{all_rows, no_rows}
+use Rattle.ddr_ledger.specs.Rows.{all_rows}
+use Rattle.ddr_ledger.specs.Stalls.{Stalled, causes_at, stalls_together}
 use Rattle.ddr_replay.specs.Runs.{Run}
 use Rattle.ddr_ledger.specs.TimesReport.{ledger_tables}
-use Rattle.ddr_ledger.specs.Waited.{all_waited, no_wait}
+use Rattle.ddr_ledger.specs.Waited.{all_waited}
+use Rattle.ddr_ledger.specs.Windows.{outstanding_at}
 
 unfoldable pub head_text : Config → ℕ → List ℕ
 head_text config cycles =
@@ -47,9 +51,14 @@ numbers_lines drains numbers =
     line (codes "turn_rounds = ") numbers.turn_rounds (line (codes "rank_switches = ") numbers.rank_switches (line (codes "drain_cycles = ") drains []))
     ++ debt_line numbers.refresh_debt_most ++ counts_text numbers.counts
 
-unfoldable pub total_table : Requests → Waited → Rows → ℕ → Numbers → List ℕ
-total_table requests waited rows drains numbers =
+-- in how many cycles of all channels requests were pending and no command went out
+unfoldable pub stalled_line : ℕ → List ℕ
+stalled_line stalls = line (codes "stalled_cycles = ") stalls []
+
+unfoldable pub total_table : Requests → Waited → Rows → ℕ → ℕ → Numbers → List ℕ
+total_table requests waited rows drains stalls numbers =
     10 ∷ (codes "[total]" ++ 10 ∷ []) ++ requests_lines requests ++ waited_lines waited ++ rows_lines rows ++ numbers_lines drains numbers
+    ++ stalled_line stalls
 
 -- how many of these there were in so many cycles: on the mean, and the most
 unfoldable pub held_lines : List ℕ → ℕ → Held → List ℕ
@@ -59,29 +68,31 @@ unfoldable pub activity_lines : ℕ → Activity → List ℕ
 activity_lines cycles a =
     held_lines (codes "pending_reads") cycles a.reads ++ held_lines (codes "pending_writes") cycles a.writes ++ held_lines (codes "intake") cycles a.waiting
 
-unfoldable pub channel_table : ℕ → ℕ → Activity → Numbers → List ℕ
-channel_table channel cycles a numbers =
+unfoldable pub channel_table : ℕ → ℕ → Activity → Causes → Numbers → List ℕ
+channel_table channel cycles a causes numbers =
     10 ∷ (codes "[channel." ++ (decimal channel ++ (codes "]" ++ 10 ∷ []))) ++ numbers_lines a.drains numbers ++ activity_lines cycles a
+    ++ causes_lines causes
 
-unfoldable pub port_table : ℕ → Requests → Waited → Rows → List ℕ
-port_table port requests waited rows =
+unfoldable pub port_table : ℕ → ℕ → Requests → Waited → Rows → Held → List ℕ
+port_table port cycles requests waited rows h =
     10 ∷ (codes "[port." ++ (decimal port ++ (codes "]" ++ 10 ∷ []))) ++ requests_lines requests ++ waited_lines waited ++ rows_lines rows
+    ++ held_lines (codes "window") cycles h
 
 -- the tables of the channels, of the ports, from this number on
-abbrev pub channel_tables : ℕ → ℕ → List Numbers → List Activity → List ℕ
-channel_tables cycles channel [] activity = []
-channel_tables cycles channel (one ∷ more) activity =
-    channel_table channel cycles (slice_index_or activity channel no_activity) one ++ channel_tables cycles (channel + 1) more activity
+abbrev pub channel_tables : ℕ → ℕ → List Numbers → List Activity → List Stalled → List ℕ
+channel_tables cycles channel [] activity stalls = []
+channel_tables cycles channel (one ∷ more) activity stalls =
+    channel_table channel cycles (slice_index_or activity channel no_activity) (causes_at stalls channel) one ++ channel_tables cycles (channel + 1) more activity stalls
 
-abbrev pub port_tables : ℕ → List Requests → List Waited → List Rows → List ℕ
-port_tables port [] waited rows = []
-port_tables port (one ∷ more) waited rows =
-    port_table port one (slice_index_or waited port no_wait) (slice_index_or rows port no_rows) ++ port_tables (port + 1) more waited rows
+abbrev pub port_tables : ℕ → ℕ → List Requests → Ledger → List ℕ
+port_tables cycles port [] ledger = []
+port_tables cycles port (one ∷ more) ledger =
+    port_table port cycles one (waited_at ledger port) (rows_at ledger port) (outstanding_at ledger port) ++ port_tables cycles (port + 1) more ledger
 
 unfoldable pub report_lines : Config → List Requests → List Numbers → Ledger → ℕ → List ℕ
 report_lines config requests numbers ledger cycles =
-    head_text config cycles ++ total_table (many requests) (all_waited ledger.waited) (all_rows ledger.rows) (drains_together ledger.activity) (together numbers)
-    ++ channel_tables cycles 0 numbers ledger.activity ++ port_tables 0 requests ledger.waited ledger.rows ++ ledger_tables ledger
+    head_text config cycles ++ total_table (many requests) (all_waited ledger.waited) (all_rows ledger.rows) (drains_together ledger.activity) (stalls_together ledger.stalls) (together numbers)
+    ++ channel_tables cycles 0 numbers ledger.activity ledger.stalls ++ port_tables cycles 0 requests ledger ++ ledger_tables ledger
 
 -- the statistics of a replay of so many requests that came to this run
 abbrev pub report_text : Config → List Requests → Run → List ℕ

@@ -105,11 +105,11 @@ ports_served zero run = run
 ports_served (suc p) run = port_served p (ports_served p run)
 
 -- The channels' part of a round has come to this state: it is noted how the requests found their banks that were read or written in it, and
--- each channel counts a cycle more, with what is seen of it.
+-- each channel counts a cycle more, with what is seen of it: that of the round's number, which is the clock of each channel.
 abbrev pub channels_counted : Config → Run → State → Run
 channels_counted config run s =
     let channels = config.geometry.channels in
-    record run { state = s; ledger = all_acted 1 (seen_at s) channels (all_found run.state (channels_told channels run.state) run.ledger) }
+    record run { state = s; ledger = all_acted run.round 1 (seen_at s) channels (all_found run.state (channels_told channels run.state) run.ledger) }
 
 -- then comes the ports' part, and the round is one more
 abbrev pub round_closed : Config → Run → State → Run
@@ -139,4 +139,4 @@ replayed config (suc n) run = if unserved run == 0 then Ok run else option_map_o
 
 -- before the first round; served requests are kept where that is asked for
 abbrev pub begun : Config → Bool → Order → Queues → Run
-begun config keeps order queues = record { asking = record { order = order; first = 0 }; state = opened config 0 0; queues = queues; ledger = no_ledger config.geometry.channels config.limits.ports keeps; round = 0 }
+begun config keeps order queues = record { asking = record { order = order; first = 0 }; state = opened config 0 0; queues = queues; ledger = no_ledger config keeps; round = 0 }

@@ -12,7 +12,7 @@ use ddr_rounds::watcher::Watcher;
 use ddr_trace::command::Entry;
 
 /// The books of a replay. It watches the core's rounds: of each read or write that is issued it notes how it found its bank, of each
-/// command what it comes to, and of the channel that is asked for it keeps the newest command.
+/// command what it comes to and what it waited for, and of the channel that is asked for it keeps the newest command.
 #[derive(Drop)]
 pub(crate) struct Books {
     pub noting: Noting,
@@ -31,6 +31,7 @@ impl Watcher for Books {
     fn hear(&mut self, told: Told) {
         if let Told::Issued { channel, issued } = told {
             self.find(channel, &issued);
+            self.ledger.issue(channel, &issued.entry);
             self.watch(channel, &issued.entry);
         }
         self.noting.hear(told);

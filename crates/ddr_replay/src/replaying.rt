@@ -116,8 +116,7 @@ impl Replaying {
         ensures wanted { IfOk result (λ replay. replay.wanted ≡ wanted) }
         ensures told { IfOk result (IsTold []) }
     {
-        let (channels, ports) = (config.geometry.channels, config.limits.ports);
-        let ledger = Ledger::open(alloc, channels, ports, keeps_served(wanted))?;
+        let ledger = Ledger::open(alloc, config, keeps_served(wanted))?;
         let books = Books {
             noting: Noting::open(alloc, config)?,
             ledger,
@@ -417,7 +416,7 @@ impl Replaying {
         ensures state { state_of self.new.world ≡ passed count (state_of self.old.world) }
         ensures round { self.new.round ≡ self.old.round + count }
         ensures stream { self.new.stream ≡ self.old.stream }
-        ensures ledger { self.new.ledger ≡ all_acted count (seen_at (state_of self.new.world)) self.old.config.geometry.channels (all_full (count - 1) (come_of self.old.round self.old.stream.queues) self.old.config.limits.ports self.old.ledger) }
+        ensures ledger { self.new.ledger ≡ all_acted self.old.round count (seen_at (state_of self.new.world)) self.old.config.geometry.channels (all_full (count - 1) (come_of self.old.round self.old.stream.queues) self.old.config.limits.ports self.old.ledger) }
         ensures config { self.new.config ≡ self.old.config }
         ensures wanted { self.new.wanted ≡ self.old.wanted }
         ensures asking { self.new.asking ≡ self.old.asking }
@@ -461,9 +460,9 @@ impl Replaying {
         }
     }
 
-    /// Counts so many cycles more of each channel, with what is seen of it.
+    /// Counts so many cycles more of each channel, from the next one on, with what is seen of it.
     fn act_all(&mut self, cycles: u64)
-        ensures ledger { self.new.ledger ≡ all_acted cycles (seen_at (state_of self.old.world)) self.old.config.geometry.channels self.old.ledger }
+        ensures ledger { self.new.ledger ≡ all_acted self.old.round cycles (seen_at (state_of self.old.world)) self.old.config.geometry.channels self.old.ledger }
         ensures rest { IsButLedger self.old self.new }
     {
         for channel in 0..self.config.geometry.channels {
@@ -471,13 +470,13 @@ impl Replaying {
         }
     }
 
-    /// Counts so many cycles more of a channel, with what is seen of it.
+    /// Counts so many cycles more of a channel, from the next one on, with what is seen of it.
     fn act(&mut self, channel: u32, cycles: u64)
-        ensures ledger { self.new.ledger ≡ with_activity channel cycles (seen_at (state_of self.old.world) channel) self.old.ledger }
+        ensures ledger { self.new.ledger ≡ with_activity channel self.old.round cycles (seen_at (state_of self.old.world) channel) self.old.ledger }
         ensures rest { IsButLedger self.old self.new }
     {
         let seen = self.seen(channel);
-        self.books.ledger.act(channel, cycles, &seen);
+        self.books.ledger.act(channel, self.round, cycles, &seen);
     }
 
     /// What is seen of the channel of that number.
@@ -495,6 +494,7 @@ impl Replaying {
             reads: u64::from(there.pending(Kind::Read)),
             writes: u64::from(there.pending(Kind::Write)),
             waiting: waiting as u64,
+            oldest: there.oldest(),
         }
     }
 

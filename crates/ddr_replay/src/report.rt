@@ -1,21 +1,26 @@
 //! The statistics of a replay as text.
 //!
-//! `numbers`, `rows`, `waited`, `activity`, `places`, `times_report` and `ddr_statistics` stand below, and `telling` above. `specs/Report.antt` has
+//! `numbers`, `rows`, `waited`, `activity`, `stalls`, `windows`, `places`, `times_report` and `ddr_statistics` stand below, and `telling` above. `specs/Report.antt` has
 //! the text, byte for byte.
 ghost use Rattle.std.specs.Prelude.{◌≡◌, IfOk, slice_index_or, string_bytes};
 ghost use Rattle.ddr_ledger.specs.Activities.{and_drains, drains_together};
 ghost use Rattle.ddr_ledger.specs.Activity.{no_activity};
-ghost use Rattle.ddr_replay.specs.Report.{activity_lines, channel_table, channel_tables, counts_lines, head_text, held_lines, numbers_lines, port_table, port_tables, report_lines, requests_lines, rows_lines, total_table, waited_lines};
+ghost use Rattle.ddr_replay.specs.Report.{activity_lines, channel_table, channel_tables, counts_lines, head_text, held_lines, numbers_lines, port_table, port_tables, report_lines, requests_lines, rows_lines, stalled_line, total_table, waited_lines};
 ghost use Rattle.ddr_ledger.specs.Rows.{no_rows};
+ghost use Rattle.ddr_ledger.specs.Stalls.{causes_at};
 ghost use Rattle.ddr_ledger.specs.Waited.{no_wait};
 
 use ddr_ledger::activity::{Activity, Held};
+use ddr_ledger::causes::Causes;
+use ddr_ledger::causes_text::causes_lines;
 use ddr_ledger::ledger::Ledger;
 use ddr_ledger::numbers::{Numbers, many, together};
 use ddr_ledger::places::debt_line;
 use ddr_ledger::rows::{RowCounts, Rows, all_rows};
+use ddr_ledger::stalls::{Stalls, stalls_together};
 use ddr_ledger::times_report::ledger_tables;
 use ddr_ledger::waited::{Waited, all_waited};
+use ddr_ledger::windows::outstanding_at;
 use ddr_measure::text::thousandths;
 use ddr_statistics::text::counts_text;
 use ddr_stream::requests::Requests;
@@ -43,12 +48,13 @@ pub fn report_lines(
         &all_waited(ledger.waited()),
         &all_rows(ledger.rows()),
         drains_together(ledger.activity()),
+        stalls_together(ledger.stalls()),
         &together(numbers),
     )?;
     text.push_str(total.as_str())?;
-    let channels = channel_tables(alloc, cycles, numbers, ledger.activity())?;
+    let channels = channel_tables(alloc, cycles, numbers, ledger.activity(), ledger.stalls())?;
     text.push_str(channels.as_str())?;
-    let ports = port_tables(alloc, requests, ledger.waited(), ledger.rows())?;
+    let ports = port_tables(alloc, cycles, requests, ledger)?;
     text.push_str(ports.as_str())?;
     let times = ledger_tables(alloc, ledger)?;
     text.push_str(times.as_str())?;
@@ -72,9 +78,10 @@ fn total_table(
     waited: &Waited,
     rows: &Rows,
     drains: u64,
+    stalls: u64,
     numbers: &Numbers,
 ) -> Result<String, AllocError>
-    ensures { IfOk result (λ text. string_bytes text ≡ total_table requests.now waited.now rows.now drains numbers.now) }
+    ensures { IfOk result (λ text. string_bytes text ≡ total_table requests.now waited.now rows.now drains stalls numbers.now) }
 {
     let mut text = String::from_str(alloc, "\n[total]\n")?;
     let asked = requests_lines(alloc, requests)?;
@@ -85,6 +92,8 @@ fn total_table(
     text.push_str(found.as_str())?;
     let counted = numbers_lines(alloc, drains, numbers)?;
     text.push_str(counted.as_str())?;
+    let stalled = stalled_line(alloc, stalls)?;
+    text.push_str(stalled.as_str())?;
     Ok(text)
 }
 
@@ -94,12 +103,14 @@ fn channel_tables(
     cycles: u32,
     numbers: &[Numbers],
     activity: &[Activity],
+    stalls: &[Stalls],
 ) -> Result<String, AllocError>
-    ensures { IfOk result (λ text. string_bytes text ≡ channel_tables cycles 0 numbers.now activity.now) }
+    ensures { IfOk result (λ text. string_bytes text ≡ channel_tables cycles 0 numbers.now activity.now stalls.now) }
 {
     let mut text = String::new(alloc);
     for (channel, one) in numbers.iter().enumerate() {
-        let table = channel_table(alloc, channel, cycles, &activity_at(activity, channel), one)?;
+        let (acted, causes) = (activity_at(activity, channel), causes_at(stalls, channel));
+        let table = channel_table(alloc, channel, cycles, &acted, &causes, one)?;
         text.push_str(table.as_str())?;
     }
     Ok(text)
@@ -112,6 +123,16 @@ fn activity_at(activity: &[Activity], channel: usize) -> Activity
     match activity.get(channel) {
         Some(one) => *one,
         None => Activity::NONE,
+    }
+}
+
+/// What a channel's commands waited for; nothing where it isn't told of.
+fn causes_at(stalls: &[Stalls], channel: usize) -> Causes
+    ensures { result ≡ causes_at stalls.now channel }
+{
+    match stalls.get(channel) {
+        Some(one) => *one.causes(),
+        None => Causes::NONE,
     }
 }
 
@@ -139,16 +160,27 @@ fn channel_table(
     channel: usize,
     cycles: u32,
     activity: &Activity,
+    causes: &Causes,
     numbers: &Numbers,
 ) -> Result<String, AllocError>
-    ensures { IfOk result (λ text. string_bytes text ≡ channel_table channel cycles activity.now numbers.now) }
+    ensures { IfOk result (λ text. string_bytes text ≡ channel_table channel cycles activity.now causes.now numbers.now) }
 {
     let mut text = format!(in alloc; "\n[channel.{channel}]\n")?;
     let lines = numbers_lines(alloc, activity.drains, numbers)?;
     text.push_str(lines.as_str())?;
     let acted = activity_lines(alloc, cycles, activity)?;
     text.push_str(acted.as_str())?;
+    let waits = causes_lines(alloc, causes)?;
+    text.push_str(waits.as_str())?;
     Ok(text)
+}
+
+/// In how many cycles of all channels requests were pending and no command went out.
+#[tactic(auto, unfolding(crate::specs::Report::stalled_line))]
+fn stalled_line(alloc: Global, stalls: u64) -> Result<String, AllocError>
+    ensures { IfOk result (λ text. string_bytes text ≡ stalled_line stalls) }
+{
+    format!(in alloc; "stalled_cycles = {stalls}\n")
 }
 
 /// How many requests were pending in a channel of so many cycles, and waited in its queue.
@@ -176,16 +208,18 @@ fn held_lines(alloc: Global, name: &str, cycles: u32, held: &Held) -> Result<Str
 /// The tables of the ports, of which a port that isn't told of waited for no clock, and read and wrote nothing.
 fn port_tables(
     alloc: Global,
+    cycles: u32,
     requests: &[Requests],
-    waited: &[Waited],
-    rows: &[Rows],
+    ledger: &Ledger,
 ) -> Result<String, AllocError>
-    ensures { IfOk result (λ text. string_bytes text ≡ port_tables 0 requests.now waited.now rows.now) }
+    ensures { IfOk result (λ text. string_bytes text ≡ port_tables cycles 0 requests.now ledger.now) }
 {
     let mut text = String::new(alloc);
     for (port, one) in requests.iter().enumerate() {
-        let (waits, found) = (waited_at(waited, port), rows_at(rows, port));
-        let table = port_table(alloc, port, one, &waits, &found)?;
+        let waits = waited_at(ledger.waited(), port);
+        let found = rows_at(ledger.rows(), port);
+        let held = outstanding_at(ledger, port);
+        let table = port_table(alloc, port, cycles, one, &waits, &found, &held)?;
         text.push_str(table.as_str())?;
     }
     Ok(text)
@@ -216,11 +250,13 @@ fn rows_at(rows: &[Rows], port: usize) -> Rows
 fn port_table(
     alloc: Global,
     port: usize,
+    cycles: u32,
     requests: &Requests,
     waited: &Waited,
     rows: &Rows,
+    held: &Held,
 ) -> Result<String, AllocError>
-    ensures { IfOk result (λ text. string_bytes text ≡ port_table port requests.now waited.now rows.now) }
+    ensures { IfOk result (λ text. string_bytes text ≡ port_table port cycles requests.now waited.now rows.now held.now) }
 {
     let mut text = format!(in alloc; "\n[port.{port}]\n")?;
     let lines = requests_lines(alloc, requests)?;
@@ -229,6 +265,8 @@ fn port_table(
     text.push_str(waits.as_str())?;
     let found = rows_lines(alloc, rows)?;
     text.push_str(found.as_str())?;
+    let window = held_lines(alloc, "window", cycles, held)?;
+    text.push_str(window.as_str())?;
     Ok(text)
 }
 

@@ -178,10 +178,10 @@ ledger_begun config keeps = record {
 
 -- what channels do in their cycles changes nothing of it
 
-pub acted_lists : (n : ℕ) (s : State) (ledger : Ledger)
-    → ((all_acted 1 (seen_at s) n ledger).accepted ≡ ledger.accepted) × ((all_acted 1 (seen_at s) n ledger).ports ≡ ledger.ports) × ((all_acted 1 (seen_at s) n ledger).keeps ≡ ledger.keeps) × ((all_acted 1 (seen_at s) n ledger).served ≡ ledger.served)
-acted_lists zero s ledger = (refl, refl, refl, refl)
-acted_lists (suc c) s ledger = acted_lists c s ledger
+pub acted_lists : (now n : ℕ) (s : State) (ledger : Ledger)
+    → ((all_acted now 1 (seen_at s) n ledger).accepted ≡ ledger.accepted) × ((all_acted now 1 (seen_at s) n ledger).ports ≡ ledger.ports) × ((all_acted now 1 (seen_at s) n ledger).keeps ≡ ledger.keeps) × ((all_acted now 1 (seen_at s) n ledger).served ≡ ledger.served)
+acted_lists now zero s ledger = (refl, refl, refl, refl)
+acted_lists now (suc c) s ledger = acted_lists now c s ledger
 
 -- the times of one request more
 

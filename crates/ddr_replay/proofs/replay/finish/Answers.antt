@@ -1,5 +1,5 @@
 -- What was told so far, and what stands behind it.
-use Rattle.std.proofs.Common.{◌≡◌, ◌++◌, [], ℕ, List, Bool, true, false, Option, Result, Ok, Err, OnOk, IfErr, inl, inr, append-nil, ap, refl, sym, subst, ◌∙◌}
+use Rattle.std.proofs.Common.{◌≡◌, ◌++◌, [], ℕ, List, Vec, Global, Bool, true, false, Option, Result, Ok, Err, OnOk, IfErr, inl, inr, append-nil, ap, refl, sym, subst, ◌∙◌}
 use Rattle.std.proofs.KnownBytes.{Appends-nil, Appends-trans}
 use Rattle.std.proofs.lemmas.Result.{err_from_is_err_and}
 use Rattle.std.specs.Io.KnownBytes.{Appends}
@@ -11,6 +11,7 @@ use Rattle.ddr_stream.specs.declared.requests.Requests.{Requests}
 use Rattle.ddr_replay.specs.Finished.{IsFinished, IsPartly, all_told}
 use Rattle.ddr_replay.specs.Replays.{told_of}
 use Rattle.ddr_replay.specs.View.{Replay, run_of, told_so_far}
+use Rattle.ddr_replay.proofs.ReplayLemmas.{ending_kind}
 use Rattle.ddr_replay.proofs.replay.finish.Goals as goal
 
 -- nothing of it was written, or all
@@ -44,3 +45,9 @@ returns-clause-finished g c =
 pub returns-clause-begun : goal.returns-clause-begun
 returns-clause-begun g c =
     all_of c.args.replaying.now.text c.write_bytes.result g.W.Sink.may_fail (g.W.Write.contents c.args.writer.now) (g.W.Write.contents c.write.new.writer) (g.W.Write.contents c.write_bytes.new.writer) c.in_ok-write.ensures.written c.write_bytes.ensures.refused c.write_bytes.ensures.spared
+
+pub returns-in_err-ending-clause-kind : goal.returns-in_err-ending-clause-kind
+returns-in_err-ending-clause-kind g c =
+    let r = c.args.replaying.now in
+    let p = err_from_is_err_and c.from_residual.result c.from_residual.ensures.1 in
+    rw (p.1, p.2) (ending_kind {X = Vec ℕ Global} (λ v. told_so_far r ++ v.items) c.args.config.now r.wanted c.requests.result.now (run_of r) c.in_err-ending.field-0.0 c.in_err-ending.ensures)

@@ -18,7 +18,7 @@ use Rattle.ddr_replay.proofs.RunLemmas.{nothing_next}
 use Rattle.ddr_replay.proofs.replay.replay_body.Goals.{in-Ok, in-Err}
 use Rattle.ddr_replay.specs.Taken.{IsTaken}
 use Rattle.ddr_replay.specs.Told.{comes_at_end, keeps_served}
-use Rattle.ddr_replay.proofs.ReplayLemmas.{HasBegun, cut_short, each, each_fault_with, each_with, end_comes_later, finished_begun, finished_said, no_channel, nothing_written, run_comes_later, run_ended, taken_said}
+use Rattle.ddr_replay.proofs.ReplayLemmas.{HasBegun, cut_short, each, each_fault_with, each_with, end_comes_later, end_reads_nothing, finished_begun, finished_said, no_channel, nothing_written, run_comes_later, run_ended, taken_said}
 use Rattle.ddr_replay.proofs.replay.replay_body.Goals as goal
 
 pub returns-then-names_no_channel-clause-said : goal.returns-then-names_no_channel-clause-said
@@ -158,3 +158,9 @@ returns-clause-spared g c = λ at_end spared.
           ap g.W.Write.contents w.writer-is ∙ w.finish-result.ensures.spared nothing (sym w.result-is ∙ spared) ∙ ap g.W.Write.contents (c.run.ensures.idle there).0
       | in-Err w ↦ ap g.W.Write.contents w.writer-is ∙ ap g.W.Write.contents (c.run.ensures.idle there).0
     ]
+
+pub returns-clause-sure : goal.returns-clause-sure
+returns-clause-sure g c = λ read. elim c.match-run.branch [
+  | in-Ok w ↦ absurd (end_reads_nothing w.finish-result.result w.finish-result.ensures.kind (sym w.result-is ∙ read))
+  | in-Err w ↦ c.run.ensures.sure (w.in-Err.is ∙ sym w.result-is ∙ read)
+]

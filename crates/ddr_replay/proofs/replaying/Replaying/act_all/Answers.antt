@@ -1,5 +1,5 @@
 -- A cycle more of one channel more was counted.
-use Rattle.std.proofs.Common.{◌≡◌, ◌+◌, suc, ap, arith, ◌∙◌}
+use Rattle.std.proofs.Common.{◌≡◌, ℕ, ◌+◌, suc, ap, ap₂, arith, ◌∙◌}
 use Rattle.ddr_world.specs.Kept.{Kept, state_of}
 use Rattle.ddr_ledger.specs.Activities.{all_acted}
 use Rattle.ddr_ledger.specs.Activity.{seen_at}
@@ -15,9 +15,9 @@ loop-channel-preserved c =
     let more : suc n ≡ n + 1 = omega arith in
     record {
       ledger = act.ledger
-          ∙ ap (λ (w : Kept). with_activity n c.args.cycles (seen_at (state_of w) n) c.loop-channel.self.ledger) kept.rest.world
-          ∙ ap (with_activity n c.args.cycles (seen_at (state_of start.world) n)) kept.ledger
-          ∙ ap (λ k. all_acted c.args.cycles (seen_at (state_of start.world)) k start.ledger) more;
+          ∙ ap₂ (λ (w : Kept) (r : ℕ). with_activity n r c.args.cycles (seen_at (state_of w) n) c.loop-channel.self.ledger) kept.rest.world kept.rest.round
+          ∙ ap (with_activity n start.round c.args.cycles (seen_at (state_of start.world) n)) kept.ledger
+          ∙ ap (λ k. all_acted start.round c.args.cycles (seen_at (state_of start.world)) k start.ledger) more;
       rest = record {
         config = act.rest.config ∙ kept.rest.config;
         asking = act.rest.asking ∙ kept.rest.asking;

@@ -7,6 +7,6 @@ use Rattle.ddr_replay.proofs.replaying.Replaying.act_all.Given as goal
 
 abbrev pub invariant-loop-channel : goal.invariant-loop-channel
 invariant-loop-channel l = record {
-  ledger : l.self.ledger ≡ all_acted l.cycles (seen_at (state_of l.fn.self.world)) l.channel l.fn.self.ledger;
+  ledger : l.self.ledger ≡ all_acted l.fn.self.round l.cycles (seen_at (state_of l.fn.self.world)) l.channel l.fn.self.ledger;
   rest : IsButLedger l.fn.self l.self;
 }

@@ -65,3 +65,10 @@ returns-clause-run g c =
     let last = c.loop-port.self in
     let all : c.loop-port.port ≡ c.args.to = omega (arith, c.loop-port-test.false, c.loop-port.auto.port-end, c.requires.ordered) in
     subst (λ (n : ℕ). Carries (λ every next. AreSubmitted c.args.from (n - c.args.from) c.loop-port.until old last every next) (all_in old.stream (g.R.Read.remaining c.args.reader.now)) (all_in last.stream (g.R.Read.remaining c.loop-port.reader))) all c.loop-port.invariant.run
+
+pub returns-clause-others : goal.returns-clause-others
+returns-clause-others g c = λ q beside knew.
+    c.loop-port.invariant.others q (elim beside [
+      | inl below ↦ inl below
+      | inr above ↦ inr (omega (arith, above, c.requires.ordered, c.loop-port.auto.port-end))
+    ]) knew

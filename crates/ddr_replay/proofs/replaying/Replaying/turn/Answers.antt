@@ -1,6 +1,6 @@
 -- The ports submit, and a round follows, or some quiet ones.
-use Rattle.std.proofs.Common.{◌≡◌, ◌≤◌, arith, subst}
-use Rattle.ddr_stream.specs.Waiting.{IsSized}
+use Rattle.std.proofs.Common.{◌≡◌, ◌≤◌, arith, subst, sym}
+use Rattle.ddr_stream.specs.Waiting.{IsAhead, IsSized, Waiting}
 use Rattle.ddr_replay.specs.View.{Replay}
 use Rattle.ddr_replay.proofs.TurnLemmas.{failed_turn, limit_reached, made_turn, passed_turn}
 use Rattle.ddr_replay.proofs.replaying.Replaying.turn.Goals as goal
@@ -38,3 +38,9 @@ returns-clause-fault g c =
     failed_turn c.args.self.now c.submit_all.new.self c.in_ok-until.until (g.R.Read.remaining c.args.reader.now) (g.R.Read.remaining c.submit_all.new.reader) c.make_round.new.self c.make_round.result
     c.in_ok-until.ensures.run (record { config = submit.same.config; round = submit.same.round }) (subst (λ (r : Replay). IsSized r.stream) is c.self.invariant.sized) (subst (λ (r : Replay). r.stream.config ≡ r.config) is c.self.invariant.stream) c.requires
     (omega (arith, submit.same.round, here.0, here.1)) c.make_round.ensures.stream c.make_round.ensures.fault
+
+pub returns-then-quiet-gt0-clause-ahead : goal.returns-then-quiet-gt0-clause-ahead
+returns-then-quiet-gt0-clause-ahead g c = subst (λ (w : Waiting). IsAhead w) (sym c.pass.ensures.stream) c.in_ok-until.ensures.ahead
+
+pub returns-then-quiet-gt0-clause-told : goal.returns-then-quiet-gt0-clause-told
+returns-then-quiet-gt0-clause-told g c = λ earlier is. c.pass.ensures.told earlier (c.in_ok-until.ensures.told earlier is)
