@@ -1,0 +1,16 @@
+mod AgreeLemmas
+mod BegunLemmas
+mod CountLemmas
+mod GainLemmas
+mod HistoryLemmas
+mod NumberLemmas
+mod PartLemmas
+mod PortLemmas
+mod ReplayLemmas
+mod RowLemmas
+mod RunLemmas
+mod SumLemmas
+mod TimesLemmas
+mod ToldLemmas
+mod TraceLemmas
+mod TurnLemmas
