@@ -1,5 +1,5 @@
 -- The address map: each way undoes the other, and each answers exactly where it should.
-use Rattle.std.proofs.Common.{◌≡◌, ℕ, zero, suc, ◌+◌, ◌*◌, ◌/◌, ◌%◌, ◌<◌, ◌≤◌, Bool, true, false, cond, ◌&&◌, ◌||◌, nat_lt, nat_eq, Some, None, refl, sym, ap, ◌∙◌, arith, length, ◌^◌, bit_xor, inl, inr}
+use Rattle.std.proofs.Common.{◌≡◌, ℕ, zero, suc, ◌+◌, ◌*◌, ◌/◌, ◌%◌, ◌<◌, ◌≤◌, Bool, true, false, cond, ◌&&◌, ◌||◌, nat_lt, nat_eq, Some, None, is_some, refl, sym, ap, ◌∙◌, arith, length, ◌^◌, bit_xor, inl, inr}
 use Rattle.std.proofs.lemmas.Bool.Decides.{nat_tests}
 use Rattle.std.proofs.lemmas.Nat.{xor_lt, mul-le}
 use Rattle.std.proofs.lemmas.Bool.{cases_lt, lt-ltb, le-ltb}
@@ -177,6 +177,18 @@ pub place_of-past : (shape : Geometry) (addr : ℕ) → capacity_of shape ≤ ad
 unfolding place_of
 place_of-past shape addr past = rw (le-ltb _ _ past) refl
 
+-- an address has a place exactly where it is below the capacity
+pub below-place : (shape : Geometry) (addr : ℕ) → nat_lt addr (capacity_of shape) ≡ is_some (place_of shape addr)
+unfolding place_of
+below-place shape addr = by_test (nat_lt addr (capacity_of shape))
+  where
+    place : Place
+    place = with_bank_xor shape (place_with (digit_of (size_of shape) shape.map (addr / 64)) (addr % 64))
+
+    by_test : (b : Bool) → b ≡ is_some (cond b (Some place) None)
+    by_test true = refl
+    by_test false = refl
+
 pub address_of-inside : (shape : Geometry) (place : Place) → IsInRange shape place → address_of shape place ≡ Some (64 * number_of (size_of shape) shape.map (digit_in (with_bank_xor shape place)) + place.offset)
 unfolding address_of
 address_of-inside shape place r = rw (in_range-IsInRange shape place r) refl
@@ -270,6 +282,11 @@ capacity-bound shape =
     let banks : shape.channels * shape.ranks * shape.groups * 4 ≤ 128 = omega (arith, groups) in
     let upper : shape.channels * shape.ranks * shape.groups * 4 * (shape.columns / 8) ≤ 128 * 128 = mul-le (shape.channels * shape.ranks * shape.groups * 4) (shape.columns / 8) 128 128 banks line in
     omega (arith, mul-le (shape.channels * shape.ranks * shape.groups * 4 * (shape.columns / 8)) shape.rows (128 * 128) 131072 upper shape.rows_range.1)
+
+-- the capacity, by numbers that are its factors
+pub capacity-factors : (shape : Geometry) (a b c d e f : ℕ) → a ≡ shape.channels → b ≡ shape.ranks → c ≡ shape.groups → d ≡ 4 → e ≡ shape.columns / 8 → f ≡ shape.rows
+    → 64 * (a * b * c * d * e * f) ≡ capacity_of shape
+capacity-factors shape a b c d e f channels ranks groups banks lines rows = rw (channels, ranks, groups, banks, lines, rows) refl
 
 pub numbers-bound : (shape : Geometry) → numbers (size_of shape) shape.map ≤ 2 ^ 31
 numbers-bound shape = omega (arith, capacity-bound shape, capacity_of-numbers shape)

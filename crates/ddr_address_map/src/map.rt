@@ -3,7 +3,7 @@
 //! An address is a line's number and an offset in the line. The line's number is written in mixed radix,
 //! with the digits of the place in the order that the configuration names. Each way is one pass over
 //! that order. Below stand `ddr_timing`'s geometry and `place`.
-ghost use Rattle.std.specs.Prelude.{ℕ, ◌≡◌, ◌+◌, ◌<◌, ◌≤◌, ◌↔◌, if◌then◌else◌, IsTrue, IsSome, IfSome};
+ghost use Rattle.std.specs.Prelude.{◌≡◌, ◌+◌, ◌<◌, ◌≤◌, ◌↔◌, if◌then◌else◌, IsTrue, IsSome, IfSome, is_some};
 ghost use Rattle.ddr_timing.specs.declared.geometry.Digit.{Digit};
 ghost use Rattle.ddr_timing.specs.Order.{same_digit};
 ghost use Rattle.ddr_address_map.specs.Map.{size_of, capacity_of, digit_in, with_bank_xor, in_range, place_of, address_of};
@@ -18,6 +18,9 @@ use ddr_timing::units::{GROUP_BANKS, LINE_BYTES, LINE_COLUMNS};
 pub struct Map {
     /// The sizes of the digits, their order, and whether the row is mixed into the bank.
     pub geometry: Geometry,
+    // The bytes of the memory.
+    capacity: u64,
+    ghost capacity_is: { capacity ≡ capacity_of geometry },
 }
 
 impl Map {
@@ -25,9 +28,16 @@ impl Map {
     pub fn new(config: &Config) -> Map
         ensures { result.geometry ≡ config.now.geometry }
     {
-        Map {
-            geometry: config.geometry,
-        }
+        let geometry = config.geometry;
+        let capacity = capacity(&geometry);
+        Map { geometry, capacity }
+    }
+
+    /// Whether an address has a place: a comparison with the capacity, where `place` takes the address apart.
+    pub fn holds(&self, addr: u64) -> bool
+        ensures { result ≡ is_some (place_of self.now.geometry addr) }
+    {
+        addr < self.capacity
     }
 
     /// Where the byte of an address lies. `None` exactly where the address is not below the capacity.
@@ -125,6 +135,16 @@ impl Map {
             place
         }
     }
+}
+
+// The bytes of the memory.
+fn capacity(shape: &Geometry) -> u64
+    ensures { result ≡ capacity_of shape.now }
+{
+    let groups = u64::from(shape.channels) * u64::from(shape.ranks) * u64::from(shape.groups);
+    let banks = groups * u64::from(GROUP_BANKS);
+    let lines = banks * u64::from(shape.columns / LINE_COLUMNS) * u64::from(shape.rows);
+    LINE_BYTES as u64 * lines
 }
 
 // A part of a place, by the name of its digit.

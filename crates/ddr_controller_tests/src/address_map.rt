@@ -45,10 +45,11 @@ fn at(parts: Parts) -> Place {
     }
 }
 
-/// That each address has its place, or none.
+/// That each address has its place, or none, and is told to have one.
 fn check_places(rt: &impl Abort, map: &Map, places: &[(u64, Option<Parts>)]) {
     for (addr, parts) in places {
         assert!(rt; map.place(*addr) == parts.map(at), "at {addr}");
+        assert!(rt; map.holds(*addr) == parts.is_some(), "at {addr}");
     }
 }
 

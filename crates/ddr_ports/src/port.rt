@@ -80,7 +80,9 @@ impl PortCore {
             return Err(PortError::Finished);
         }
         let addr = request.first_address();
-        let place = self.map.place(addr).ok_or(PortError::OutOfRange)?;
+        if !self.map.holds(addr) {
+            return Err(PortError::OutOfRange);
+        }
         let len = request.len();
         if len == 0 {
             return Err(PortError::EmptyLength);
@@ -99,7 +101,7 @@ impl PortCore {
             port: self.port,
             number,
             echo,
-            place,
+            place: self.map.place(addr).unwrap(),
             mask: request.mask(),
             line,
         })

@@ -376,6 +376,39 @@ put_sized w queues sized is = record {
   few = sized.few;
 }
 
+-- ---- a line whose request isn't kept
+
+fault_in_front : (asked : Option Placed) (rest : Option (Result Queues Fault)) → HaveSameFault (in_front_of asked rest) rest
+fault_in_front asked None = tt
+fault_in_front asked (Some (Ok queues)) = refl
+fault_in_front asked (Some (Err fault)) = refl
+
+module _ {A : Type 0} (a : Option (Result A Fault)) (old next : Waiting) (sent : ℕ) (more less : Option (List ℕ)) (kept : IsKept old next) (unended : old.ended ≡ false) where
+  left_at : (w : Waiting) (n : ℕ) (known : Option (List ℕ)) → w.ended ≡ false → rest_in (record w { sent = n }) known ≡ left_in w n known
+  left_at w n known is = ap (λ (b : Bool). cond b (Some (Ok (replicate w.config.limits.ports []))) (left_in w n known)) is
+
+  next_unended : next.ended ≡ false
+  next_unended = ap (λ (w : Waiting). w.ended) kept ∙ unended
+
+  skipped_on : (n : ℕ) → HaveSameFault a (rest_in (record old { sent = sent }) more) → HaveSameFault (left_in old sent more) (left_in next n less)
+      → HaveSameFault a (rest_in (record next { sent = n }) less)
+  skipped_on n before same =
+      subst (λ (x : Option (Result Queues Fault)). HaveSameFault a x) (sym (left_at next n less next_unended))
+      (same_on (option_map fault_in a) (option_map fault_in (left_in old sent more)) (option_map fault_in (left_in next n less))
+      (subst (λ (x : Option (Result Queues Fault)). HaveSameFault a x) (left_at old sent more unended) before) same)
+
+  pub skipped_nothing : HaveSameFault a (rest_in (record old { sent = sent }) more) → IsSame (left_in old sent more) (left_in next sent less)
+      → HaveSameFault a (rest_in (record next { sent = sent }) less)
+  skipped_nothing before same = skipped_on sent before (same_mapped fault_in (left_in old sent more) (left_in next sent less) same)
+
+  pub skipped_ask : (p : Placed) → HaveSameFault a (rest_in (record old { sent = sent }) more) → IsSame (left_in old sent more) (in_front_of (Some p) (left_in next (sent + 1) less))
+      → HaveSameFault a (rest_in (record next { sent = sent + 1 }) less)
+  skipped_ask p before same =
+      let rest = left_in next (sent + 1) less in
+      skipped_on (sent + 1) before
+      (same_on (option_map fault_in (left_in old sent more)) (option_map fault_in (in_front_of (Some p) rest)) (option_map fault_in rest)
+      (same_mapped fault_in (left_in old sent more) (in_front_of (Some p) rest) same) (fault_in_front (Some p) rest))
+
 -- ---- no line is left
 
 pub skipped_sound : (a : Option (Result All Fault)) (w : Waiting) (more : Option (List ℕ)) → w.ended ≡ true → HaveSameFault a (rest_in w more) → IfSome a (λ said. (all : All) × (said ≡ Ok all))

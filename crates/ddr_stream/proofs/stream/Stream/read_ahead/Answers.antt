@@ -1,5 +1,6 @@
-use Rattle.std.proofs.Common.{ℕ, below_more}
-use Rattle.ddr_stream.specs.Waiting.{Knows, all_in}
+use Rattle.std.proofs.Common.{ℕ, below_more, ap, sym, ◌∙◌, arith}
+use Rattle.ddr_timing.specs.declared.config.Config.{Config}
+use Rattle.ddr_stream.specs.Waiting.{Knows, Waiting, all_in}
 use Rattle.ddr_stream.proofs.NextLemmas.{read_on, same_on}
 use Rattle.ddr_stream.proofs.stream.Stream.read_ahead.Goals as goal
 
@@ -13,3 +14,12 @@ loop-port-preserved g c =
       rest = read_on c.args.self.now c.loop-port.self c.first.new.self kept.rest on;
       ahead = below_more (λ (port : ℕ). Knows c.first.new.self port) c.loop-port.port (λ port below. on.knows port (kept.ahead port below)) c.in_ok-first.ensures.knows;
     }
+
+pub returns-in_err-first-clause-rest : goal.returns-in_err-first-clause-rest
+returns-in_err-first-clause-rest g c = read_on c.args.self.now c.loop-port.self c.first.new.self c.loop-port.invariant.rest c.first.ensures.rest
+
+pub returns-clause-ahead : goal.returns-clause-ahead
+returns-clause-ahead g c = λ port below.
+    let config = c.loop-port.invariant.rest.config ∙ sym (ap (λ (w : Waiting). w.config) c.self.view_is) in
+    let ports = ap (λ (config : Config). config.limits.ports) config in
+    c.loop-port.invariant.ahead port (omega (arith, below, ports, c.loop-port-test.false))
