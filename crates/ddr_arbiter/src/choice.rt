@@ -1,6 +1,6 @@
 //! What a channel does in a cycle: the scheduler's choice.
 ghost use Rattle.std.specs.Prelude.{◌≡◌, ◌≤◌, All, length};
-ghost use Rattle.ddr_hazards.specs.declared.pending.TheConstants.{RANKS};
+ghost use Rattle.ddr_timing.specs.declared.units.TheConstants.{MOST_RANKS};
 ghost use Rattle.ddr_arbiter.specs.Choice.{choice_of, column_choice, is_row_shared, is_same_row, is_something, share_row};
 ghost use Rattle.ddr_arbiter.specs.Laws.{IsLawful};
 ghost use Rattle.ddr_arbiter.specs.Situation.{situation};
@@ -51,7 +51,7 @@ pub fn choose(
     room: bool,
 ) -> Choice
     requires admitted { All (λ w. w.admitted ≤ legality.now.bus.now) pending.now.waiting }
-    requires ranks { length debts.now ≤ RANKS }
+    requires ranks { length debts.now ≤ MOST_RANKS }
     ensures exact { result ≡ choice_of (situation pending.now legality.entry.now debts.now policy.now drain room) }
     ensures lawful { IsLawful (situation pending.now legality.entry.now debts.now policy.now drain room) result }
 {

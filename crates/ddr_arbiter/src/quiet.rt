@@ -5,9 +5,8 @@
 //! known of the candidates. Of the others the legality tells the first cycle of each command, once for each bank, and for each
 //! rank that has to be refreshed.
 ghost use Rattle.std.specs.Prelude.{◌≡◌, ℕ, ◌<◌, ◌≤◌, None, Some, Bool, true, false, List, All, length, slice_index_or};
-ghost use Rattle.ddr_timing.specs.declared.units.TheConstants.{CLOCK_STOP};
+ghost use Rattle.ddr_timing.specs.declared.units.TheConstants.{CLOCK_STOP, MOST_RANKS};
 ghost use Rattle.ddr_trace.specs.Banks.{bank_behind, ready_row};
-ghost use Rattle.ddr_hazards.specs.declared.pending.TheConstants.{RANKS};
 ghost use Rattle.ddr_hazards.specs.declared.waiting.Waiting.{Waiting};
 ghost use Rattle.ddr_hazards.specs.PendingList.{IsInRank};
 ghost use Rattle.ddr_arbiter.specs.declared.candidates.Served.{Served};
@@ -61,7 +60,7 @@ pub fn quiet_until(
     room: bool,
 ) -> u64
     requires admitted { All (λ w. w.admitted ≤ legality.now.bus.now) pending.now.waiting }
-    requires ranks { length debts.now ≤ RANKS }
+    requires ranks { length debts.now ≤ MOST_RANKS }
     ensures { IsQuietUntil result (situation pending.now legality.entry.now debts.now policy.now drain room) }
 {
     let forced = forced_ranks(pending, debts);
@@ -89,7 +88,7 @@ pub fn still_until(
     room: bool,
 ) -> u64
     requires admitted { All (λ w. w.admitted ≤ legality.now.bus.now) pending.now.waiting }
-    requires ranks { length debts.now ≤ RANKS }
+    requires ranks { length debts.now ≤ MOST_RANKS }
     ensures { IsQuietUntil result (situation pending.now legality.entry.now debts.now policy.now drain room) }
 {
     let forced = forced_ranks(pending, debts);
@@ -106,7 +105,7 @@ pub fn rest_of(
     room: bool,
 ) -> Rest
     requires admitted { All (λ w. w.admitted ≤ legality.now.bus.now) pending.now.waiting }
-    requires ranks { length debts.now ≤ RANKS }
+    requires ranks { length debts.now ≤ MOST_RANKS }
     ensures until { IsQuietUntil result.until (situation pending.now legality.entry.now debts.now policy.now drain room) }
     ensures must_refresh { result.must_refresh ≡ must_refresh pending.now.waiting debts.now }
 {
@@ -135,7 +134,7 @@ fn forced_until(
     room: bool,
 ) -> u64
     requires admitted { All (λ w. w.admitted ≤ legality.now.bus.now) pending.now.waiting }
-    requires ranks { length debts.now ≤ RANKS }
+    requires ranks { length debts.now ≤ MOST_RANKS }
     requires forced { AreForced pending.now.waiting debts.now forced.now }
     ensures { IsQuietUntil result (situation pending.now legality.entry.now debts.now policy.now drain room) }
 {
@@ -156,7 +155,7 @@ fn forced_until(
 
 /// A cycle before which neither a REF nor a PREA is chosen for the rank, if it has to be refreshed.
 fn rank_until(legality: &Legality, forced: &Forced, rank: u32) -> u64
-    requires { rank < RANKS }
+    requires { rank < MOST_RANKS }
     ensures { slice_index_or forced.now rank false ≡ true → IsRefreshStuckUntil result legality.entry.now.bus rank }
 {
     if forced[rank as usize] {

@@ -1,20 +1,21 @@
 //! The ranks that have to be refreshed, and the choice while some do.
 ghost use Rattle.std.specs.Prelude.{◌≡◌, ◌≤◌, ◌==◌, filter, length, true};
-ghost use Rattle.ddr_hazards.specs.declared.pending.TheConstants.{RANKS};
+ghost use Rattle.ddr_timing.specs.declared.units.TheConstants.{MOST_RANKS};
 ghost use Rattle.ddr_legality.specs.Bus.{is_legal_now};
 ghost use Rattle.ddr_arbiter.specs.Choice.{first_choice, is_idly_forced, is_overdue, is_rank_forced, is_rank_idle, passes_at, ranks_of, refresh_choice, refresh_choice_at, some_bank_active};
 ghost use Rattle.ddr_arbiter.specs.Commands as commands;
 ghost use Rattle.ddr_arbiter.specs.Forced.{AreForced};
 
 use crate::choice::{Choice, is_something};
-use ddr_hazards::pending::{Pending, RANKS};
+use ddr_hazards::pending::Pending;
 use ddr_legality::legality::Legality;
 use ddr_refresh::debt::Debt;
+use ddr_timing::units::MOST_RANKS;
 use ddr_trace::command::Command;
 use ddr_trace::rule::Rule;
 
 /// Of each rank that there may be, whether it is forced.
-pub(crate) type Forced = [bool; RANKS as usize];
+pub(crate) type Forced = [bool; MOST_RANKS as usize];
 
 /// Which ranks have to be refreshed.
 pub(crate) fn forced_ranks(pending: &Pending, debts: &[Debt]) -> Forced
@@ -66,7 +67,7 @@ pub(crate) fn refresh_choice(
     debts: &[Debt],
     forced: &Forced,
 ) -> Choice
-    requires ranks { length debts.now ≤ RANKS }
+    requires ranks { length debts.now ≤ MOST_RANKS }
     requires forced { AreForced pending.now.waiting debts.now forced.now }
     ensures { result ≡ refresh_choice legality.entry.now.bus pending.now.waiting debts.now }
 {
@@ -83,7 +84,7 @@ pub(crate) fn refresh_choice(
 
 /// The choice for the ranks that owe more than may be put off.
 fn overdue_choice(legality: &Legality, debts: &[Debt]) -> Choice
-    requires { length debts.now ≤ RANKS }
+    requires { length debts.now ≤ MOST_RANKS }
     ensures { result ≡ first_choice (refresh_choice_at legality.entry.now.bus) (filter (is_overdue debts.now) (ranks_of debts.now)) }
 {
     for rank in 0..debts.len() {
@@ -109,7 +110,7 @@ fn is_overdue(debts: &[Debt], rank: usize) -> bool
 
 /// The choice for the other ranks that are forced.
 fn idle_choice(pending: &Pending, legality: &Legality, debts: &[Debt], forced: &Forced) -> Choice
-    requires ranks { length debts.now ≤ RANKS }
+    requires ranks { length debts.now ≤ MOST_RANKS }
     requires forced { AreForced pending.now.waiting debts.now forced.now }
     ensures { result ≡ first_choice (refresh_choice_at legality.entry.now.bus) (filter (is_idly_forced pending.now.waiting debts.now) (ranks_of debts.now)) }
 {

@@ -1,8 +1,6 @@
 //! The ACT or PRE of the oldest candidate that needs one.
 ghost use Rattle.std.specs.Prelude.{◌≡◌, ℕ, ◌<◌, ◌≤◌, if◌then◌else◌, List, All, length, None, Some};
-ghost use Rattle.ddr_timing.specs.declared.units.TheConstants.{GROUP_BANKS};
 ghost use Rattle.ddr_legality.specs.Bus.{Bus};
-ghost use Rattle.ddr_hazards.specs.declared.pending.TheConstants.{RANKS, RANK_GROUPS};
 ghost use Rattle.ddr_hazards.specs.declared.waiting.Waiting.{Waiting};
 ghost use Rattle.ddr_hazards.specs.PendingList.{IsInRank};
 ghost use Rattle.ddr_arbiter.specs.declared.choice.Choice.TheVariants as choice;

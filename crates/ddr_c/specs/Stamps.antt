@@ -1,11 +1,11 @@
 -- Where it is kept when a port's requests were accepted.
 use Rattle.std.specs.Prelude.{ℕ, ◌+◌, ◌*◌, ◌%◌, List, Result, Ok, slice_get, slice_set, unwrap_or}
 use Rattle.std.specs.Option.{option_map_or}
+use Rattle.ddr_timing.specs.declared.units.TheConstants.{MOST_OUTSTANDING}
 use Rattle.ddr_world.specs.declared.event.Outcome.{Outcome}
 use Rattle.ddr_world.specs.declared.event.Outcome.TheVariants.{Accepted}
 use Rattle.ddr_world.specs.declared.event.Refusal.{Refusal}
 use Rattle.ddr_world.specs.State.{State}
-use Rattle.ddr_c.specs.declared.stamps.TheConstants.{MOST_OUTSTANDING}
 
 -- a port's places stand together; numbers that are as many apart as may be outstanding share one
 abbrev pub place_of : ℕ → ℕ → ℕ

@@ -2,12 +2,11 @@
 //!
 //! `host` stands above. A port has a place for each number that may be outstanding at a time, so that none is used twice.
 ghost use Rattle.std.specs.Prelude.{◌≡◌, IfOk, slice_get, slice_set, unwrap_or, replicate, ◌*◌};
+ghost use Rattle.ddr_timing.specs.declared.units.TheConstants.{MOST_OUTSTANDING};
 ghost use Rattle.ddr_c.specs.Stamps.{place_of};
 
+use ddr_timing::units::MOST_OUTSTANDING;
 use std::alloc::{AllocError, Global};
-
-/// The most outstanding requests of a port.
-pub(crate) const MOST_OUTSTANDING: usize = 64;
 
 /// The clocks when the outstanding requests of all ports were accepted.
 #[derive(Drop)]

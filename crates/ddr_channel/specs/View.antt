@@ -1,7 +1,6 @@
 -- What a channel's fields stand for.
 use Rattle.std.specs.Prelude.{◌≡◌, ◌≤◌}
-use Rattle.ddr_timing.specs.declared.units.TheConstants.{CLOCK_STOP}
-use Rattle.ddr_hazards.specs.declared.pending.TheConstants.{RANKS}
+use Rattle.ddr_timing.specs.declared.units.TheConstants.{CLOCK_STOP, MOST_RANKS}
 use Rattle.ddr_channel.specs.declared.channel.Channel.TheInside.{Inside}
 use Rattle.ddr_channel.specs.Choice.{refreshes_of}
 use Rattle.ddr_channel.specs.Kept.{Kept, state_of, AgreesWith}
@@ -31,7 +30,7 @@ pub record IsWhole (a : Inside) : Type 0 where
   pub reads : a.pending.read_limit ≡ a.config.limits.reads
   pub writes : a.pending.write_limit ≡ a.config.limits.writes
   -- the debts have counted the cycles that were made and the REFs that were issued
-  pub debts : a.debts ≡ refreshes_of (state_of (kept_of a)) RANKS
+  pub debts : a.debts ≡ refreshes_of (state_of (kept_of a)) MOST_RANKS
   pub flight_room : a.flight.capacity ≡ a.config.limits.done
   pub done_room : a.done.capacity ≡ a.config.limits.done
   pub agrees : AgreesWith a.config a.legality.bus.trace a.rows

@@ -4,14 +4,13 @@ ghost use Rattle.ddr_arbiter.specs.declared.choice.Choice.TheVariants as choice;
 ghost use Rattle.ddr_arbiter.specs.Quiet.{IsQuietUntil};
 ghost use Rattle.ddr_channel.specs.declared.channel.CycleError.TheVariants.{ClockSpent, OutOfMemory};
 ghost use Rattle.ddr_address_map.specs.declared.request.Kind.TheVariants.{Read, Write};
-ghost use Rattle.ddr_timing.specs.declared.units.TheConstants.{CLOCK_STOP};
+ghost use Rattle.ddr_timing.specs.declared.units.TheConstants.{CLOCK_STOP, MOST_RANKS};
 ghost use Rattle.std.specs.Option.{is_some, option_map};
 ghost use Rattle.ddr_trace.specs.Commands.{is_column};
 ghost use Rattle.ddr_trace.specs.Legality.{IsLegal, IsRefreshed};
 ghost use Rattle.ddr_legality.specs.Bus as bus;
 ghost use Rattle.ddr_refresh.specs.Refreshes.{after_tick};
 ghost use Rattle.ddr_hazards.specs.PendingList.{pending_count};
-ghost use Rattle.ddr_hazards.specs.declared.pending.TheConstants.{RANKS};
 ghost use Rattle.ddr_channel.specs.Choice.{choice_of, policy_of, refreshes_of, situation_of};
 ghost use Rattle.ddr_channel.specs.Cycle.{at_choice, drained, after_cycle};
 ghost use Rattle.ddr_channel.specs.History.{Call, Admit, Cycle, Pop, run};
@@ -35,12 +34,12 @@ use ddr_arbiter::choice::{Choice, choose};
 use ddr_arbiter::commands::command_of;
 use ddr_arbiter::policy::Policy;
 use ddr_arbiter::quiet::{Rest, must_refresh, rest_of};
-use ddr_hazards::pending::{Pending, RANKS};
+use ddr_hazards::pending::Pending;
 use ddr_legality::legality::Legality;
 use ddr_refresh::debt::Debt;
 use ddr_row_array::row_array::RowArray;
 use ddr_timing::config::Config;
-use ddr_timing::units::CLOCK_STOP;
+use ddr_timing::units::{CLOCK_STOP, MOST_RANKS};
 use ddr_trace::command::Entry;
 use ddr_trace::trace::Trace;
 use std::alloc::{AllocError, Global};
@@ -134,7 +133,7 @@ impl Channel {
             config: *config,
             pending: Pending::open(limits.reads, limits.writes),
             drain: false,
-            debts: [Debt::open(config); RANKS as usize],
+            debts: [Debt::open(config); MOST_RANKS as usize],
             flight: HeapCircularBuffer::with_capacity(alloc, limits.done as usize)?,
             done: HeapCircularBuffer::with_capacity(alloc, limits.done as usize)?,
             legality: open_bus(alloc, config, first_cycle, keeps)?,
@@ -176,7 +175,7 @@ impl Channel {
 
     /// What the next cycle does, where the debts were ticked and the drain mode is that cycle's.
     fn choice(&self, debts: &Debts, drain: bool) -> Choice
-        requires debts { debts.now ≡ map after_tick (refreshes_of (state_of self.now) RANKS) }
+        requires debts { debts.now ≡ map after_tick (refreshes_of (state_of self.now) MOST_RANKS) }
         requires mode { drain ≡ (drained (state_of self.now)).drain }
         ensures { result ≡ choice_of (at_choice (state_of self.entry.now)) }
     {
@@ -194,7 +193,7 @@ impl Channel {
     /// A cycle before which the scheduler chooses nothing, and whether a rank has to be refreshed until then, where the debts were
     /// ticked and the drain mode is that of the next cycle.
     fn rest_of_choice(&self, debts: &Debts, drain: bool) -> Rest
-        requires debts { debts.now ≡ map after_tick (refreshes_of (state_of self.now) RANKS) }
+        requires debts { debts.now ≡ map after_tick (refreshes_of (state_of self.now) MOST_RANKS) }
         requires mode { drain ≡ (drained (state_of self.now)).drain }
         ensures { IsQuietUntil result.until (situation_of (at_choice (state_of self.entry.now))) }
     {

@@ -6,12 +6,12 @@ ghost use Rattle.ddr_trace.specs.Commands.{is_refresh, rank_of};
 ghost use Rattle.ddr_refresh.specs.Refreshes.{after_tick, after_ticks, debt_of};
 ghost use Rattle.ddr_channel.specs.Issue.{refreshes_with};
 
-use ddr_hazards::pending::RANKS;
 use ddr_refresh::debt::Debt;
+use ddr_timing::units::MOST_RANKS;
 use ddr_trace::command::Command;
 
 /// A debt for each rank that a channel may have, from rank 0 on.
-pub(crate) type Debts = [Debt; RANKS as usize];
+pub(crate) type Debts = [Debt; MOST_RANKS as usize];
 
 /// Counts a cycle.
 pub(crate) fn tick(debts: &mut Debts)

@@ -1,6 +1,6 @@
 //! A list of pending requests that is filled and emptied, with what it holds told by hand; in `chance` by a plain list.
 ghost use Rattle.std.specs.Prelude.{◌<◌, IfOk};
-ghost use Rattle.ddr_hazards.specs.declared.pending.TheConstants.{RANK_GROUPS};
+ghost use Rattle.ddr_timing.specs.declared.units.TheConstants.{MOST_GROUPS};
 ghost use Rattle.ddr_hazards.specs.PendingList.{IsInRank};
 
 use ddr_address_map::place::Place;
@@ -283,7 +283,7 @@ fn each_line_is_freed_by_its_own_requests(rt: HostRuntime) -> Result<(), Fail> {
 
 /// A read of the first byte of row 0 in bank 0 of a group.
 fn read_of_group(alloc: Global, number: u64, group: u32) -> Result<Req, AllocError>
-    requires { group < RANK_GROUPS }
+    requires { group < MOST_GROUPS }
     ensures { IfOk result (λ r. IsInRank r.place) }
 {
     let place = Place {

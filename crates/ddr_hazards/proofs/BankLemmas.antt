@@ -1,10 +1,9 @@
 -- The slots of a bank stand for the places of its requests.
-use Rattle.std.proofs.Common.{◌≡◌, ℕ, zero, suc, ◌+◌, ◌*◌, ◌<◌, Bool, true, false, ◌&&◌, cond, eqb, List, [], ◌∷◌, map, Option, Some, None, refl, sym, ap, ◌∙◌, inl, inr, arith, length}
+use Rattle.std.proofs.Common.{◌≡◌, ℕ, zero, suc, ◌+◌, ◌*◌, ◌<◌, Bool, true, false, ◌&&◌, cond, eqb, List, [], ◌∷◌, map, Some, None, refl, sym, ap, ◌∙◌, inl, inr, arith}
 use Rattle.std.specs.List.{slice_get, filter, enumerate_from}
 use Rattle.std.specs.Option.{option_map_or}
 use Rattle.std.proofs.lemmas.Bool.{cases_Bool, cond-true, cond-false}
-use Rattle.ddr_timing.specs.declared.units.TheConstants.{GROUP_BANKS}
-use Rattle.ddr_hazards.specs.declared.pending.TheConstants.{RANK_GROUPS}
+use Rattle.ddr_timing.specs.declared.units.TheConstants.{GROUP_BANKS, MOST_GROUPS}
 use Rattle.ddr_hazards.specs.declared.waiting.Waiting.{Waiting}
 use Rattle.ddr_hazards.specs.Banks.{bank_number, is_in_bank, number}
 use Rattle.ddr_hazards.specs.Slots.{is_bank}
@@ -91,7 +90,7 @@ same_all true y z = refl
 same_all false y z = refl
 
 -- the number of a bank tells which it is
-pub number_is : (r g b rank group bank : ℕ) → g < RANK_GROUPS → group < RANK_GROUPS → b < GROUP_BANKS → bank < GROUP_BANKS →
+pub number_is : (r g b rank group bank : ℕ) → g < MOST_GROUPS → group < MOST_GROUPS → b < GROUP_BANKS → bank < GROUP_BANKS →
     eqb (number r g b) (number rank group bank) ≡ (eqb r rank && (eqb g group && eqb b bank))
 number_is r g b rank group bank g_in group_in b_in bank_in =
     same_pair (r * 4 + g) b (rank * 4 + group) bank b_in bank_in ∙ ap (λ x. x && eqb b bank) (same_pair r g rank group g_in group_in)

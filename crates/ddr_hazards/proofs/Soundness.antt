@@ -1,8 +1,8 @@
 -- What the fields keep, and what admission and removal leave of it.
-use Rattle.std.proofs.Common.{◌≡◌, ◌≢◌, ℕ, suc, ◌+◌, ◌*◌, ◌-◌, ◌<◌, ◌≤◌, Bool, true, false, cond, eqb, ltb, List, [], ◌∷◌, ◌++◌, length, map, get_or, set, All, Option, Some, None, refl, sym, ap, ◌∙◌, inl, inr, arith, take, drop, get_or-set_other, get_or-set_same}
+use Rattle.std.proofs.Common.{◌≡◌, ◌≢◌, ℕ, suc, ◌+◌, ◌-◌, ◌<◌, ◌≤◌, Bool, true, false, cond, eqb, ltb, List, [], ◌∷◌, ◌++◌, length, get_or, set, All, Option, Some, None, refl, sym, ap, ◌∙◌, inl, inr, arith, take, drop, get_or-set_other, get_or-set_same}
 use Rattle.std.specs.List.{filter, count_by, position_or_len, remove, slice_get}
 use Rattle.std.specs.Option.{option_map_or}
-use Rattle.std.proofs.lemmas.Bool.{cases_Bool, cond-true, cond-false, leb-false, ltb-true, ltb-false, eqb-true, eq-eqb, and_parts, false≢true}
+use Rattle.std.proofs.lemmas.Bool.{cases_Bool, cond-true, cond-false, leb-false, ltb-true, ltb-false, eqb-true, eq-eqb, false≢true}
 use Rattle.std.proofs.lemmas.List.{length-set, length-append, append-nil}
 use Rattle.std.proofs.lemmas.List.Elements.{All-append, All-take, All-drop, All-push, All-filter, filter-append}
 use Rattle.std.proofs.lemmas.List.Sums.{length-filter, count_by-le-length}
@@ -14,10 +14,9 @@ use Rattle.ddr_address_map.specs.declared.request.Kind.TheVariants.{Read, Write}
 use Rattle.ddr_hazards.specs.declared.banks.TheConstants.{BANKS}
 use Rattle.ddr_hazards.specs.declared.counts.Counts.{Counts}
 use Rattle.ddr_hazards.specs.declared.pending.Pending.TheInside.{Inside}
-use Rattle.ddr_hazards.specs.declared.pending.TheConstants.{KIND_CAPACITY, RANK_GROUPS}
 use Rattle.ddr_hazards.specs.declared.slots.TheConstants.{CAPACITY}
 use Rattle.ddr_hazards.specs.declared.waiting.Waiting.{Waiting}
-use Rattle.ddr_timing.specs.declared.units.TheConstants.{GROUP_BANKS}
+use Rattle.ddr_timing.specs.declared.units.TheConstants.{GROUP_BANKS, MOST_GROUPS}
 use Rattle.ddr_hazards.specs.Banks.{bank_number, bank_slots, in_bank, number, with_slots}
 use Rattle.ddr_hazards.specs.Counts.{count_of, one_of}
 use Rattle.ddr_hazards.specs.Hazards.{hazard_count, is_same_line}
@@ -29,7 +28,7 @@ use Rattle.ddr_hazards.proofs.CountLemmas.{one_of-same, both_kinds, pending_coun
 use Rattle.ddr_hazards.proofs.HazardLemmas.{hazard_count-front, hazard_count-last, hazard_count-remove_below, hazard_count-remove_from, get_or-count_less, slice_get-front, slice_get-last}
 use Rattle.ddr_hazards.proofs.Lines.{same_line, same_line-comm, SameLine}
 use Rattle.ddr_hazards.proofs.Order.{taken_apart, stands}
-use Rattle.ddr_hazards.proofs.SlotLemmas.{Holds, held_at, none_held, filter-same, filter-remove_out, without, Without, slice_get-remove_below, slice_get-remove_from, count_behind, count_before, count-filter, count-within, count-held, length-held, length-holds}
+use Rattle.ddr_hazards.proofs.SlotLemmas.{Holds, held_at, filter-same, filter-remove_out, without, slice_get-remove_below, slice_get-remove_from, count_behind, count_before, count-filter, count-within, count-held, length-held, length-holds}
 
 pub within_limits : (a : Inside) → IsSound a → IsWithinLimits (pending_list a)
 within_limits a sound =
@@ -416,7 +415,7 @@ IsSound-remove a b place w slot mine r is counts =
       in_rank = rw r.held (in_rank-remove ws place sound.in_rank);
     }
 
-numbers : (a : Inside) (rank group bank : ℕ) → IsSound a → group < RANK_GROUPS → bank < GROUP_BANKS → Numbers rank group bank (number rank group bank) (in_slots a.slots)
+numbers : (a : Inside) (rank group bank : ℕ) → IsSound a → group < MOST_GROUPS → bank < GROUP_BANKS → Numbers rank group bank (number rank group bank) (in_slots a.slots)
 numbers a rank group bank sound inside below = λ i w there.
     let within = slice_get_within (in_slots a.slots) i w there in
     let in_rank : IsInRank w.request.place = rw (get_or_from_slice_get (in_slots a.slots) i w w there) at (sound.in_rank i w within) in
@@ -427,7 +426,7 @@ pub record Found (a : Inside) (rank group bank k s : ℕ) : Type 0 where
   pub slot : s < CAPACITY
   pub place : Some (get_or a.slots.places s 0) ≡ in_bank rank group bank k (in_slots a.slots)
 
-pub found : (a : Inside) (rank group bank k slot : ℕ) → IsSound a → group < RANK_GROUPS → bank < GROUP_BANKS → number rank group bank < BANKS →
+pub found : (a : Inside) (rank group bank k slot : ℕ) → IsSound a → group < MOST_GROUPS → bank < GROUP_BANKS → number rank group bank < BANKS →
     slice_get (bank_slots a.banks.lists (number rank group bank)) k ≡ Some slot → Found a rank group bank k slot
 found a rank group bank k slot sound mid low below there =
     let nth = number rank group bank in
@@ -440,7 +439,7 @@ found a rank group bank k slot sound mid low below there =
       place = ap Some e ∙ sym at_place.2;
     }
 
-pub not_found : (a : Inside) (rank group bank k : ℕ) → IsSound a → group < RANK_GROUPS → bank < GROUP_BANKS → number rank group bank < BANKS →
+pub not_found : (a : Inside) (rank group bank k : ℕ) → IsSound a → group < MOST_GROUPS → bank < GROUP_BANKS → number rank group bank < BANKS →
     slice_get (bank_slots a.banks.lists (number rank group bank)) k ≡ None → in_bank rank group bank k (in_slots a.slots) ≡ None
 not_found a rank group bank k sound mid low below none =
     let nth = number rank group bank in

@@ -2,9 +2,8 @@
 use Rattle.std.specs.Prelude.{ℕ, ◌+◌, ◌*◌, Bool, ◌&&◌, ◌==◌, List, [], map, slice_get, slice_index_or, slice_set, Option}
 use Rattle.std.specs.List.{enumerate_from, filter}
 use Rattle.arrayvec.specs.ArrayVec.{ArrayVec}
-use Rattle.ddr_timing.specs.declared.units.TheConstants.{GROUP_BANKS}
+use Rattle.ddr_timing.specs.declared.units.TheConstants.{GROUP_BANKS, MOST_GROUPS}
 use Rattle.ddr_address_map.specs.declared.place.Place.{Place}
-use Rattle.ddr_hazards.specs.declared.pending.TheConstants.{RANK_GROUPS}
 use Rattle.ddr_hazards.specs.declared.waiting.Waiting.{Waiting}
 
 -- the request is to this bank of this group and rank
@@ -21,7 +20,7 @@ in_bank rank group bank k waiting = slice_get (bank_places rank group bank waiti
 
 -- the number of a bank among those of all ranks
 abbrev pub number : ℕ → ℕ → ℕ → ℕ
-number rank group bank = (rank * RANK_GROUPS + group) * GROUP_BANKS + bank
+number rank group bank = (rank * MOST_GROUPS + group) * GROUP_BANKS + bank
 
 abbrev pub bank_number : Place → ℕ
 bank_number p = number p.rank p.group p.bank

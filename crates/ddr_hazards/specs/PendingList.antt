@@ -2,12 +2,12 @@
 use Rattle.std.specs.Prelude.{◌≡◌, ℕ, ◌+◌, ◌<◌, ◌≤◌, Bool, true, false, nat_le, List, [], ◌∷◌, ◌++◌, length, count_by, slice_get, remove, All, Option}
 use Rattle.std.specs.Option.{option_map}
 use Rattle.std.specs.Borrow.{Bor}
-use Rattle.ddr_timing.specs.declared.units.TheConstants.{GROUP_BANKS}
+use Rattle.ddr_timing.specs.declared.units.TheConstants.{GROUP_BANKS, MOST_GROUPS, MOST_RANKS}
 use Rattle.ddr_address_map.specs.declared.place.Place.{Place}
 use Rattle.ddr_address_map.specs.declared.request.Kind.{Kind}
 use Rattle.ddr_address_map.specs.declared.request.Kind.TheVariants.{Read, Write}
 use Rattle.ddr_address_map.specs.Requests.{Request}
-use Rattle.ddr_hazards.specs.declared.pending.TheConstants.{KIND_CAPACITY, RANKS, RANK_GROUPS}
+use Rattle.ddr_hazards.specs.declared.pending.TheConstants.{KIND_CAPACITY}
 use Rattle.ddr_hazards.specs.declared.waiting.Waiting.{Waiting}
 
 pub record PendingList : Type 0 where
@@ -57,7 +57,7 @@ waiting_of lent = record { request = lent.0.now; admitted = lent.1 }
 
 -- the rank is one that a channel may have, and the group and the bank of the place lie in it
 abbrev pub IsInRank : Place → Type 0
-IsInRank place = (place.group < RANK_GROUPS) × (place.bank < GROUP_BANKS) × (place.rank < RANKS)
+IsInRank place = (place.group < MOST_GROUPS) × (place.bank < GROUP_BANKS) × (place.rank < MOST_RANKS)
 
 -- what holds of every list of pending requests
 pub record IsWithinLimits (p : PendingList) : Type 0 where

@@ -1,20 +1,18 @@
 //! The requests of each bank.
 ghost use Rattle.std.specs.Prelude.{◌≡◌, ℕ, ◌+◌, ◌<◌, ◌≤◌, ◌∷◌, ◌++◌, [], length, drop, slice_get, remove};
-ghost use Rattle.ddr_timing.specs.declared.units.TheConstants.{GROUP_BANKS};
+ghost use Rattle.ddr_timing.specs.declared.units.TheConstants.{GROUP_BANKS, MOST_GROUPS};
 ghost use Rattle.ddr_hazards.specs.declared.banks.TheConstants.{BANKS};
-ghost use Rattle.ddr_hazards.specs.declared.pending.TheConstants.{RANK_GROUPS};
 ghost use Rattle.ddr_hazards.specs.declared.slots.TheConstants.{CAPACITY};
 ghost use Rattle.ddr_hazards.specs.Banks.{bank_number, bank_slots, number, with_slots};
 
-use crate::pending::{RANK_GROUPS, RANKS};
 use crate::slots::CAPACITY;
 use arrayvec::ArrayVec;
 use ddr_address_map::place::Place;
 use ddr_timing::bank::BankId;
-use ddr_timing::units::GROUP_BANKS;
+use ddr_timing::units::{GROUP_BANKS, MOST_GROUPS, MOST_RANKS};
 
 /// The banks of all ranks.
-const BANKS: usize = (RANKS * RANK_GROUPS * GROUP_BANKS) as usize;
+const BANKS: usize = (MOST_RANKS * MOST_GROUPS * GROUP_BANKS) as usize;
 
 /// Of each bank, the slots of its requests, the oldest first.
 #[derive(Drop)]

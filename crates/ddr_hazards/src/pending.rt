@@ -2,9 +2,9 @@
 //! admitted, and counted down when one of them is removed.
 ghost use Rattle.std.specs.Prelude.{◌≡◌, ◌<◌, ◌≤◌, ◌↔◌, [], length, nat_lt, slice_get, IsTrue, IsErr, IfErr, OnOk};
 ghost use Rattle.std.specs.Option.{option_map};
-ghost use Rattle.ddr_timing.specs.declared.units.TheConstants.{GROUP_BANKS};
+ghost use Rattle.ddr_timing.specs.declared.units.TheConstants.{GROUP_BANKS, MOST_GROUPS, MOST_RANKS};
 ghost use Rattle.ddr_address_map.specs.declared.request.Kind.TheVariants.{Read, Write};
-ghost use Rattle.ddr_hazards.specs.declared.pending.TheConstants.{KIND_CAPACITY, RANKS, RANK_GROUPS};
+ghost use Rattle.ddr_hazards.specs.declared.pending.TheConstants.{KIND_CAPACITY};
 ghost use Rattle.ddr_hazards.specs.Banks.{in_bank};
 ghost use Rattle.ddr_hazards.specs.PendingList.{opened, pending_count, is_full, after_admit, request_at, after_remove, waiting_of, IsInRank, IsWithinLimits};
 ghost use Rattle.ddr_hazards.specs.Hazards.{hazard_count, is_blocked};
@@ -19,12 +19,6 @@ use std::marker::Model;
 
 /// The most requests of one kind that a list may hold: this project's choice.
 pub const KIND_CAPACITY: u32 = 32;
-
-/// The most ranks of a channel: this project's choice.
-pub const RANKS: u32 = 2;
-
-/// The most bank groups of a rank (JESD79-4, the x8 organisation).
-pub const RANK_GROUPS: u32 = 4;
 
 /// The pending requests of a channel, the oldest first: a read queue and a write queue whose requests stand
 /// in one list.
@@ -191,8 +185,8 @@ impl Pending {
 
     /// The place of the `k`-th oldest request of a bank, `k` from 0. `None` exactly where the bank has fewer.
     pub fn in_bank(&self, rank: u32, group: u32, bank: u32, k: usize) -> Option<usize>
-        requires rank_in { rank < RANKS }
-        requires group_in { group < RANK_GROUPS }
+        requires rank_in { rank < MOST_RANKS }
+        requires group_in { group < MOST_GROUPS }
         requires bank_in { bank < GROUP_BANKS }
         ensures { result ≡ in_bank rank group bank k self.now.waiting }
     {

@@ -3,8 +3,7 @@
 //!
 //! It has no rows and no bytes. It keeps how many REFs were issued, and reckons each debt from the first cycle on.
 ghost use Rattle.std.specs.Prelude.{◌≤◌, length};
-ghost use Rattle.ddr_timing.specs.declared.units.TheConstants.{CLOCK_STOP};
-ghost use Rattle.ddr_hazards.specs.declared.pending.TheConstants.{RANKS};
+ghost use Rattle.ddr_timing.specs.declared.units.TheConstants.{CLOCK_STOP, MOST_RANKS};
 
 use crate::admitted::are_admitted;
 use crate::scheduler::{is_rank_active, is_rank_forced, must_refresh, quiet_until, still_until};
@@ -13,11 +12,11 @@ use ddr_address_map::request::{Echo, Kind, Req};
 use ddr_arbiter::choice::{Choice, choose};
 use ddr_arbiter::commands::command_of;
 use ddr_arbiter::policy::Policy;
-use ddr_hazards::pending::{Pending, RANK_GROUPS, RANKS};
+use ddr_hazards::pending::Pending;
 use ddr_legality::legality::Legality;
 use ddr_refresh::debt::Debt;
 use ddr_timing::config::Config;
-use ddr_timing::units::{BURST_CLOCKS, CLOCK_STOP, GROUP_BANKS};
+use ddr_timing::units::{BURST_CLOCKS, CLOCK_STOP, GROUP_BANKS, MOST_GROUPS, MOST_RANKS};
 use ddr_trace::command::{Command, Entry};
 use std::alloc::{AllocError, Global};
 
@@ -31,7 +30,7 @@ pub struct OldChannel {
     /// Whether writes were drained in the cycle before.
     drain: bool,
     /// Of each rank, how many REFs were issued.
-    refreshed: [u32; RANKS as usize],
+    refreshed: [u32; MOST_RANKS as usize],
     /// The cycles in which the requests in flight are due, the oldest first.
     flight: Vec<u64>,
     /// How many are done and not taken.
@@ -54,7 +53,7 @@ impl OldChannel {
             config: *config,
             pending: Pending::open(limits.reads, limits.writes),
             drain: false,
-            refreshed: [0; RANKS as usize],
+            refreshed: [0; MOST_RANKS as usize],
             flight: Vec::new(alloc),
             done: 0,
             legality: Legality::open(alloc, config, first_cycle)?,
@@ -65,7 +64,7 @@ impl OldChannel {
 
     /// Takes a request to a line. Whether its queue had a free place.
     pub fn admit(&mut self, kind: Kind, place: Place) -> Option<bool> {
-        if place.rank >= RANKS || place.group >= RANK_GROUPS || place.bank >= GROUP_BANKS {
+        if place.rank >= MOST_RANKS || place.group >= MOST_GROUPS || place.bank >= GROUP_BANKS {
             return None;
         }
         let now = self.legality.now();
@@ -123,7 +122,7 @@ impl OldChannel {
     }
 
     /// What each rank that there may be owes in the next cycle.
-    fn debts(&self) -> [Debt; RANKS as usize] {
+    fn debts(&self) -> [Debt; MOST_RANKS as usize] {
         [self.debt(self.refreshed[0]), self.debt(self.refreshed[1])]
     }
 
@@ -336,8 +335,8 @@ impl OldChannel {
 }
 
 /// The debts of so many ranks.
-fn of_ranks(debts: &[Debt; RANKS as usize], ranks: u32) -> &[Debt]
-    ensures { length result.now ≤ RANKS }
+fn of_ranks(debts: &[Debt; MOST_RANKS as usize], ranks: u32) -> &[Debt]
+    ensures { length result.now ≤ MOST_RANKS }
 {
     if ranks == 1 { &debts[..1] } else { &debts[..] }
 }

@@ -6,24 +6,24 @@
 use ddr_address_map::place::Place;
 use ddr_address_map::request::Kind;
 use ddr_arbiter::policy::Policy;
-use ddr_hazards::pending::{Pending, RANK_GROUPS, RANKS};
+use ddr_hazards::pending::Pending;
 use ddr_legality::legality::Legality;
 use ddr_refresh::debt::Debt;
 use ddr_timing::bank::BankId;
-use ddr_timing::units::GROUP_BANKS;
+use ddr_timing::units::{GROUP_BANKS, MOST_GROUPS, MOST_RANKS};
 use ddr_trace::command::Command;
 
 /// A cycle that no clock reaches.
 const NEVER: u64 = u64::MAX;
 
 /// The banks that a channel may have.
-const BANKS: usize = (RANKS * RANK_GROUPS * GROUP_BANKS) as usize;
+const BANKS: usize = (MOST_RANKS * MOST_GROUPS * GROUP_BANKS) as usize;
 
 /// Of each bank that a channel may have, whether it was asked until when nothing can be chosen for its candidates.
 type Asked = [bool; BANKS];
 
 /// Of each rank that there may be, whether it is forced.
-type Forced = [bool; RANKS as usize];
+type Forced = [bool; MOST_RANKS as usize];
 
 /// Which of the pending requests are candidates, told without a list of them: of the `count` oldest those of the kind,
 /// with no older one to their line, of ranks that are not forced.
@@ -111,7 +111,7 @@ fn refresh_until(legality: &Legality, rank: u32) -> u64 {
 
 /// Whether a bank of the rank has a row open in the next cycle.
 pub fn is_rank_active(legality: &Legality, rank: u32) -> bool {
-    for group in 0..RANK_GROUPS {
+    for group in 0..MOST_GROUPS {
         if is_group_active(legality, rank, group) {
             return true;
         }
@@ -376,7 +376,7 @@ fn is_wanted(pending: &Pending, candidates: &Served, at: Place, row: u32) -> boo
 
 /// The place of the `k`-th oldest request of the bank.
 fn in_bank(pending: &Pending, at: Place, k: usize) -> Option<usize> {
-    if at.rank >= RANKS || at.group >= RANK_GROUPS || at.bank >= GROUP_BANKS {
+    if at.rank >= MOST_RANKS || at.group >= MOST_GROUPS || at.bank >= GROUP_BANKS {
         return None;
     }
     pending.in_bank(at.rank, at.group, at.bank, k)

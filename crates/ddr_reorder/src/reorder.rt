@@ -2,6 +2,7 @@
 ghost use Rattle.std.specs.Prelude.{◌≡◌, ◌+◌, ◌≤◌, IfSome, is_ok, IfErr, IfOk, OnErr, OnOk, OnSome, IfNone, length};
 ghost use Rattle.std.specs.Option.{option_map};
 ghost use Rattle.std.specs.Result.{result_err};
+ghost use Rattle.ddr_timing.specs.declared.units.TheConstants.{MOST_OUTSTANDING};
 ghost use Rattle.ddr_reorder.specs.Replies.{front_number, lent_count, lent_service, nth_answer, nth_service, ready_count, said, served_answer, served_service};
 ghost use Rattle.ddr_reorder.specs.Sound.{IsSound};
 ghost use Rattle.ddr_reorder.specs.State.{ReorderState, IsWithinLine, opened, issue_refusal, after_issue, IsRecallable, after_recall, awaits, after_fill, after_release};
@@ -14,9 +15,6 @@ use ddr_address_map::request::{Echo, Line};
 use ddr_timing::units::{CLOCK_STOP, LINE_BYTES};
 use std::alloc::{AllocError, Global};
 use std::marker::Model;
-
-/// The widest window, in numbers: this project's choice.
-pub const WIDEST_WINDOW: usize = 64;
 
 /// The outstanding numbers of one port, each from its `issue` to its `release`.
 ///
@@ -49,7 +47,7 @@ impl Reorder {
     /// A reorder buffer with nothing outstanding, whose first number is `first`. `window` is the most
     /// numbers that may be outstanding at a time. Fails only where memory is refused.
     pub fn open(alloc: Global, window: usize, first: u64) -> Result<Reorder, AllocError>
-        requires window { (1 ≤ window) × (window ≤ WIDEST_WINDOW) }
+        requires window { (1 ≤ window) × (window ≤ MOST_OUTSTANDING) }
         requires first { first ≤ CLOCK_STOP }
         ensures state { IfOk result (λ r. r ≡ opened window first) }
         ensures sound { IfOk result IsSound }

@@ -1,11 +1,12 @@
 -- When a replay ends though requests are left: no refresh interval leaves time to serve one.
 use Rattle.std.specs.Prelude.{◌≡◌, ℕ, ◌*◌, ◌-◌, ◌<◌, ◌≤◌, false, Bool, List, Result, Ok}
 use Rattle.ddr_timing.specs.declared.config.Config.{Config}
+use Rattle.ddr_timing.specs.declared.units.TheConstants.{STUCK_INTERVALS}
 use Rattle.ddr_latency.specs.Latency.{leaves_time}
 use Rattle.ddr_text.specs.declared.fault.Fault.{Fault}
 use Rattle.ddr_rounds.specs.Rounds.{outstanding}
 use Rattle.ddr_stream.specs.Stream.{Queues}
-use Rattle.ddr_replay.specs.declared.replaying.TheConstants.{MOST_ROUNDS, STUCK_INTERVALS}
+use Rattle.ddr_replay.specs.declared.replaying.TheConstants.{MOST_ROUNDS}
 use Rattle.ddr_replay.specs.Runs.{Run, begun, replayed}
 use Rattle.ddr_replay.specs.Taken.{taken_of}
 use Rattle.ddr_replay.specs.declared.taken.Taking.{Taking}

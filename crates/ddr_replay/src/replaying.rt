@@ -1,6 +1,7 @@
 //! The core, and the requests that are still to be submitted: a replay from its first round to its last.
 //!
-//! `submitting`, `ddr_stream`, `books`, `ledger`, `activity`, `teller`, `watch`, `ddr_rounds` and `ddr_world` stand below, and `replay` above.
+//! `submitting`, `ddr_stream`, `books`, `ledger`, `activity`, `teller`, `watch`, `ddr_rounds` and `ddr_world` stand below, and `replay`
+//! above.
 ghost use Rattle.std.specs.Io.KnownBytes.{Appends};
 ghost use Rattle.std.specs.Prelude.{◌≡◌, [], ◌≢◌, ◌==◌, ◌⊎◌, ℕ, ◌+◌, ◌-◌, ◌<◌, ◌≤◌, false, true, IfErr, IfOk, IfSome, IsErrOf, IsOk, IsTrue, OnOk, Option, Result, Some, Ok};
 ghost use Rattle.ddr_counting.specs.Noting.{AreNoted};
@@ -47,6 +48,7 @@ use ddr_text::fault::Fault;
 use ddr_text::sink::Sink;
 use ddr_text::source::Source;
 use ddr_timing::config::Config;
+use ddr_timing::units::STUCK_INTERVALS;
 use ddr_world::event::Refusal;
 use ddr_world::world::World;
 use std::alloc::{AllocError, Global};
@@ -54,9 +56,6 @@ use std::marker::Model;
 
 /// The most rounds of a replay, this project's choice.
 pub const MOST_ROUNDS: u32 = u32::MAX;
-
-/// How many refresh intervals requests may wait without any being accepted or served, where an interval leaves no time to serve one.
-pub const STUCK_INTERVALS: u64 = 64;
 
 /// In how many turns a watcher is told once: a turn is a round, or some quiet ones that are made at once.
 const TOLD_EVERY: u32 = 4096;
@@ -171,8 +170,8 @@ impl Replaying {
         }
     }
 
-    /// By which fault a replay ends whose rounds ended by this one: where that is one of the run, by that of the first line that is left and
-    /// at fault, if there is one.
+    /// By which fault a replay ends whose rounds ended by this one: where that is one of the run, by that of the first line that is left
+    /// and at fault, if there is one.
     fn first_fault<R: Source>(&mut self, fault: Fault, reader: &mut R) -> Fault
         requires { IsReplayFault fault }
         ensures ended { (config : Config) (left : ℕ) (old : Replay) (all : Option (Result All Fault)) → IsStopped config left old fault all (all_in self.old.stream (R.remaining reader.old)) → IsEnded config left old result all }

@@ -9,6 +9,7 @@ ghost use Rattle.ddr_run.specs.Started.{comes_from_start};
 use ddr_latency::clocks::leaves_time;
 use ddr_text::fault::Fault;
 use ddr_timing::config::Config;
+use ddr_timing::units::STUCK_INTERVALS;
 use ddr_workers::OpenError;
 use ddr_workers::gate::{Gate, Turn};
 use std::alloc::{AllocError, AllocFailed};
@@ -18,10 +19,6 @@ use std::thread;
 
 /// How many turns a worker makes before it lets other threads go on.
 const TURNS_AT_A_TIME: u64 = 64;
-
-/// How many refresh intervals the requests of a channel may wait without any being served, where an interval leaves no time to serve
-/// one.
-const STUCK_INTERVALS: u64 = 64;
 
 /// How often a thread that has begun looks for the others before it lets other threads go on.
 const LOOKS: u64 = 100_000;

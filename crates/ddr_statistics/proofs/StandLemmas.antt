@@ -2,7 +2,7 @@
 use Rattle.std.proofs.Common.{◌≡◌, ◌≢◌, ℕ, ◌+◌, ◌*◌, ◌<◌, Bool, true, false, ◌&&◌, ◌==◌, if◌then◌else◌, List, [], ◌∷◌, ◌++◌, length, Option, Some, None, slice_index_or, slice_set, get_or-set_same, get_or-set_other, replicate, refl, sym, subst, ap, arith, ◌∙◌}
 use Rattle.std.proofs.lemmas.Bool.Decides.{nat_tests}
 use Rattle.std.proofs.lemmas.List.{get_or-map, get_or-replicate, get_or_default, length-map, length-replicate, length-set}
-use Rattle.ddr_timing.specs.declared.units.TheConstants.{CLOCK_STOP, GROUP_BANKS, MOST_GROUPS}
+use Rattle.ddr_timing.specs.declared.units.TheConstants.{CLOCK_STOP, GROUP_BANKS, MOST_GROUPS, MOST_RANKS}
 use Rattle.ddr_trace.specs.declared.command.Command.{Command}
 use Rattle.ddr_trace.specs.declared.command.Command.TheVariants.{Act, Rd, Wr, RdAuto, WrAuto, Pre, PreAll, Refresh}
 use Rattle.ddr_trace.specs.declared.command.Entry.{Entry}
@@ -14,7 +14,6 @@ use Rattle.ddr_statistics.specs.declared.counts.Finding.{Finding}
 use Rattle.ddr_statistics.specs.declared.debt.Debt.{Debt}
 use Rattle.ddr_statistics.specs.declared.rank.Rank.{Rank}
 use Rattle.ddr_statistics.specs.declared.rank.TheConstants.{MOST_BANKS}
-use Rattle.ddr_statistics.specs.declared.statistics.TheConstants.{MOST_RANKS}
 use Rattle.ddr_statistics.specs.declared.turns.Turns.{Turns}
 use Rattle.ddr_statistics.specs.Counts.{count_behind, counts_of, is_any, is_of_one, is_of_one_bank, is_of_rank, kind_count}
 use Rattle.ddr_statistics.specs.Noted.{background_noted, bank_closed, bank_noted, banks_noted, counts_noted, debt_noted, found_in, new_background, new_bank, new_rank, one_noted, no_counts, no_debt, no_turns, rank_noted, turns_noted}

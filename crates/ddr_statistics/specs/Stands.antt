@@ -3,7 +3,7 @@ use Rattle.std.specs.Prelude.{◌≡◌, ℕ, ◌-◌, ◌*◌, ◌+◌, ◌^◌
 use Rattle.std.specs.List.{AllByRecursion}
 use Rattle.ddr_timing.specs.declared.geometry.Geometry.{Geometry}
 use Rattle.ddr_timing.specs.declared.timing.Timing.{Timing}
-use Rattle.ddr_timing.specs.declared.units.TheConstants.{GROUP_BANKS, MOST_GROUPS}
+use Rattle.ddr_timing.specs.declared.units.TheConstants.{GROUP_BANKS, MOST_GROUPS, MOST_RANKS}
 use Rattle.ddr_trace.specs.declared.bank.OpenBank.{OpenBank}
 use Rattle.ddr_trace.specs.declared.command.Command.{Command}
 use Rattle.ddr_trace.specs.declared.command.Command.TheVariants.{Pre}
@@ -17,7 +17,6 @@ use Rattle.ddr_statistics.specs.declared.counts.Finding.{Finding}
 use Rattle.ddr_statistics.specs.declared.debt.Debt.{Debt}
 use Rattle.ddr_statistics.specs.declared.rank.Rank.{Rank}
 use Rattle.ddr_statistics.specs.declared.rank.TheConstants.{MOST_BANKS}
-use Rattle.ddr_statistics.specs.declared.statistics.TheConstants.{MOST_RANKS}
 use Rattle.ddr_statistics.specs.declared.turns.Turns.{Turns}
 use Rattle.ddr_statistics.specs.Background.{active_clocks, is_within_refresh, refresh_clocks}
 use Rattle.ddr_statistics.specs.Counts.{counts_of, is_any, is_of_one, is_of_rank}

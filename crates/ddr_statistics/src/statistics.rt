@@ -23,11 +23,9 @@ use ddr_timing::bank::BankId;
 use ddr_timing::config::Config;
 use ddr_timing::geometry::Geometry;
 use ddr_timing::timing::Timing;
+use ddr_timing::units::MOST_RANKS;
 use ddr_trace::command::{Command, Entry};
 use std::marker::Model;
-
-/// The most ranks of a channel.
-pub const MOST_RANKS: usize = 2;
 
 /// The statistics of a trace. Contracts speak of every history that it stands for: the commands that were noted, in order.
 ///
@@ -39,9 +37,9 @@ pub struct Statistics {
     timing: Timing,
     start: u64,
     total: Counts,
-    ranks: [Rank; MOST_RANKS],
-    debts: [Debt; MOST_RANKS],
-    backgrounds: [Background; MOST_RANKS],
+    ranks: [Rank; MOST_RANKS as usize],
+    debts: [Debt; MOST_RANKS as usize],
+    backgrounds: [Background; MOST_RANKS as usize],
     turns: Turns,
 }
 
@@ -68,9 +66,9 @@ impl Statistics {
             timing: config.timing,
             start,
             total: Counts::NONE,
-            ranks: [Rank::NEW; MOST_RANKS],
-            debts: [Debt::NONE; MOST_RANKS],
-            backgrounds: [Background::open(start); MOST_RANKS],
+            ranks: [Rank::NEW; MOST_RANKS as usize],
+            debts: [Debt::NONE; MOST_RANKS as usize],
+            backgrounds: [Background::open(start); MOST_RANKS as usize],
             turns: Turns::NONE,
         }
     }

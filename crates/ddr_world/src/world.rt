@@ -1,8 +1,8 @@
 //! The core: its ports and channels, and one event after another.
 ghost use Rattle.std.specs.Prelude.{◌≡◌, ◌+◌, ◌<◌, ◌≤◌, ◌↔◌, true, false, length, map, replicate, List, [], ◌∷◌, ◌++◌, slice_get, All, IfErr, IfOk, IfSome, IsOk, IsTrue, Some};
-ghost use Rattle.std.specs.List.{list_any, range_with_len};
+ghost use Rattle.std.specs.List.{range_with_len};
 ghost use Rattle.std.specs.Option.{option_copied, option_map};
-ghost use Rattle.ddr_timing.specs.declared.units.TheConstants.{CLOCK_STOP};
+ghost use Rattle.ddr_timing.specs.declared.units.TheConstants.{CLOCK_STOP, MOST_CHANNELS, MOST_PORTS};
 ghost use Rattle.ddr_reorder.specs.Replies.{lent_service, said};
 ghost use Rattle.ddr_ports.specs.Asked.{asked_of};
 ghost use Rattle.ddr_channel.specs.Kept as channel_kept;
@@ -29,16 +29,10 @@ use ddr_channel::issued::Issued;
 use ddr_ports::request::Request;
 use ddr_reorder::reply::Reply;
 use ddr_timing::config::Config;
-use ddr_timing::units::CLOCK_STOP;
+use ddr_timing::units::{CLOCK_STOP, MOST_CHANNELS, MOST_PORTS};
 use ddr_trace::trace::Trace;
 use std::alloc::{AllocError, Global};
 use std::marker::Model;
-
-/// The most ports of a configuration.
-pub const MOST_PORTS: usize = 8;
-
-/// The most channels of a configuration.
-pub const MOST_CHANNELS: usize = 4;
 
 /// The core of the controller. Contracts see the state that it is in.
 #[derive(Drop)]

@@ -5,7 +5,7 @@
 //! ranks owe, the marks of the age cap, the drain of writes and the room are by chance too. `quiet` asks in such states until
 //! when nothing is chosen.
 ghost use Rattle.std.specs.Prelude.{◌≤◌, length};
-ghost use Rattle.ddr_hazards.specs.declared.pending.TheConstants.{RANKS};
+ghost use Rattle.ddr_timing.specs.declared.units.TheConstants.{MOST_RANKS};
 
 use super::ranks::debt_in;
 use super::reference::{Situation, Waiting, choice_of, column_of};
@@ -287,7 +287,7 @@ impl Run {
 
     /// What the scheduler chooses with these debts of the ranks.
     fn chosen_with(&self, mood: &Mood, debts: &[Debt]) -> Result<Choice, Fail>
-        requires { length debts.now ≤ RANKS }
+        requires { length debts.now ≤ MOST_RANKS }
     {
         if !are_admitted(&self.pending, self.bus.now()) {
             return Err("admitted in a later cycle".into());

@@ -4,7 +4,7 @@
 //! A question adds to a mood how long ago the last refresh fell due; and its cap lies about the age of the oldest request, so
 //! that each of what ends a quiet time is met on both of its sides.
 ghost use Rattle.std.specs.Prelude.{◌≤◌, length};
-ghost use Rattle.ddr_hazards.specs.declared.pending.TheConstants.{RANKS};
+ghost use Rattle.ddr_timing.specs.declared.units.TheConstants.{MOST_RANKS};
 
 use super::*;
 use ddr_arbiter::quiet::{Rest, must_refresh, quiet_until, rest_of, still_until};
@@ -101,7 +101,7 @@ impl Run {
 
     /// What the scheduler tells.
     fn told_with(&self, mood: &Mood, debts: &[Debt]) -> Result<Told, Fail>
-        requires { length debts.now ≤ RANKS }
+        requires { length debts.now ≤ MOST_RANKS }
     {
         let Mood {
             owed: _,

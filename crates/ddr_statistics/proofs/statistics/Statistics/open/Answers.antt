@@ -1,7 +1,7 @@
 -- No command has come.
 use Rattle.std.proofs.Common.{ap, refl, replicate}
+use Rattle.ddr_timing.specs.declared.units.TheConstants.{MOST_RANKS}
 use Rattle.ddr_statistics.specs.declared.background.Background.{Background}
-use Rattle.ddr_statistics.specs.declared.statistics.TheConstants.{MOST_RANKS}
 use Rattle.ddr_statistics.proofs.StandLemmas.{stands_new}
 use Rattle.ddr_statistics.proofs.statistics.Statistics.open.Goals as goal
 
