@@ -8,5 +8,3 @@
 pub mod fault;
 pub mod judge;
 mod lane;
-#[cfg(test)]
-mod tests;

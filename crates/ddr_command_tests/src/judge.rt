@@ -2,8 +2,8 @@
 ghost use Rattle.std.specs.Prelude.{◌≡◌, ◌<◌};
 ghost use Rattle.ddr_judge.specs.Judged.{channels_of};
 
-use crate::fault::Fault;
-use crate::judge::Judge;
+use ddr_judge::fault::Fault;
+use ddr_judge::judge::Judge;
 use ddr_timing::config::Config;
 use ddr_timing::profile::PROFILE_S;
 use ddr_trace::command::{Command, Entry};

@@ -1,7 +1,7 @@
 //! Statistics of small traces, whose numbers are counted by hand.
-use crate::counts::Counts;
-use crate::statistics::Statistics;
-use crate::text::{counts_text, is_unused};
+use ddr_statistics::counts::Counts;
+use ddr_statistics::statistics::Statistics;
+use ddr_statistics::text::{counts_text, is_unused};
 use ddr_timing::bank::BankId;
 use ddr_timing::config::Config;
 use ddr_timing::profile::PROFILE_S2;
