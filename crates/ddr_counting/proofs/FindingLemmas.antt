@@ -14,7 +14,8 @@ use Rattle.ddr_statistics.specs.Noted.{found_in, new_rank}
 use Rattle.ddr_statistics.specs.Stands.{StandsFor, rank_at}
 use Rattle.ddr_statistics.specs.Tally.{Tally}
 use Rattle.ddr_statistics.specs.Visits.{finding}
-use Rattle.ddr_statistics.proofs.PlaceLemmas.{bank_in, group_in, rank_in}
+use Rattle.ddr_trace.proofs.PlaceLemmas.{bank_in}
+use Rattle.ddr_statistics.proofs.PlaceLemmas.{group_fits_in, rank_in}
 use Rattle.ddr_statistics.proofs.StandLemmas.{finding_told}
 use Rattle.ddr_rounds.specs.declared.told.Told.{Told}
 use Rattle.ddr_rounds.specs.Telling.{entries_told}
@@ -34,7 +35,7 @@ found_is config h t command is placed few inside =
     let here : is_in t.geometry command ≡ true = ap (λ (g : Geometry). is_in g command) is.geometry ∙ inside in
     ap (λ (b : Bool). if b then found_in (rank_at t (rank_of command)) command else None) here
     ∙ finding_told t h command (rank_of command) (found_in (rank_at t (rank_of command)) command) new_rank refl refl (is.stands placed few)
-    (rank_in config.geometry command inside) (group_in config.geometry command inside) (bank_in config.geometry command inside)
+    (rank_in config.geometry command inside) (group_fits_in config.geometry command inside) (bank_in config.geometry command inside)
 
 -- of a channel of which nothing more was told
 pub found_at : (config : Config) (s : State) (all : List Tally) (told : List Told) (c : ℕ) (command : Command) → AreNoted config s all → c < config.geometry.channels → entries_told c told ≡ []

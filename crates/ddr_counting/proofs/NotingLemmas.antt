@@ -15,7 +15,8 @@ use Rattle.ddr_trace.specs.declared.command.Entry.{Entry}
 use Rattle.ddr_trace.specs.Rules.{is_in}
 use Rattle.ddr_statistics.specs.Stands.{noted}
 use Rattle.ddr_statistics.specs.Tally.{Tally}
-use Rattle.ddr_statistics.proofs.PlaceLemmas.{bank_in, group_in, rank_in}
+use Rattle.ddr_trace.proofs.PlaceLemmas.{bank_in}
+use Rattle.ddr_statistics.proofs.PlaceLemmas.{group_fits_in, rank_in}
 use Rattle.ddr_statistics.proofs.StandLemmas.{stands_noted}
 use Rattle.ddr_channel.proofs.ListLemmas.{All-at}
 use Rattle.ddr_channel.specs.Kept as channel_kept
@@ -51,7 +52,7 @@ counted_one config h e t k = by_test (is_in t.geometry e.command) refl
       stands = λ placed few.
           let shorter : length h + 1 < CLOCK_STOP = omega (arith, few, length-append h (e ∷ [])) in
           stands_noted t h e (k.stands (front (λ x. IsTrue (is_in config.geometry x.command)) h (e ∷ []) placed) (omega (arith, shorter))) shorter
-          (rank_in t.geometry e.command is) (group_in t.geometry e.command is) (bank_in t.geometry e.command is);
+          (rank_in t.geometry e.command is) (group_fits_in t.geometry e.command is) (bank_in t.geometry e.command is);
     }
     by_test false is = record {
       geometry = k.geometry;

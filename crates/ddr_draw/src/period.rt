@@ -2,12 +2,12 @@
 //!
 //! `names` stands below, and `changes`, `bars`, `kept_bars` and `starts` above.
 ghost use Rattle.std.specs.Prelude.{◌≡◌};
-ghost use Rattle.ddr_trace.specs.Banks.{recovery};
 ghost use Rattle.ddr_draw.specs.Changes.{burst_end, burst_start, burst_until, burst_until_of, closed_at, closed_by, is_closing, is_followed, next_closing, next_column};
 
 use crate::names::after;
 use ddr_timing::timing::Timing;
 use ddr_timing::units::BURST_CLOCKS;
+use ddr_trace::bank::recovery;
 use ddr_trace::command::{Command, Entry};
 
 /// The cycle at which the row of the ACT is closed, by the entries behind it: `None` where it stays open.
@@ -44,20 +44,9 @@ pub(crate) fn closed_by(timing: &Timing, act: &Entry, entry: &Entry) -> u64
     ensures { result ≡ closed_by timing.now act.now entry.now }
 {
     if entry.command.is_auto() {
-        after(entry.cycle, recovery(timing, &entry.command)).max(after(act.cycle, timing.ras))
+        after(entry.cycle, recovery(&entry.command, timing)).max(after(act.cycle, timing.ras))
     } else {
         entry.cycle
-    }
-}
-
-/// The clocks from a read or a write to a precharge of its bank.
-pub(crate) fn recovery(timing: &Timing, command: &Command) -> u32
-    ensures { result ≡ recovery timing.now command.now }
-{
-    if command.is_read() {
-        timing.rtp
-    } else {
-        timing.cwl + BURST_CLOCKS + timing.wr
     }
 }
 

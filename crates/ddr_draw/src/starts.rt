@@ -7,11 +7,10 @@ ghost use Rattle.ddr_draw.specs.Held.{auto_place, bank_at, start_of, wait_closin
 
 use crate::held::{Held, later_of};
 use crate::names::after;
-use crate::period::recovery;
 use ddr_timing::config::Config;
 use ddr_timing::timing::Timing;
 use ddr_timing::units::GROUP_BANKS;
-use ddr_trace::bank::{OpenBank, changed_by};
+use ddr_trace::bank::{OpenBank, changed_by, recovery};
 use ddr_trace::command::{Command, Entry};
 use ddr_trace::rule::Rule;
 
@@ -103,7 +102,7 @@ fn wait_closing(
 fn start_of(timing: &Timing, bank: &OpenBank, auto: &Entry) -> u64
     ensures { result ≡ start_of timing.now bank.now auto.now }
 {
-    after(auto.cycle, recovery(timing, &auto.command)).max(after(bank.since, timing.ras))
+    after(auto.cycle, recovery(&auto.command, timing)).max(after(bank.since, timing.ras))
 }
 
 /// The place of the bank's last read or write with auto-precharge; that of the first entry where there is none.

@@ -2,15 +2,14 @@
 //!
 //! `evidence`, `kind` and `ddr_trace` stand below, and `state` above.
 ghost use Rattle.std.specs.Prelude.{◌≡◌, ◌+◌, ◌-◌, ◌<◌, ◌≤◌, ◌&&◌, if◌then◌else◌, All, IfNone, IfSome, None, Some, drop, false, length, slice_get};
-ghost use Rattle.ddr_trace.specs.Banks.{auto_start, bank_after, bank_behind, recovery};
+ghost use Rattle.ddr_trace.specs.Banks.{auto_start, bank_after, bank_behind};
 ghost use Rattle.ddr_trace.specs.Commands.{is_same_bank};
 ghost use Rattle.ddr_evidence.specs.Places.{IsLastChange, IsLastChangeAt, changes};
 ghost use Rattle.ddr_evidence.specs.Recent.{StartsAtAct, decides, opens};
 
 use crate::evidence::Placed;
 use ddr_timing::timing::Timing;
-use ddr_timing::units::BURST_CLOCKS;
-use ddr_trace::bank::{OpenBank, changed_by};
+use ddr_trace::bank::{OpenBank, changed_by, recovery};
 use ddr_trace::command::{Command, Entry};
 
 /// What a history makes of a bank.
@@ -194,15 +193,4 @@ pub fn clocks_since_start(bank: &OpenBank, auto: &Entry, cycle: u64, timing: &Ti
     let by_command = since_command.saturating_sub(u64::from(recovery(&auto.command, timing)));
     let by_open = since_open.saturating_sub(u64::from(timing.ras));
     by_command.min(by_open)
-}
-
-/// The clocks from a read or a write to a precharge of its bank.
-fn recovery(command: &Command, timing: &Timing) -> u32
-    ensures { result ≡ recovery timing.now command.now }
-{
-    if matches!(command, Command::Rd { .. } | Command::RdAuto { .. }) {
-        timing.rtp
-    } else {
-        timing.cwl + BURST_CLOCKS + timing.wr
-    }
 }

@@ -1,7 +1,7 @@
 //! Rules on an entry's own numbers: ORDER and PLACE.
 //!
 //! `evidence`, `kind` and `ddr_trace` stand below, and `find` above.
-ghost use Rattle.std.specs.Prelude.{◌≡◌, IfSome, MatchOption, false, is_some, not, true};
+ghost use Rattle.std.specs.Prelude.{◌≡◌, IfSome, false, is_some, not};
 ghost use Rattle.ddr_trace.specs.Rules.{breaks_order, is_in, last_cycle_below};
 ghost use Rattle.ddr_evidence.specs.Evidence.{IsNotAbove, IsOrder, IsOutside, bound_of, first_outside, is_outside, number_in};
 

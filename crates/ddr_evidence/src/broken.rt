@@ -9,13 +9,13 @@ ghost use Rattle.ddr_evidence.specs.Places.{pair_breaks};
 ghost use Rattle.ddr_evidence.specs.Recent.{IsGreatest, IsReach, is_later, is_of_near, span_of};
 
 use crate::find::{evidence_of, too_close};
-use crate::refresh::breaks_gap;
 use crate::state;
 use ddr_timing::config::Config;
 use ddr_timing::timing::Timing;
 use ddr_timing::units::BURST_CLOCKS;
 use ddr_trace::command::{Command, Entry, is_before};
 use ddr_trace::rule::Rule;
+use ddr_trace::window::breaks_ref_gap;
 use std::alloc::{AllocError, Global};
 
 /// For each entry a cycle that neither it nor any entry before it stands behind: the greatest of theirs.
@@ -54,7 +54,7 @@ pub fn breaks(
         }
         Rule::State => state::breaks_state(history, entry, config),
         Rule::Row => state::breaks_row(history, entry, timing),
-        Rule::RefGap => breaks_gap(history, entry, timing),
+        Rule::RefGap => breaks_ref_gap(history, entry, timing),
         Rule::Rp => {
             state::is_behind_start(history, entry, timing)
                 || breaks_pair(rule, history, reach, entry, timing)

@@ -2,7 +2,7 @@
 //! ranks and on the gap between REFs.
 //!
 //! `evidence`, `kind` and `ddr_trace` stand below, and `find` above.
-ghost use Rattle.std.specs.Prelude.{◌≡◌, ℕ, ◌≤◌, MatchOption, Some, false, slice_get};
+ghost use Rattle.std.specs.Prelude.{◌≡◌, ℕ, MatchOption, Some, false, slice_get};
 ghost use Rattle.ddr_trace.specs.Rules.{is_too_close, spacing_of};
 ghost use Rattle.ddr_evidence.specs.Places.{IsLast, are_breaking, breaks_from, counts, least_of};
 

@@ -2,14 +2,13 @@
 //!
 //! `evidence`, `kind` and `ddr_trace` stand below, and `find` above.
 ghost use Rattle.std.specs.Prelude.{◌≡◌, ◌+◌, ◌*◌, ◌^◌, ◌≤◌, IfSome, MatchOption, is_some, nat_lt};
-ghost use Rattle.ddr_trace.specs.Rules.{breaks_ref_gap, breaks_ref_late, refresh_count};
+ghost use Rattle.ddr_trace.specs.Rules.{breaks_ref_late, refresh_count};
 ghost use Rattle.ddr_evidence.specs.declared.evidence.Evidence.TheVariants.{Late};
 ghost use Rattle.ddr_evidence.specs.Evidence.{IsLate};
 
 use crate::evidence::Evidence;
 use ddr_timing::timing::Timing;
 use ddr_trace::command::{Command, Entry};
-use ddr_trace::refresh::is_gap_too_long;
 
 /// Why the entry breaks REF_LATE, if it does.
 pub(crate) fn ref_late(
@@ -26,23 +25,6 @@ pub(crate) fn ref_late(
     }
     let (refreshes, due) = late(history, &entry.command, timing, start, entry.cycle)?;
     Some(Evidence::Late { refreshes, due })
-}
-
-/// Whether the entry is a REF too far behind the one before. It looks back no further than to that one.
-pub(crate) fn breaks_gap(history: &[Entry], entry: &Entry, timing: &Timing) -> bool
-    ensures { result ≡ breaks_ref_gap timing.now history.now entry.now }
-{
-    if !entry.command.is_refresh() {
-        return false;
-    }
-    let mut earlier = history;
-    while let Some((last, before)) = earlier.split_last() {
-        if last.command.is_refresh_of_rank(&entry.command) {
-            return is_gap_too_long(last.cycle, entry.cycle, timing);
-        }
-        earlier = before;
-    }
-    false
 }
 
 /// How many REFs of the command's rank the history has, and the deadline of the next one, where the cycle lies behind it.

@@ -14,7 +14,7 @@ use Rattle.ddr_rank.proofs.DistanceLemmas.{fits_and_keeps, none_apart}
 use Rattle.ddr_rank.proofs.FawLemmas.{faw_told, faw_untold}
 use Rattle.ddr_rank.proofs.HeldLemmas.{below_max}
 use Rattle.ddr_rank.proofs.OpenLemmas.{any_told}
-use Rattle.ddr_rank.proofs.PlaceLemmas.{bank_in, group_in}
+use Rattle.ddr_trace.proofs.PlaceLemmas.{bank_in, group_in}
 use Rattle.ddr_rank.proofs.RuleLemmas.{named_by_act}
 use Rattle.ddr_rank.specs.declared.bank.Bank.{Bank}
 use Rattle.ddr_rank.specs.Distances.{keeps_distances, state_fits}

@@ -8,7 +8,8 @@ use Rattle.ddr_trace.specs.declared.command.Entry.{Entry}
 use Rattle.ddr_trace.specs.Commands.{bank_of, group_of, is_activate, is_other_bank, is_other_group, is_precharge, is_read, is_write, rank_of}
 use Rattle.ddr_trace.specs.Rules.{is_in}
 use Rattle.ddr_rank.proofs.LatestLemmas.{any_below, any_below-none, any_below-one, any_below-some, latest-alike, latest-none, latest_among-latest}
-use Rattle.ddr_rank.proofs.PlaceLemmas.{bank_in, group_in, same_number}
+use Rattle.ddr_trace.proofs.PlaceLemmas.{bank_in, group_in}
+use Rattle.ddr_rank.proofs.PlaceLemmas.{same_number}
 use Rattle.ddr_rank.specs.declared.last.LastKind.{LastKind}
 use Rattle.ddr_rank.specs.declared.last.LastKind.TheVariants.{Activate, Read, Write}
 use Rattle.ddr_rank.specs.declared.last.Last.{Last}

@@ -14,7 +14,7 @@ use Rattle.ddr_rank.proofs.FawLemmas.{faw_told, faw_untold}
 use Rattle.ddr_rank.proofs.FirstLemmas.{within_told}
 use Rattle.ddr_rank.proofs.HeldLemmas.{none_on_rank}
 use Rattle.ddr_rank.proofs.OpenLemmas.{any_told}
-use Rattle.ddr_rank.proofs.PlaceLemmas.{bank_in, group_in}
+use Rattle.ddr_trace.proofs.PlaceLemmas.{bank_in, group_in}
 use Rattle.ddr_rank.proofs.RuleLemmas.{named_by_act, named_by_read, named_by_write}
 use Rattle.ddr_rank.specs.May.{is_closed, is_idle, may_now}
 use Rattle.ddr_rank.specs.Readiness.{Readiness}

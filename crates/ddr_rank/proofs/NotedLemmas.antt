@@ -20,7 +20,8 @@ use Rattle.ddr_trace.proofs.BankLemmas.{bank_behind-append}
 use Rattle.ddr_trace.proofs.WindowLemmas.{last_cycle_below-append}
 use Rattle.ddr_rank.proofs.FawLemmas.{keep_last-more}
 use Rattle.ddr_rank.proofs.LatestLemmas.{latest-append}
-use Rattle.ddr_rank.proofs.PlaceLemmas.{bank_in, bank_written, group_in, group_written, same_number}
+use Rattle.ddr_trace.proofs.PlaceLemmas.{bank_in, group_in}
+use Rattle.ddr_rank.proofs.PlaceLemmas.{bank_written, group_written, same_number}
 use Rattle.ddr_rank.specs.declared.bank.Bank.{Bank}
 use Rattle.ddr_rank.specs.declared.last.Last.{Last}
 use Rattle.ddr_rank.specs.Latest.{latest}

@@ -10,7 +10,7 @@ use Rattle.ddr_trace.specs.declared.command.Command.TheVariants.{Act, Pre}
 use Rattle.ddr_trace.specs.declared.command.Entry.{Entry}
 use Rattle.ddr_trace.specs.Banks.{any_bank, bank_after, bank_behind}
 use Rattle.ddr_trace.specs.Rules.{is_in}
-use Rattle.ddr_rank.proofs.PlaceLemmas.{bank_in, group_in}
+use Rattle.ddr_trace.proofs.PlaceLemmas.{bank_in, group_in}
 use Rattle.ddr_rank.specs.Readiness.{Readiness, idle}
 use Rattle.ddr_rank.specs.Stands.{StandsFor}
 

@@ -1,38 +1,10 @@
--- Commands in the geometry: their group and bank, and where banks stand in a list.
+-- Where banks stand in a list.
 use Rattle.std.proofs.Common.{◌≡◌, ◌≢◌, ℕ, ◌+◌, ◌*◌, ◌<◌, Bool, true, false, ◌&&◌, ◌==◌, if◌then◌else◌, List, length, slice_index_or, slice_set, get_or-set_same, get_or-set_other, refl, arith}
 use Rattle.std.proofs.lemmas.Bool.Decides.{nat_tests}
-use Rattle.ddr_timing.specs.declared.geometry.Geometry.{Geometry}
 use Rattle.ddr_timing.specs.declared.units.TheConstants.{GROUP_BANKS}
-use Rattle.ddr_trace.specs.declared.command.Command.{Command}
-use Rattle.ddr_trace.specs.declared.command.Command.TheVariants.{Act, Rd, Wr, RdAuto, WrAuto, Pre, PreAll, Refresh}
-use Rattle.ddr_trace.specs.Commands.{bank_of, group_of}
-use Rattle.ddr_trace.specs.Rules.{is_in}
 
 pub same_number : (n : ℕ) → (n == n) ≡ true
 same_number n = grind (arith, nat_tests)
-
-some_group : (g : Geometry) → 0 < g.groups
-some_group g = grind (arith, nat_tests, g.groups_are)
-
-pub group_in : (g : Geometry) (c : Command) → is_in g c ≡ true → group_of c < g.groups
-group_in g (Act k n b w) h = grind (arith, nat_tests)
-group_in g (Rd k n b w l) h = grind (arith, nat_tests)
-group_in g (Wr k n b w l) h = grind (arith, nat_tests)
-group_in g (RdAuto k n b w l) h = grind (arith, nat_tests)
-group_in g (WrAuto k n b w l) h = grind (arith, nat_tests)
-group_in g (Pre k n b) h = grind (arith, nat_tests)
-group_in g (PreAll k) h = some_group g
-group_in g (Refresh k) h = some_group g
-
-pub bank_in : (g : Geometry) (c : Command) → is_in g c ≡ true → bank_of c < GROUP_BANKS
-bank_in g (Act k n b w) h = grind (arith, nat_tests)
-bank_in g (Rd k n b w l) h = grind (arith, nat_tests)
-bank_in g (Wr k n b w l) h = grind (arith, nat_tests)
-bank_in g (RdAuto k n b w l) h = grind (arith, nat_tests)
-bank_in g (WrAuto k n b w l) h = grind (arith, nat_tests)
-bank_in g (Pre k n b) h = grind (arith, nat_tests)
-bank_in g (PreAll k) h = omega arith
-bank_in g (Refresh k) h = omega arith
 
 -- a write at a bank's place, read at another bank's place
 pub bank_written : {X : Type 0} (xs : List X) (n g b g' b' : ℕ) (v d : X) → length xs ≡ n * GROUP_BANKS → g < n → b < GROUP_BANKS → b' < GROUP_BANKS

@@ -14,7 +14,7 @@ use Rattle.ddr_rank.proofs.FawLemmas.{faw_told, faw_untold}
 use Rattle.ddr_rank.proofs.KeptLemmas.{all_groups_told, any_precharge_told, other_banks_told, other_groups_told}
 use Rattle.ddr_rank.proofs.LatestLemmas.{latest-same, told, untold}
 use Rattle.ddr_rank.proofs.OpenLemmas.{any_told}
-use Rattle.ddr_rank.proofs.PlaceLemmas.{bank_in, group_in}
+use Rattle.ddr_trace.proofs.PlaceLemmas.{bank_in, group_in}
 use Rattle.ddr_rank.specs.declared.last.LastKind.TheVariants.{Activate, Read, Write}
 use Rattle.ddr_rank.specs.Breaks.{activate_breaks, breaks_now, precharge_all_breaks, precharge_breaks, read_breaks, refresh_breaks, write_breaks}
 use Rattle.ddr_rank.specs.Latest.{latest}

@@ -1,6 +1,6 @@
 //! What is kept of one bank.
 ghost use Rattle.std.specs.Prelude.{◌≡◌, Some};
-ghost use Rattle.ddr_trace.specs.Banks.{is_auto_within, open_row, ready_row, recovery};
+ghost use Rattle.ddr_trace.specs.Banks.{is_auto_within, open_row, ready_row};
 ghost use Rattle.ddr_rank.specs.First.{behind_auto, behind_start};
 ghost use Rattle.ddr_rank.specs.May.{is_idle};
 ghost use Rattle.ddr_rank.specs.Noted.{bank_noted};
@@ -8,8 +8,7 @@ ghost use Rattle.ddr_rank.specs.Noted.{bank_noted};
 use crate::cycles::after;
 use crate::last::Last;
 use ddr_timing::timing::Timing;
-use ddr_timing::units::BURST_CLOCKS;
-use ddr_trace::bank::{OpenBank, changed_by};
+use ddr_trace::bank::{OpenBank, changed_by, recovery};
 use ddr_trace::command::{Command, Entry};
 
 /// A bank: its open row, and the cycles of its last commands. Its last read and write outlive an auto-precharge and the
@@ -107,14 +106,4 @@ fn behind_start(bank: &OpenBank, auto: &Entry, timing: &Timing) -> u64
 {
     let recovered = after(auto.cycle, recovery(&auto.command, timing) + timing.rp);
     after(bank.since, timing.ras + timing.rp).max(recovered)
-}
-
-/// The clocks from a read or a write to a precharge of its bank.
-fn recovery(command: &Command, timing: &Timing) -> u32
-    ensures { result ≡ recovery timing.now command.now }
-{
-    match command {
-        Command::Rd { .. } | Command::RdAuto { .. } => timing.rtp,
-        _ => timing.cwl + BURST_CLOCKS + timing.wr,
-    }
 }

@@ -2,12 +2,12 @@
 use Rattle.std.proofs.Common.{◌≡◌, ◌≢◌, ℕ, ◌+◌, ◌*◌, ◌<◌, ◌≤◌, Bool, true, false, ◌&&◌, ◌==◌, refl, arith}
 use Rattle.std.proofs.lemmas.Bool.Decides.{nat_tests}
 use Rattle.ddr_timing.specs.declared.geometry.Geometry.{Geometry}
-use Rattle.ddr_timing.specs.declared.units.TheConstants.{GROUP_BANKS, MOST_GROUPS}
+use Rattle.ddr_timing.specs.declared.units.TheConstants.{GROUP_BANKS, MOST_GROUPS, MOST_RANKS}
 use Rattle.ddr_trace.specs.declared.command.Command.{Command}
 use Rattle.ddr_trace.specs.declared.command.Command.TheVariants.{Act, Rd, Wr, RdAuto, WrAuto, Pre, PreAll, Refresh}
-use Rattle.ddr_trace.specs.Commands.{bank_of, group_of, rank_of}
+use Rattle.ddr_trace.specs.Commands.{group_of, rank_of}
 use Rattle.ddr_trace.specs.Rules.{is_in}
-use Rattle.ddr_statistics.specs.declared.statistics.TheConstants.{MOST_RANKS}
+use Rattle.ddr_trace.proofs.PlaceLemmas.{group_in}
 
 pub same_number : (n : ℕ) → (n == n) ≡ true
 same_number n = grind (arith, nat_tests)
@@ -18,9 +18,6 @@ and_false false = refl
 
 groups_fit : (g : Geometry) → g.groups ≤ 4
 groups_fit g = grind (arith, nat_tests, g.groups_are)
-
-group_fits : (g : Geometry) (n : ℕ) → n < g.groups → n < MOST_GROUPS
-group_fits g n h = omega (arith, groups_fit g)
 
 pub rank_fits : (g : Geometry) (k : ℕ) → k < g.ranks → k < MOST_RANKS
 rank_fits g k h = omega (arith, g.ranks_range)
@@ -35,25 +32,8 @@ rank_in g (Pre k n b) h = rank_fits g k (grind (arith, nat_tests))
 rank_in g (PreAll k) h = rank_fits g k (grind (arith, nat_tests))
 rank_in g (Refresh k) h = rank_fits g k (grind (arith, nat_tests))
 
-pub group_in : (g : Geometry) (c : Command) → is_in g c ≡ true → group_of c < MOST_GROUPS
-group_in g (Act k n b w) h = group_fits g n (grind (arith, nat_tests))
-group_in g (Rd k n b w l) h = group_fits g n (grind (arith, nat_tests))
-group_in g (Wr k n b w l) h = group_fits g n (grind (arith, nat_tests))
-group_in g (RdAuto k n b w l) h = group_fits g n (grind (arith, nat_tests))
-group_in g (WrAuto k n b w l) h = group_fits g n (grind (arith, nat_tests))
-group_in g (Pre k n b) h = group_fits g n (grind (arith, nat_tests))
-group_in g (PreAll k) h = omega arith
-group_in g (Refresh k) h = omega arith
-
-pub bank_in : (g : Geometry) (c : Command) → is_in g c ≡ true → bank_of c < GROUP_BANKS
-bank_in g (Act k n b w) h = grind (arith, nat_tests)
-bank_in g (Rd k n b w l) h = grind (arith, nat_tests)
-bank_in g (Wr k n b w l) h = grind (arith, nat_tests)
-bank_in g (RdAuto k n b w l) h = grind (arith, nat_tests)
-bank_in g (WrAuto k n b w l) h = grind (arith, nat_tests)
-bank_in g (Pre k n b) h = grind (arith, nat_tests)
-bank_in g (PreAll k) h = omega arith
-bank_in g (Refresh k) h = omega arith
+pub group_fits_in : (g : Geometry) (c : Command) → is_in g c ≡ true → group_of c < MOST_GROUPS
+group_fits_in g c h = omega (arith, groups_fit g, group_in g c h)
 
 -- the bank at the place of another one
 pub apart : (g b g' b' : ℕ) → b < GROUP_BANKS → b' < GROUP_BANKS → (g == g' && b == b') ≡ false → g' * GROUP_BANKS + b' ≢ g * GROUP_BANKS + b

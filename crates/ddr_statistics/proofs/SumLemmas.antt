@@ -17,7 +17,8 @@ use Rattle.ddr_statistics.specs.Noted.{no_counts}
 use Rattle.ddr_statistics.specs.Sums.{ArePlaced, BanksAddUp, RanksAddUp, is_of_banks, plus, sum_below}
 use Rattle.ddr_statistics.specs.Visits.{finding, is_conflict, is_hit, is_miss}
 use Rattle.ddr_statistics.proofs.CountLemmas.{alike}
-use Rattle.ddr_statistics.proofs.PlaceLemmas.{and_false, bank_in}
+use Rattle.ddr_trace.proofs.PlaceLemmas.{bank_in}
+use Rattle.ddr_statistics.proofs.PlaceLemmas.{and_false}
 
 abbrev one : Bool → ℕ
 one w = if w then 1 else 0

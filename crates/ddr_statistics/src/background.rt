@@ -5,7 +5,6 @@
 //! kept, with the two ends. `ddr_timing`, `ddr_trace` and the size of `rank` stand below, and `statistics` above.
 ghost use Rattle.std.specs.Prelude.{◌≡◌, ◌<◌};
 ghost use Rattle.ddr_timing.specs.declared.units.TheConstants.{GROUP_BANKS, MOST_GROUPS};
-ghost use Rattle.ddr_trace.specs.Banks.{recovery};
 ghost use Rattle.ddr_trace.specs.Commands.{bank_of, group_of};
 ghost use Rattle.ddr_statistics.specs.Noted.{active_to, activity_noted, auto_until, background_noted, followed, latest_until, new_background, refresh_to, counted_before};
 
@@ -13,7 +12,8 @@ use crate::rank::MOST_BANKS;
 use ddr_timing::bank::number_in_rank;
 use ddr_timing::geometry::Geometry;
 use ddr_timing::timing::Timing;
-use ddr_timing::units::{BURST_CLOCKS, GROUP_BANKS};
+use ddr_timing::units::GROUP_BANKS;
+use ddr_trace::bank::recovery;
 use ddr_trace::command::{Command, Entry};
 
 /// When a bank is active.
@@ -55,19 +55,8 @@ fn auto_until(timing: &Timing, since: u64, auto: &Entry) -> u64
 {
     let recovered = auto
         .cycle
-        .saturating_add(u64::from(recovery(timing, &auto.command)));
+        .saturating_add(u64::from(recovery(&auto.command, timing)));
     recovered.max(since.saturating_add(u64::from(timing.ras)))
-}
-
-/// The clocks from a read or a write to a precharge of its bank.
-fn recovery(timing: &Timing, command: &Command) -> u32
-    ensures { result ≡ recovery timing.now command.now }
-{
-    if command.is_read() {
-        timing.rtp
-    } else {
-        timing.cwl + BURST_CLOCKS + timing.wr
-    }
 }
 
 /// What is kept of a rank. Each number stops at the last one that a `u64` holds.

@@ -17,7 +17,5 @@ pub mod findings;
 mod rank;
 pub mod statistics;
 pub mod sums;
-#[cfg(test)]
-mod tests;
 pub mod text;
 mod turns;

@@ -7,6 +7,7 @@ pub mod FaultLemmas
 pub mod FieldLemmas
 pub mod LowestLemmas
 pub mod NumberLemmas
+pub mod PlaceLemmas
 pub mod ReadLemmas
 pub mod RefusalLemmas
 pub mod SpacingLemmas

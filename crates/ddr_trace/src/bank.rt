@@ -107,8 +107,8 @@ pub(crate) fn bank_after(
     }
 }
 
-/// The clocks from a read or a write to a precharge of its bank.
-fn recovery(command: &Command, timing: &Timing) -> u32
+/// The clocks from a read or a write to a precharge of its bank: RTP behind a read, and WR behind the last data of a write.
+pub fn recovery(command: &Command, timing: &Timing) -> u32
     ensures { result ≡ recovery timing.now command.now }
 {
     if command.is_read() {

@@ -21,4 +21,4 @@ pub mod rule;
 pub mod spacing;
 pub mod text;
 pub mod trace;
-mod window;
+pub mod window;

@@ -68,8 +68,8 @@ pub(crate) fn ends_late(entries: &[Entry], config: &Config, start: u64, end: u64
     })
 }
 
-/// Whether the entry is a REF more than 9 REFI after the REF before.
-pub(crate) fn breaks_ref_gap(history: &[Entry], entry: &Entry, timing: &Timing) -> bool
+/// Whether the entry is a REF more than 9 REFI after the REF before. It looks back no further than to that one.
+pub fn breaks_ref_gap(history: &[Entry], entry: &Entry, timing: &Timing) -> bool
     ensures { result ≡ breaks_ref_gap timing.now history.now entry.now }
 {
     if !entry.command.is_refresh() {

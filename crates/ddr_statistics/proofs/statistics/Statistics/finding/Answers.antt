@@ -4,7 +4,8 @@ use Rattle.ddr_statistics.specs.Noted.{found_in}
 use Rattle.ddr_statistics.specs.Stands.{StandsFor, rank_at}
 use Rattle.ddr_statistics.specs.Tally.{Tally}
 use Rattle.ddr_statistics.specs.View.{tally_of}
-use Rattle.ddr_statistics.proofs.PlaceLemmas.{bank_in, group_in, rank_in}
+use Rattle.ddr_trace.proofs.PlaceLemmas.{bank_in}
+use Rattle.ddr_statistics.proofs.PlaceLemmas.{group_fits_in, rank_in}
 use Rattle.ddr_statistics.proofs.StandLemmas.{finding_kept, finding_told}
 use Rattle.ddr_statistics.proofs.statistics.Statistics.finding.Goals as goal
 
@@ -23,4 +24,4 @@ returns-clause-counted c = λ history stands.
     let command = c.args.command.now in
     finding_told (tally_of c.self.inside) history command _ _ _ c.rank.ensures c.finding.ensures
     (subst (λ (t : Tally). StandsFor t history) (sym c.self.view_is) stands)
-    (rank_in g command c.requires) (group_in g command c.requires) (bank_in g command c.requires)
+    (rank_in g command c.requires) (group_fits_in g command c.requires) (bank_in g command c.requires)
