@@ -1,6 +1,6 @@
 mod CutLemmas
 mod FeedLemmas
-mod FrontLemmas
+pub mod FrontLemmas
 pub mod LineLemmas
 mod ReadLemmas
 pub mod CaptureLemmas

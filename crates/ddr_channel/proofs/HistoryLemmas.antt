@@ -477,7 +477,7 @@ served_alike f same (choice.Column place) s = alike_at f same place (slice_get s
 served_alike f same (choice.ColumnAuto place) s = alike_at f same place (slice_get s.pending place) s
 
 -- the owner of a command doesn't depend on what comes before the choice
-owner_alike : (c : Choice) (h : History) (after : State) → record (with_owner c (record h { state = at_choice h.state })) { state = after } ≡ record (with_owner c h) { state = after }
+pub owner_alike : (c : Choice) (h : History) (after : State) → record (with_owner c (record h { state = at_choice h.state })) { state = after } ≡ record (with_owner c h) { state = after }
 owner_alike choice.Nothing h after = refl
 owner_alike (choice.Refresh rank) h after = refl
 owner_alike (choice.PreAll rank) h after = refl

@@ -111,7 +111,7 @@ stands_after_cycle old new calls stands clock is =
 pub cycle_start : (old new : Kept) → state_of new ≡ after_cycle (state_of old) → new.start ≡ old.start
 cycle_start old new made = ap (λ (s : State). s.start) made ∙ issued_start (choice_of (at_choice (state_of old))) (at_choice (state_of old))
 
-owner_accepted : (c : Choice) (h : History) → (with_owner c h).accepted ≡ h.accepted
+pub owner_accepted : (c : Choice) (h : History) → (with_owner c h).accepted ≡ h.accepted
 owner_accepted choice.Nothing h = refl
 owner_accepted (choice.Refresh rank) h = refl
 owner_accepted (choice.PreAll rank) h = refl

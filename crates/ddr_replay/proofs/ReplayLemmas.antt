@@ -22,7 +22,8 @@ use Rattle.ddr_text.specs.declared.fault.Fault.{Fault}
 use Rattle.ddr_text.specs.declared.fault.Fault.TheVariants as faults
 use Rattle.ddr_text.proofs.BodyLemmas.{not_of_parts}
 use Rattle.ddr_capture.specs.Feed.{Along}
-use Rattle.ddr_capture.specs.Front.{ComesFirst, HasFront, IsConfigRefused, IsOpened, IsShort}
+use Rattle.ddr_capture.specs.Front.{ComesFirst, IsConfigRefused, IsOpened}
+use Rattle.ddr_capture.proofs.FrontLemmas.{opened_first}
 use Rattle.std.specs.Io.KnownBytes.{prepend_known}
 use Rattle.ddr_stream.specs.declared.requests.Requests.{Requests}
 use Rattle.ddr_stream.specs.Requests.{requests_in}
@@ -364,23 +365,6 @@ unread bytes (Some text) none = ap (λ (xs : List ℕ). Some (xs ++ text)) none
 
 -- what comes behind its configuration
 
-is_short : (sample : Bool) (input : List ℕ) → HasFront sample input → IsShort sample input
-is_short true input front = tt
-is_short false input front = front.short
-
-comes_first : (sample : Bool) (input : List ℕ) (fault : Fault) → HasFront sample input → ComesFirst sample input fault
-comes_first sample input faults.InputTooLong front = tt
-comes_first sample input faults.Read front = tt
-comes_first sample input faults.OutOfMemory front = tt
-comes_first sample input faults.InputHasNoMark front = is_short sample input front
-comes_first sample input faults.InputNotUtf8 front = is_short sample input front
-comes_first sample input _ front = front
-
-fault_first : (sample : Bool) (profile : List ℕ) (a b : Option (List ℕ)) (config : Config) (fault : Fault) → Along (IsOpened sample profile config) a b → IfSome a (λ input. ComesFirst sample input fault)
-fault_first sample profile None b config fault opened = tt
-fault_first sample profile (Some input) None config fault opened = absurd opened
-fault_first sample profile (Some input) (Some body) config fault opened = comes_first sample input fault opened.front
-
 module _ (sample : Bool) (profile : List ℕ) (taking : Taking) (told : Wanted) where
   config_fault : (input : List ℕ) (fault : Fault) → IsConfigRefused sample profile input fault → HasReplayFault sample profile taking told input fault
   config_fault input (faults.ReplayLine line cause) refused = not_of_parts (parts_of sample profile input) (faults.ReplayLine line cause) refused refl
@@ -436,7 +420,7 @@ module _ (sample : Bool) (profile : List ℕ) (taking : Taking) (told : Wanted) 
 
   pub first_by : (a b : Option (List ℕ)) (config : Config) (r : Result (Unit {0}) Fault) → Along (IsOpened sample profile config) a b → IfErr r (λ fault. IfSome a (λ input. ComesFirst sample input fault))
   first_by a b config (Ok v) opened = tt
-  first_by a b config (Err fault) opened = fault_first sample profile a b config fault opened
+  first_by a b config (Err fault) opened = opened_first sample profile a b config fault opened
 
   written_of_input : (config : Config) (input body : List ℕ) (fault : Fault) → IsOpened sample profile config input body → IsWritten config taking told body fault before after → HasWritten sample profile taking told input fault before after
   written_of_input config input body fault opened (inl write) = inl write

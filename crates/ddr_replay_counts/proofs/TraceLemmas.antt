@@ -1,8 +1,7 @@
 -- What a port submits or releases adds no command to a trace.
-use Rattle.std.proofs.Common.{◌≡◌, ℕ, zero, suc, List, [], ◌∷◌, Option, Some, Ok, Err, refl, sym, ap, subst, ◌∙◌}
-use Rattle.std.specs.List.{slice_get, slice_set}
+use Rattle.std.proofs.Common.{◌≡◌, ℕ, Ok, Err, refl, subst}
+use Rattle.std.specs.List.{slice_get}
 use Rattle.std.specs.Option.{option_map_or}
-use Rattle.ddr_trace.specs.declared.command.Entry.{Entry}
 use Rattle.ddr_reorder.specs.Replies.{front_number}
 use Rattle.ddr_ports.specs.Asked.{Asked}
 use Rattle.ddr_ports.specs.State.{refusal_of, request_at}
@@ -13,26 +12,11 @@ use Rattle.ddr_world.specs.declared.item.Item.TheVariants as item
 use Rattle.ddr_world.specs.Events.{Release, Submit}
 use Rattle.ddr_world.specs.Promise.{trace_at}
 use Rattle.ddr_world.specs.Refusals.{refusal_from}
-use Rattle.ddr_world.specs.State.{ChannelSide, State, is_busy}
+use Rattle.ddr_world.specs.State.{State, is_busy}
 use Rattle.ddr_world.specs.Step.{Made, Step, made, with_port, with_channel, queued, after_submit, push_on, push_request, submit_by, submit, after_release, release_by, release, step}
 use Rattle.ddr_rounds.specs.Rounds.{after, after_step}
 use Rattle.ddr_rounds.proofs.StepCounts.{at_channel_has, at_port_has, either_has, maybe_has}
-
-abbrev trace_in : Option ChannelSide → List Entry
-trace_in o = option_map_or (λ (side : ChannelSide). side.channel.trace) o []
-
--- a channel that changes and keeps its trace
-set_still : (xs : List ChannelSide) (c d : ℕ) (old new : ChannelSide) → slice_get xs c ≡ Some old → new.channel.trace ≡ old.channel.trace
-    → trace_in (slice_get (slice_set xs c new) d) ≡ trace_in (slice_get xs d)
-set_still [] c d old new is same = refl
-set_still (x ∷ xs) zero zero old new is same = same ∙ ap trace_in (sym is)
-set_still (x ∷ xs) zero (suc d) old new is same = refl
-set_still (x ∷ xs) (suc c) zero old new is same = refl
-set_still (x ∷ xs) (suc c) (suc d) old new is same = set_still xs c d old new is same
-
-abbrev KeepsTrace : ℕ → State → Step → Type 0
-KeepsTrace d s (Ok m) = trace_at m.state d ≡ trace_at s d
-KeepsTrace d s (Err cause) = Unit {0}
+use Rattle.ddr_rounds.proofs.TraceLemmas.{KeepsTrace, set_still}
 
 submit_keeps : (d : ℕ) (s : State) (p : ℕ) (asked : Asked) → KeepsTrace d s (submit s p asked)
 submit_keeps d s p asked = at_port_has (KeepsTrace d s) s p (submit_by s p asked) (slice_get s.ports p) refl tt (λ port there.

@@ -47,11 +47,11 @@ use Rattle.ddr_rounds.proofs.EventLemmas.{repeated_stays}
 use Rattle.ddr_rounds.proofs.StepCounts.{at_channel_has, at_port_has, either_has, maybe_has, slice_get-set}
 
 -- the commands of a side, if there is one
-abbrev trace_in : Option ChannelSide → List Entry
+abbrev pub trace_in : Option ChannelSide → List Entry
 trace_in o = option_map_or (λ (side : ChannelSide). side.channel.trace) o []
 
 -- a channel that changes and keeps its trace
-set_still : (xs : List ChannelSide) (c d : ℕ) (old new : ChannelSide) → slice_get xs c ≡ Some old → new.channel.trace ≡ old.channel.trace → trace_in (slice_get (slice_set xs c new) d) ≡ trace_in (slice_get xs d)
+pub set_still : (xs : List ChannelSide) (c d : ℕ) (old new : ChannelSide) → slice_get xs c ≡ Some old → new.channel.trace ≡ old.channel.trace → trace_in (slice_get (slice_set xs c new) d) ≡ trace_in (slice_get xs d)
 set_still [] c d old new is same = refl
 set_still (x ∷ xs) zero zero old new is same = same ∙ ap trace_in (sym is)
 set_still (x ∷ xs) zero (suc d) old new is same = refl
@@ -60,7 +60,7 @@ set_still (x ∷ xs) (suc c) (suc d) old new is same = set_still xs c d old new 
 
 -- an event that pops keeps every trace
 
-abbrev KeepsTrace : ℕ → State → Step → Type 0
+abbrev pub KeepsTrace : ℕ → State → Step → Type 0
 KeepsTrace d s (Ok m) = trace_at m.state d ≡ trace_at s d
 KeepsTrace d s (Err cause) = Unit {0}
 
