@@ -1,5 +1,5 @@
 -- The fields of a captured line, and the numbers in them.
-use Rattle.std.specs.Prelude.{ℕ, ◌+◌, ◌-◌, ◌*◌, ◌^◌, ◌&&◌, nat_lt, ◌==◌, if◌then◌else◌, List, [], ◌∷◌, length, take, drop, map, slice_index, codes, Option, Some, None, option_and_then, option_map}
+use Rattle.std.specs.Prelude.{ℕ, ◌+◌, ◌-◌, ◌*◌, ◌^◌, ◌&&◌, nat_le, nat_lt, ◌==◌, if◌then◌else◌, List, [], ◌∷◌, length, take, drop, map, slice_index, codes, Option, Some, None, option_and_then, option_map}
 use Rattle.std.specs.Char.{digit_value, is_ascii_whitespace}
 use Rattle.std.specs.List.{prefix_len, slice_split, suffix_len}
 use Rattle.std.specs.Str.{bytes_eq}
@@ -22,22 +22,22 @@ trimmed field = without_back (without_front field)
 abbrev pub trimmed_cut : List ℕ → List (List ℕ)
 trimmed_cut text = map trimmed (cut text)
 
--- a number with one hexadecimal digit more, of either case, where it stays below 2^32
-abbrev pub with_digit : ℕ → ℕ → Option ℕ
-with_digit number digit =
-    if nat_lt (digit_value digit) 16 && nat_lt (16 * number + digit_value digit) (2 ^ 32) then Some (16 * number + digit_value digit) else None
+-- a number with one hexadecimal digit more, of either case, where it is no more than `most`
+abbrev pub with_digit : ℕ → ℕ → ℕ → Option ℕ
+with_digit most number digit =
+    if nat_lt (digit_value digit) 16 && nat_le (16 * number + digit_value digit) most then Some (16 * number + digit_value digit) else None
 
-abbrev pub hex_after : ℕ → List ℕ → Option ℕ
-hex_after number [] = Some number
-hex_after number (digit ∷ more) = option_and_then (λ next. hex_after next more) (with_digit number digit)
+abbrev pub hex_after : ℕ → ℕ → List ℕ → Option ℕ
+hex_after most number [] = Some number
+hex_after most number (digit ∷ more) = option_and_then (λ next. hex_after most next more) (with_digit most number digit)
 
--- the number that hexadecimal digits spell, one or more
-abbrev pub hex_of : List ℕ → Option ℕ
-hex_of digits = if length digits == 0 then None else hex_after 0 digits
+-- the number that hexadecimal digits spell, one or more, where it is no more than `most`
+abbrev pub hex_of : ℕ → List ℕ → Option ℕ
+hex_of most digits = if length digits == 0 then None else hex_after most 0 digits
 
--- a hexadecimal number behind `0x`
+-- a hexadecimal number behind `0x`, below 2^32
 abbrev pub hex_index_of : List ℕ → Option ℕ
-hex_index_of field = if slice_index field 0 == 48 && slice_index field 1 == 120 then hex_of (drop 2 field) else None
+hex_index_of field = if slice_index field 0 == 48 && slice_index field 1 == 120 then hex_of (2 ^ 32 - 1) (drop 2 field) else None
 
 -- a decimal number, or `-1` for none
 abbrev pub decimal_of : List ℕ → Option (Option ℕ)

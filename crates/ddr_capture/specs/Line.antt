@@ -14,9 +14,9 @@ use Rattle.ddr_capture.specs.Fields.{cut, decimal_of, hexadecimal_of, trimmed_cu
 use Rattle.ddr_capture.specs.Place.{command_of}
 use Rattle.ddr_capture.specs.declared.line.Said.{Said}
 use Rattle.ddr_capture.specs.declared.line.Said.TheVariants as says
-use Rattle.ddr_capture.specs.declared.place.Kind.{Kind}
-use Rattle.ddr_capture.specs.declared.place.Kind.TheVariants as kinds
-use Rattle.ddr_capture.specs.declared.place.Place.{Place}
+use Rattle.ddr_capture.specs.declared.place.CommandKind.{CommandKind}
+use Rattle.ddr_capture.specs.declared.place.CommandKind.TheVariants as kinds
+use Rattle.ddr_capture.specs.declared.place.PartialPlace.{PartialPlace}
 use Rattle.ddr_capture.specs.declared.tool.Tool as tools
 use Rattle.ddr_capture.specs.declared.tool.Tool.TheVariants as tool
 
@@ -38,7 +38,7 @@ of_seven (cycle ∷ name ∷ rank ∷ group ∷ bank ∷ row ∷ column ∷ []) 
     if is_name name then ok_or (option_map said_of_one (record_of (cycle ∷ name ∷ rank ∷ group ∷ bank ∷ row ∷ column ∷ []))) Number else Err Word
 of_seven _ = Err Fields
 
-abbrev pub kind_of_dramsim3 : List ℕ → Option Kind
+abbrev pub kind_of_dramsim3 : List ℕ → Option CommandKind
 kind_of_dramsim3 name =
     if bytes_eq name (codes "activate") then Some kinds.Activate
     else if bytes_eq name (codes "read") then Some kinds.Read
@@ -49,7 +49,7 @@ kind_of_dramsim3 name =
     else if bytes_eq name (codes "refresh") then Some kinds.Refresh
     else None
 
-abbrev pub kind_of_ramulator2 : List ℕ → Option Kind
+abbrev pub kind_of_ramulator2 : List ℕ → Option CommandKind
 kind_of_ramulator2 name =
     if bytes_eq name (codes "ACT") then Some kinds.Activate
     else if bytes_eq name (codes "RD") then Some kinds.Read
@@ -61,7 +61,7 @@ kind_of_ramulator2 name =
     else if bytes_eq name (codes "REFab") then Some kinds.Refresh
     else None
 
-abbrev pub kind_of : tools.Tool → List ℕ → Option Kind
+abbrev pub kind_of : tools.Tool → List ℕ → Option CommandKind
 kind_of tool.Dramsim3 name = kind_of_dramsim3 name
 kind_of tool.Ramulator2 name = kind_of_ramulator2 name
 
@@ -71,7 +71,7 @@ wide_of tool.Dramsim3 field = hexadecimal_of field
 wide_of tool.Ramulator2 field = decimal_of field
 
 -- where a command goes; a column is the line of the row, as it stands
-unfoldable pub place_of : tools.Tool → List ℕ → List ℕ → List ℕ → List ℕ → List ℕ → Option Place
+unfoldable pub place_of : tools.Tool → List ℕ → List ℕ → List ℕ → List ℕ → List ℕ → Option PartialPlace
 place_of t rank group bank row column = do
   k ← decimal_of rank
   g ← decimal_of group
@@ -81,7 +81,7 @@ place_of t rank group bank row column = do
   Some (record { rank = k; group = g; bank = b; row = w; line = l })
 
 -- a command of this kind, at this cycle and place, if each field is as the kind wants it
-unfoldable pub command_at : tools.Tool → Kind → List ℕ → List ℕ → List ℕ → List ℕ → List ℕ → List ℕ → List ℕ → Option Said
+unfoldable pub command_at : tools.Tool → CommandKind → List ℕ → List ℕ → List ℕ → List ℕ → List ℕ → List ℕ → List ℕ → Option Said
 command_at t kind cycle channel rank group bank row column = do
   at ← cycle_of cycle
   c ← decimal_of channel

@@ -3,12 +3,12 @@ use Rattle.std.specs.Prelude.{Option, Some}
 use Rattle.ddr_trace.specs.declared.command.Command.{Command}
 use Rattle.ddr_trace.specs.declared.command.Command.TheVariants as commands
 use Rattle.ddr_trace.specs.Parse.{◌>>=◌}
-use Rattle.ddr_capture.specs.declared.place.Kind.{Kind}
-use Rattle.ddr_capture.specs.declared.place.Kind.TheVariants as kinds
-use Rattle.ddr_capture.specs.declared.place.Place.{Place}
+use Rattle.ddr_capture.specs.declared.place.CommandKind.{CommandKind}
+use Rattle.ddr_capture.specs.declared.place.CommandKind.TheVariants as kinds
+use Rattle.ddr_capture.specs.declared.place.PartialPlace.{PartialPlace}
 
 -- the command of a kind; none where a number that it needs is not given, and what it doesn't need has no say
-unfoldable pub command_of : Kind → Place → Option Command
+unfoldable pub command_of : CommandKind → PartialPlace → Option Command
 command_of kinds.Activate p = do
   k ← p.rank
   g ← p.group

@@ -2,7 +2,7 @@
 //!
 //! `form`, `front`, `feed`, `reading` and `report` stand below, and the program above. The input is read in one pass, and the memory that
 //! it takes is that of the configuration and of the channels, however many commands there are.
-ghost use Rattle.std.specs.Prelude.{◌≡◌, ◌≢◌, ℕ, ◌+◌, ◌<◌, ◌≤◌, ◌^◌, IfErr, IfOk, IfSome, IsErrOf, IsTrue, List, Option, false, length};
+ghost use Rattle.std.specs.Prelude.{◌≡◌, ◌≢◌, ℕ, ◌+◌, ◌<◌, ◌^◌, IfErr, IfOk, IfSome, IsErrOf, IsTrue, List, Option, false};
 ghost use Rattle.ddr_timing.specs.declared.config.Config.{Config};
 ghost use Rattle.ddr_judge.specs.Judged.{channels_of, commands_of};
 ghost use Rattle.ddr_text.specs.Fault.{is_before_output};
@@ -26,8 +26,8 @@ use ddr_timing::config::Config;
 use ddr_timing::profile::PROFILE_S;
 use std::alloc::Global;
 
-/// The most lines of a capture.
-const MOST_LINES: u64 = 0xffff_ffff_ffff_fffe;
+/// The most lines of a capture, or of a stream.
+pub const MOST_LINES: u64 = 0xffff_ffff_ffff_fffe;
 
 /// Reads captured commands in this form, which begin in cycle `start`, and writes a line for each channel: `channel C legal`, or
 /// `channel C fault PLACE RULE line N` for its first fault. Where the form names one channel, all commands are of that one, and it

@@ -11,7 +11,7 @@ mod cuts;
 pub mod feed;
 pub mod form;
 pub mod front;
-mod hexadecimal;
+pub mod hexadecimal;
 pub mod line;
 mod number;
 mod own;

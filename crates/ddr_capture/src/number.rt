@@ -1,24 +1,24 @@
 //! The decimal numbers of a line.
 //!
-//! `ddr_text` reads them, and nothing of this crate stands below.
+//! `ddr_trace` reads them, and nothing of this crate stands below.
 ghost use Rattle.std.specs.Prelude.{◌≡◌, ◌≤◌, IfSome};
 ghost use Rattle.ddr_trace.specs.Parse.{cycle_of, index_of};
 
-use ddr_text::digits::number_in;
 use ddr_timing::units::CLOCK_STOP;
+use ddr_trace::number::parse_number;
 
 /// The cycle that a field spells, at most `CLOCK_STOP`.
 pub(crate) fn cycle_of(field: &[u8]) -> Option<u64>
     ensures exact { result ≡ cycle_of field.now }
     ensures small { IfSome result (λ cycle. cycle ≤ CLOCK_STOP) }
 {
-    number_in(field, CLOCK_STOP)
+    parse_number(field, CLOCK_STOP)
 }
 
 /// The number below 2^32 that a field spells.
 pub(crate) fn index_of(field: &[u8]) -> Option<u32>
     ensures { result ≡ index_of field.now }
 {
-    let index = number_in(field, u64::from(u32::MAX))?;
+    let index = parse_number(field, u64::from(u32::MAX))?;
     Some(index as u32)
 }

@@ -8,7 +8,7 @@ use ddr_trace::command::Command;
 
 /// A kind of command.
 #[derive(Clone, Copy, Debug, PartialEq, Eq)]
-pub enum Kind {
+pub enum CommandKind {
     Activate,
     Read,
     Write,
@@ -21,7 +21,7 @@ pub enum Kind {
 
 /// The numbers of a place, of which a line may leave out each.
 #[derive(Clone, Copy, Debug, PartialEq, Eq)]
-pub struct Place {
+pub struct PartialPlace {
     pub rank: Option<u32>,
     pub group: Option<u32>,
     pub bank: Option<u32>,
@@ -30,27 +30,27 @@ pub struct Place {
     pub line: Option<u32>,
 }
 
-impl Place {
+impl PartialPlace {
     /// The command of a kind; none where a number that it needs is left out.
     #[tactic(auto, unfolding(crate::specs::Place::command_of))]
-    pub(crate) fn command(&self, kind: Kind) -> Option<Command>
+    pub(crate) fn command(&self, kind: CommandKind) -> Option<Command>
         ensures { result ≡ command_of kind self.now }
     {
         match kind {
-            Kind::Activate => self.activate(),
-            Kind::Read => self.read(),
-            Kind::Write => self.write(),
-            Kind::ReadAuto => self.read_auto(),
-            Kind::WriteAuto => self.write_auto(),
-            Kind::Precharge => self.precharge(),
-            Kind::PrechargeAll => Some(Command::PreAll { rank: self.rank? }),
-            Kind::Refresh => Some(Command::Refresh { rank: self.rank? }),
+            CommandKind::Activate => self.activate(),
+            CommandKind::Read => self.read(),
+            CommandKind::Write => self.write(),
+            CommandKind::ReadAuto => self.read_auto(),
+            CommandKind::WriteAuto => self.write_auto(),
+            CommandKind::Precharge => self.precharge(),
+            CommandKind::PrechargeAll => Some(Command::PreAll { rank: self.rank? }),
+            CommandKind::Refresh => Some(Command::Refresh { rank: self.rank? }),
         }
     }
 
     #[tactic(auto, unfolding(crate::specs::Place::command_of))]
     fn activate(&self) -> Option<Command>
-        ensures { result ≡ command_of Kind.Activate self.now }
+        ensures { result ≡ command_of CommandKind.Activate self.now }
     {
         Some(Command::Act {
             rank: self.rank?,
@@ -62,7 +62,7 @@ impl Place {
 
     #[tactic(auto, unfolding(crate::specs::Place::command_of))]
     fn read(&self) -> Option<Command>
-        ensures { result ≡ command_of Kind.Read self.now }
+        ensures { result ≡ command_of CommandKind.Read self.now }
     {
         Some(Command::Rd {
             rank: self.rank?,
@@ -75,7 +75,7 @@ impl Place {
 
     #[tactic(auto, unfolding(crate::specs::Place::command_of))]
     fn write(&self) -> Option<Command>
-        ensures { result ≡ command_of Kind.Write self.now }
+        ensures { result ≡ command_of CommandKind.Write self.now }
     {
         Some(Command::Wr {
             rank: self.rank?,
@@ -88,7 +88,7 @@ impl Place {
 
     #[tactic(auto, unfolding(crate::specs::Place::command_of))]
     fn read_auto(&self) -> Option<Command>
-        ensures { result ≡ command_of Kind.ReadAuto self.now }
+        ensures { result ≡ command_of CommandKind.ReadAuto self.now }
     {
         Some(Command::RdAuto {
             rank: self.rank?,
@@ -101,7 +101,7 @@ impl Place {
 
     #[tactic(auto, unfolding(crate::specs::Place::command_of))]
     fn write_auto(&self) -> Option<Command>
-        ensures { result ≡ command_of Kind.WriteAuto self.now }
+        ensures { result ≡ command_of CommandKind.WriteAuto self.now }
     {
         Some(Command::WrAuto {
             rank: self.rank?,
@@ -114,7 +114,7 @@ impl Place {
 
     #[tactic(auto, unfolding(crate::specs::Place::command_of))]
     fn precharge(&self) -> Option<Command>
-        ensures { result ≡ command_of Kind.Precharge self.now }
+        ensures { result ≡ command_of CommandKind.Precharge self.now }
     {
         Some(Command::Pre {
             rank: self.rank?,

@@ -11,7 +11,7 @@ use crate::cuts::{Four, eight_spaced, eight_trimmed};
 use crate::hexadecimal::hex_index_of;
 use crate::line::Said;
 use crate::number::{cycle_of, index_of};
-use crate::place::{Kind, Place};
+use crate::place::{CommandKind, PartialPlace};
 use ddr_text::fault::LineFault;
 use ddr_trace::command::Entry;
 
@@ -60,7 +60,7 @@ fn read_eight(tool: Tool, front: &Four<'_>, back: &Four<'_>) -> Result<Said, Lin
 
 /// A command of this kind; none where a field is not as the kind wants it.
 #[tactic(auto, unfolding(crate::specs::Line::command_at))]
-fn command_at(tool: Tool, kind: Kind, front: &Four<'_>, back: &Four<'_>) -> Option<Said>
+fn command_at(tool: Tool, kind: CommandKind, front: &Four<'_>, back: &Four<'_>) -> Option<Said>
     ensures exact { result ≡ command_at tool kind front.now.first.now front.now.third.now front.now.fourth.now
         back.now.first.now back.now.second.now back.now.third.now back.now.fourth.now }
     ensures early { IfSome result IsEarly }
@@ -77,7 +77,7 @@ fn command_at(tool: Tool, kind: Kind, front: &Four<'_>, back: &Four<'_>) -> Opti
 
 /// Where a command goes.
 #[tactic(auto, unfolding(crate::specs::Line::place_of))]
-fn place_of(tool: Tool, rank: &[u8], back: &Four<'_>) -> Option<Place>
+fn place_of(tool: Tool, rank: &[u8], back: &Four<'_>) -> Option<PartialPlace>
     ensures { result ≡ place_of tool rank.now back.now.first.now back.now.second.now back.now.third.now back.now.fourth.now }
 {
     let rank = decimal_of(rank)?;
@@ -85,7 +85,7 @@ fn place_of(tool: Tool, rank: &[u8], back: &Four<'_>) -> Option<Place>
     let bank = decimal_of(back.second)?;
     let row = wide_of(tool, back.third)?;
     let line = wide_of(tool, back.fourth)?;
-    Some(Place {
+    Some(PartialPlace {
         rank,
         group,
         bank,
@@ -94,7 +94,7 @@ fn place_of(tool: Tool, rank: &[u8], back: &Four<'_>) -> Option<Place>
     })
 }
 
-fn kind_of(tool: Tool, name: &[u8]) -> Option<Kind>
+fn kind_of(tool: Tool, name: &[u8]) -> Option<CommandKind>
     ensures { result ≡ kind_of tool name.now }
 {
     match tool {
@@ -103,47 +103,47 @@ fn kind_of(tool: Tool, name: &[u8]) -> Option<Kind>
     }
 }
 
-fn kind_of_dramsim3(name: &[u8]) -> Option<Kind>
+fn kind_of_dramsim3(name: &[u8]) -> Option<CommandKind>
     ensures { result ≡ kind_of_dramsim3 name.now }
 {
     if name == b"activate".as_slice() {
-        Some(Kind::Activate)
+        Some(CommandKind::Activate)
     } else if name == b"read".as_slice() {
-        Some(Kind::Read)
+        Some(CommandKind::Read)
     } else if name == b"write".as_slice() {
-        Some(Kind::Write)
+        Some(CommandKind::Write)
     } else if name == b"read_p".as_slice() {
-        Some(Kind::ReadAuto)
+        Some(CommandKind::ReadAuto)
     } else if name == b"write_p".as_slice() {
-        Some(Kind::WriteAuto)
+        Some(CommandKind::WriteAuto)
     } else if name == b"precharge".as_slice() {
-        Some(Kind::Precharge)
+        Some(CommandKind::Precharge)
     } else if name == b"refresh".as_slice() {
-        Some(Kind::Refresh)
+        Some(CommandKind::Refresh)
     } else {
         None
     }
 }
 
-fn kind_of_ramulator2(name: &[u8]) -> Option<Kind>
+fn kind_of_ramulator2(name: &[u8]) -> Option<CommandKind>
     ensures { result ≡ kind_of_ramulator2 name.now }
 {
     if name == b"ACT".as_slice() {
-        Some(Kind::Activate)
+        Some(CommandKind::Activate)
     } else if name == b"RD".as_slice() {
-        Some(Kind::Read)
+        Some(CommandKind::Read)
     } else if name == b"WR".as_slice() {
-        Some(Kind::Write)
+        Some(CommandKind::Write)
     } else if name == b"RDA".as_slice() {
-        Some(Kind::ReadAuto)
+        Some(CommandKind::ReadAuto)
     } else if name == b"WRA".as_slice() {
-        Some(Kind::WriteAuto)
+        Some(CommandKind::WriteAuto)
     } else if name == b"PRE".as_slice() {
-        Some(Kind::Precharge)
+        Some(CommandKind::Precharge)
     } else if name == b"PREA".as_slice() {
-        Some(Kind::PrechargeAll)
+        Some(CommandKind::PrechargeAll)
     } else if name == b"REFab".as_slice() {
-        Some(Kind::Refresh)
+        Some(CommandKind::Refresh)
     } else {
         None
     }

@@ -1,13 +1,13 @@
 -- A line of a stream: which port it is for, and what it asks for there, or what is wrong with it. In this project's own form, or in
 -- another simulator's.
-use Rattle.std.specs.Prelude.{ℕ, ◌+◌, ◌*◌, ◌^◌, Bool, ◌&&◌, ◌||◌, nat_le, nat_lt, ◌==◌, if◌then◌else◌, List, [], ◌∷◌, length, drop, filter, slice_index, codes, Option, Some, None, Result, Ok, Err}
-use Rattle.std.specs.Char.{digit_value}
+use Rattle.std.specs.Prelude.{ℕ, Bool, ◌&&◌, ◌||◌, nat_le, nat_lt, ◌==◌, if◌then◌else◌, List, [], ◌∷◌, length, drop, filter, slice_index, codes, Option, Some, None, Result, Ok, Err}
 use Rattle.std.specs.List.{list_all, slice_split}
-use Rattle.std.specs.Option.{ok_or, option_and_then}
+use Rattle.std.specs.Option.{ok_or}
 use Rattle.std.specs.Str.{bytes_eq}
 use Rattle.ddr_address_map.specs.declared.request.Kind.{Kind}
 use Rattle.ddr_address_map.specs.declared.request.Kind.TheVariants.{Read, Write}
 use Rattle.ddr_trace.specs.Numbers.{number_of}
+use Rattle.ddr_capture.specs.Fields.{hex_of}
 use Rattle.ddr_text.specs.declared.command.Format.{Format}
 use Rattle.ddr_text.specs.declared.command.Format.TheVariants.{Own, Dramsim3, Ramulator2}
 use Rattle.ddr_text.specs.declared.fault.LineFault.{LineFault}
@@ -39,19 +39,6 @@ is_skipped Ramulator2 text = script.is_skipped text
 
 -- ---- numbers
 
--- a number with one hexadecimal digit more, of either case, where it stays below 2^64
-abbrev pub with_digit : ℕ → ℕ → Option ℕ
-with_digit number digit =
-    if nat_lt (digit_value digit) 16 && nat_lt (16 * number + digit_value digit) (2 ^ 64) then Some (16 * number + digit_value digit) else None
-
-abbrev pub hex_after : ℕ → List ℕ → Option ℕ
-hex_after number [] = Some number
-hex_after number (digit ∷ more) = option_and_then (λ next. hex_after next more) (with_digit number digit)
-
--- the number that hexadecimal digits spell, one or more
-abbrev pub hex_of : List ℕ → Option ℕ
-hex_of digits = if length digits == 0 then None else hex_after 0 digits
-
 -- `0x` stands in front
 abbrev pub has_mark : List ℕ → Bool
 has_mark field = slice_index field 0 == 48 && slice_index field 1 == 120
@@ -66,15 +53,15 @@ at_of field = if bytes_eq field (codes "-") then Some 0 else number_of LARGEST f
 
 -- a decimal address, or a hexadecimal one behind `0x`
 abbrev pub address_of : List ℕ → Option ℕ
-address_of field = if has_mark field then hex_of (drop 2 field) else number_of LARGEST field
+address_of field = if has_mark field then hex_of LARGEST (drop 2 field) else number_of LARGEST field
 
 -- DRAMSim3's: hexadecimal, behind `0x` or `0X` or without
 abbrev pub address_of_dramsim3 : List ℕ → Option ℕ
-address_of_dramsim3 field = if has_either_mark field then hex_of (drop 2 field) else hex_of field
+address_of_dramsim3 field = if has_either_mark field then hex_of LARGEST (drop 2 field) else hex_of LARGEST field
 
 -- Ramulator 2's: decimal, or hexadecimal behind `0x` or `0X`
 abbrev pub address_of_ramulator2 : List ℕ → Option ℕ
-address_of_ramulator2 field = if has_either_mark field then hex_of (drop 2 field) else number_of LARGEST field
+address_of_ramulator2 field = if has_either_mark field then hex_of LARGEST (drop 2 field) else number_of LARGEST field
 
 -- ---- words
 

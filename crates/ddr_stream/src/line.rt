@@ -8,15 +8,16 @@ ghost use Rattle.std.specs.Option.{ok_or};
 ghost use Rattle.ddr_trace.specs.Numbers.{number_of};
 ghost use Rattle.ddr_text.specs.Script.{LARGEST, has_space_at_end};
 ghost use Rattle.ddr_text.specs.declared.fault.LineFault.TheVariants.{Number, Word};
-ghost use Rattle.ddr_stream.specs.Line.{address_of, address_of_dramsim3, address_of_ramulator2, at_of, has_either_mark, hex_of, is_skipped, kind_of, kind_of_dramsim3, kind_of_ramulator2, of_dramsim3, of_four, of_own, of_ramulator2, of_three, of_two, sent_of, with_digit};
+ghost use Rattle.ddr_stream.specs.Line.{address_of, address_of_dramsim3, address_of_ramulator2, at_of, has_either_mark, is_skipped, kind_of, kind_of_dramsim3, kind_of_ramulator2, of_dramsim3, of_four, of_own, of_ramulator2, of_three, of_two, sent_of};
 
 use crate::white::{is_blank, three_fields};
 use ddr_address_map::request::Kind;
+use ddr_capture::hexadecimal::hex_of;
 use ddr_text::command::Format;
-use ddr_text::digits::number_in;
 use ddr_text::fault::LineFault;
 use ddr_text::script;
 use ddr_text::script::fields;
+use ddr_trace::number::parse_number;
 
 /// What a line asks for, and at which port.
 #[derive(Clone, Copy, Debug, PartialEq, Eq)]
@@ -208,7 +209,7 @@ fn kind_of_ramulator2(word: &str) -> Result<Kind, LineFault>
 fn number(field: &[u8]) -> Result<u64, LineFault>
     ensures { result ≡ ok_or (number_of LARGEST field.now) Number }
 {
-    number_in(field, u64::MAX).ok_or(LineFault::Number)
+    parse_number(field, u64::MAX).ok_or(LineFault::Number)
 }
 
 /// The address that a field spells: decimal, or hexadecimal behind `0x`.
@@ -216,7 +217,7 @@ fn address_of(field: &[u8]) -> Result<u64, LineFault>
     ensures { result ≡ ok_or (address_of field.now) Number }
 {
     match field {
-        [b'0', b'x', digits @ ..] => hex_of(digits).ok_or(LineFault::Number),
+        [b'0', b'x', digits @ ..] => hex_of(digits, u64::MAX).ok_or(LineFault::Number),
         _ => number(field),
     }
 }
@@ -226,8 +227,8 @@ fn address_of_dramsim3(field: &[u8]) -> Result<u64, LineFault>
     ensures { result ≡ ok_or (address_of_dramsim3 field.now) Number }
 {
     match behind_either_mark(field) {
-        Some(digits) => hex_of(digits).ok_or(LineFault::Number),
-        None => hex_of(field).ok_or(LineFault::Number),
+        Some(digits) => hex_of(digits, u64::MAX).ok_or(LineFault::Number),
+        None => hex_of(field, u64::MAX).ok_or(LineFault::Number),
     }
 }
 
@@ -236,7 +237,7 @@ fn address_of_ramulator2(field: &[u8]) -> Result<u64, LineFault>
     ensures { result ≡ ok_or (address_of_ramulator2 field.now) Number }
 {
     match behind_either_mark(field) {
-        Some(digits) => hex_of(digits).ok_or(LineFault::Number),
+        Some(digits) => hex_of(digits, u64::MAX).ok_or(LineFault::Number),
         None => number(field),
     }
 }
@@ -250,30 +251,4 @@ fn behind_either_mark(field: &[u8]) -> Option<&[u8]>
         [b'0', b'x' | b'X', digits @ ..] => Some(digits),
         _ => None,
     }
-}
-
-/// The number that hexadecimal digits of either case spell, one or more of them, where it is below 2^64.
-fn hex_of(digits: &[u8]) -> Option<u64>
-    ensures { result ≡ hex_of digits.now }
-{
-    if digits.is_empty() {
-        return None;
-    }
-    let mut number = 0;
-    for digit in digits {
-        number = with_digit(number, *digit)?;
-    }
-    Some(number)
-}
-
-/// The number with one hexadecimal digit more, where it stays below 2^64.
-fn with_digit(number: u64, digit: u8) -> Option<u64>
-    ensures { result ≡ with_digit number digit }
-{
-    let value = char::from(digit).to_digit(16)?;
-    let next = 16 * u128::from(number) + u128::from(value);
-    if next > u128::from(u64::MAX) {
-        return None;
-    }
-    Some(next as u64)
 }

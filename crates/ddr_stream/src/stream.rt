@@ -95,8 +95,8 @@ impl Stream {
 
     /// The next request of a port, for which as many lines are read as it takes, or none where no line is left that has one.
     ///
-    /// Fails as `ReplayLine`, as `ReplayRange` and as `InputTooLong` at the first line that is at fault, as `Read` where the reader fails, and
-    /// as `OutOfMemory`; then no more of it is promised.
+    /// Fails as `ReplayLine`, as `ReplayRange` and as `InputTooLong` at the first line that is at fault, as `Read` where the reader fails,
+    /// and as `OutOfMemory`; then no more of it is promised.
     pub fn first<R: Source>(&mut self, reader: &mut R, port: u32) -> Result<Option<Ask>, Fault>
         requires { port < self.old.config.limits.ports }
         ensures same { OnOk result (IsSame (all_in self.old (R.remaining reader.old)) (all_in self.new (R.remaining reader.new))) }

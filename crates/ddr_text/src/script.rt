@@ -1,6 +1,6 @@
 //! The lines of a script.
 //!
-//! Below stand `digits`, which reads the numbers, and `hexadecimal`, which reads the bytes; above stand `instructions` and
+//! Below stand `hexadecimal`, which reads the bytes, and `ddr_trace`, which reads the numbers; above stand `instructions` and
 //! `map`. A line that does something is an instruction: a word and its fields, with one or more spaces between two. Other
 //! lines are empty, or comments, which begin with `#`.
 ghost use Rattle.std.specs.Prelude.{◌≡◌, ◌≤◌, ◌<◌, ◌++◌, IfOk, map, take};
@@ -9,11 +9,11 @@ ghost use Rattle.ddr_text.specs.declared.script.LineError.TheVariants.{OutOfMemo
 ghost use Rattle.ddr_text.specs.Lines.{Gives};
 ghost use Rattle.ddr_text.specs.Script.{LARGEST, bytes_of, cycle_of, enable_of, fields_of, instruction_of, is_skipped, just_bytes_of, kept_field, masked_of, of_fields, of_five, of_four, of_two, port_of, read_of, view, write_of};
 
-use crate::digits::number_in;
 use crate::hexadecimal::{decode, decode_into};
 use arrayvec::ArrayVec;
 use ddr_address_map::request::Line;
 use ddr_timing::units::LINE_BYTES;
+use ddr_trace::number::parse_number;
 use std::alloc::{AllocError, AllocFailed, Global};
 
 /// The greatest length that a line reads.
@@ -256,7 +256,7 @@ fn number_up_to(most: u64, field: &str) -> Result<u64, LineError>
     ensures said { Gives (λ n. n) result (number_of most field.now) }
     ensures most { IfOk result (λ n. n ≤ most) }
 {
-    number_in(field.as_bytes(), most).ok_or(LineError::AtFault)
+    parse_number(field.as_bytes(), most).ok_or(LineError::AtFault)
 }
 
 /// Of so many ports, the one that a field names.

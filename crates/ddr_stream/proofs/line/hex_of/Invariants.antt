@@ -1,6 +1,0 @@
-use Rattle.std.proofs.Common.{◌≡◌, drop}
-use Rattle.ddr_stream.specs.Line.{hex_after}
-use Rattle.ddr_stream.proofs.line.hex_of.Given as goal
-
-abbrev pub invariant-loop-digit : goal.invariant-loop-digit
-invariant-loop-digit l = hex_after l.number (drop l.digit-index l.digits) ≡ hex_after 0 l.digits
