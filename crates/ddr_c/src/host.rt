@@ -218,8 +218,8 @@ impl Core {
         Some(channel.now())
     }
 
-    /// The numbers of a channel's commands so far. Fails as `NoSuch` where there is no such channel, and as `ClockSpent` where its clock has
-    /// come to its end.
+    /// The numbers of a channel's commands so far. Fails as `NoSuch` where there is no such channel, and as `ClockSpent` where its clock
+    /// has come to its end.
     pub(crate) fn channel_numbers(&self, channel: u32) -> Result<ChannelNumbers, Refusal>
         ensures { result ≡ numbers_told (option_map (λ side. side.channel) (slice_get self.now.world.channels channel)) (drains_at self.now.drains.items channel) }
     {

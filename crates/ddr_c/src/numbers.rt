@@ -62,8 +62,8 @@ pub struct RequestNumbers {
     pub to_release: Spread,
 }
 
-/// What came of a port's requests: how many were accepted, how many replies were taken, and how often one was refused since the window or the
-/// queue of its channel was full.
+/// What came of a port's requests: how many were accepted, how many replies were taken, and how often one was refused since the window or
+/// the queue of its channel was full.
 #[repr(C)]
 #[derive(Clone, Copy)]
 pub struct PortNumbers {

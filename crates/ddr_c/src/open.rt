@@ -12,7 +12,8 @@ use ddr_loose::text::{Unread, read_config};
 use ddr_timing::config::Config;
 use std::alloc::Global;
 
-/// Opens a core in a closed slot, with or without the traces of its channels. A refusal's text is copied as far as it fits, and its whole length told.
+/// Opens a core in a closed slot, with or without the traces of its channels. A refusal's text is copied as far as it fits, and its whole
+/// length told.
 pub(crate) fn open(
     alloc: Global,
     slot: &mut Slot,

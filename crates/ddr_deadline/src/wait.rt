@@ -27,16 +27,18 @@ pub fn own_steps_keep_time()
     ensures kept { (s : State) (w : Waiting) → IsSound s → s.done ≡ [] → IsServedAlone (situation_of (at_choice s)) w → column_place_of (choice_of (at_choice s)) ≡ None → served_by (after_cycle s) w.request ≤ served_by s w.request }
 {}
 
-/// Whatever the calls of a channel and whatever commands it issued, each pending request, if it were served alone from now on, would be read
-/// or written in fewer than `service` clocks (`ddr_latency`), or within RCD of the cycle in which a REF of its rank lets commands come again.
+/// Whatever the calls of a channel and whatever commands it issued, each pending request, if it were served alone from now on, would be
+/// read or written in fewer than `service` clocks (`ddr_latency`), or within RCD of the cycle in which a REF of its rank lets commands come
+/// again.
 ///
 /// A law: it does nothing.
 pub fn requests_start_close()
     ensures { (config : Config) (start : ℕ) (calls : List Call) → AreCalls config calls → (place : ℕ) (w : Waiting) → slice_get (run config start calls).state.pending place ≡ Some w → served_by (run config start calls).state w.request + 1 ≤ max ((run config start calls).state.now + service (clocks_of config)) (refreshed_from config.timing w.request.place.rank (run config start calls).state.trace + config.timing.rcd + 1) }
 {}
 
-/// How far a REF or a PREA moves that cycle. `own`: behind a REF of the request's rank it lies no later than the REF, the tick that makes the
-/// rank overdue, and the last read or write of the channel ask. `other`: a REF or a PREA of another rank puts it off by a clock at most.
+/// How far a REF or a PREA moves that cycle. `own`: behind a REF of the request's rank it lies no later than the REF, the tick that makes
+/// the rank overdue, and the last read or write of the channel ask. `other`: a REF or a PREA of another rank puts it off by a clock at
+/// most.
 ///
 /// A law: it does nothing.
 pub fn refreshes_move_requests()

@@ -1,6 +1,7 @@
 //! All that speaks against a table.
 //!
-//! `table`, `relations`, `nearest` and `shown` stand below, and `ddr_timing`'s look into a table; `lint` asks for the faults of a text's table.
+//! `table`, `relations`, `nearest` and `shown` stand below, and `ddr_timing`'s look into a table; `lint` asks for the faults of a text's
+//! table.
 ghost use Rattle.std.specs.Prelude.{◌≡◌, ◌++◌, IfOk, None, OnOk, Some, map, option_map, option_to_list, false, if◌then◌else◌};
 ghost use Rattle.std.specs.List.{filter_map};
 ghost use Rattle.toml.specs.View.{table_view, view};

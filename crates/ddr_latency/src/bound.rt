@@ -27,7 +27,8 @@ pub fn burst(config: &Config) -> u32
 }
 
 /// The cycles that the refresh commands of both ranks take from a request in each interval, where there are two: a REF for each one that
-/// either may owe, a PREA for each that is overdue, and a PREA of the other while nothing is pending for that. With one rank there are none.
+/// either may owe, a PREA for each that is overdue, and a PREA of the other while nothing is pending for that. With one rank there are
+/// none.
 pub fn stolen(config: &Config) -> u32
     ensures exact { result ≡ stolen config.now }
     ensures bound { result ≤ 19 }
@@ -87,9 +88,9 @@ fn rounded_up(clocks: u32, interval: u32) -> u32
     (clocks + interval - 1) / interval
 }
 
-/// The clocks of a request at most, where `leaves_room`: it takes fewer than so many from its admission to its completion. They are the cap,
-/// behind which no younger request is served before it; those in which all that are pending are served; those of the refreshes that these
-/// meet, and of one more, that may be under way; and those of its own data.
+/// The clocks of a request at most, where `leaves_room`: it takes fewer than so many from its admission to its completion. They are the
+/// cap, behind which no younger request is served before it; those in which all that are pending are served; those of the refreshes that
+/// these meet, and of one more, that may be under way; and those of its own data.
 pub fn latency(config: &Config) -> u32
     ensures { result ≡ latency config.now }
 {

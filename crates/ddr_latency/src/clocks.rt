@@ -120,9 +120,9 @@ impl Clocks {
 }
 
 /// Whether each refresh interval leaves time to serve a request. Where it does, with one rank each request is served (a law of
-/// `ddr_deadline`; with two its premise is `leaves_room` of `bound`, a few clocks more); where it doesn't, one may wait for ever, since each
-/// refresh may close its row before it is read. (As a threshold on REFI it is exact: of the configurations one clock below it, some starve
-/// a request. That is tried, and not proved.)
+/// `ddr_deadline`; with two its premise is `leaves_room` of `bound`, a few clocks more); where it doesn't, one may wait for ever, since
+/// each refresh may close its row before it is read. (As a threshold on REFI it is exact: of the configurations one clock below it, some
+/// starve a request. That is tried, and not proved.)
 pub fn leaves_time(config: &Config) -> bool
     ensures { result ≡ leaves_time config.now }
 {

@@ -1,6 +1,6 @@
 -- That each stalled clock is counted once.
 use Rattle.std.proofs.Common.{◌≡◌, ◌<◌, ◌≤◌, ℕ, ◌+◌, ◌-◌, ◌^◌, Bool, true, false, if◌then◌else◌, List, [], ◌∷◌, ◌++◌, length, fold, get_or, set, Option, None, Some, refl, sym, subst, ap, ◌∙◌, arith}
-use Rattle.std.specs.Prelude.{◌==◌, ◌&&◌, ◌||◌, min, sum_by}
+use Rattle.std.specs.Prelude.{◌==◌, ◌&&◌, ◌||◌, sum_by}
 use Rattle.std.proofs.lemmas.List.Sums.{get_or-le-sum_by, sum_by-cons, sum_by-set}
 use Rattle.ddr_trace.specs.declared.command.Entry.{Entry}
 use Rattle.ddr_trace.specs.declared.rule.Rule.{Rule}
@@ -9,8 +9,8 @@ use Rattle.ddr_trace.specs.Rules.{is_in, last_cycle_below}
 use Rattle.ddr_statistics.specs.Noted.{raised}
 use Rattle.ddr_world.specs.Promise.{is_for_refresh}
 use Rattle.ddr_ledger.specs.declared.causes.Causes.{Causes}
-use Rattle.ddr_ledger.specs.Causes.{and_clocks, charged, clocks_of, place_of}
-use Rattle.ddr_ledger.specs.Stalls.{Stalled, at_cap, ended, held_by, idle_of, idled, issued, passed}
+use Rattle.ddr_ledger.specs.Causes.{and_clocks, charged, place_of}
+use Rattle.ddr_ledger.specs.Stalls.{Stalled, at_cap, ended, held_by, idle_of, idled, passed}
 use Rattle.ddr_ledger.specs.Sums.{AddsUp, stalled_clocks, sum_of}
 
 -- each rule has its place

@@ -1,6 +1,5 @@
 -- In how many clocks of a channel requests were pending and no command went out, by what the next command waited for.
-use Rattle.std.specs.Prelude.{ℕ, zero, suc, ◌+◌, ◌-◌, List, [], ◌∷◌, drop, fold, replicate, slice_get, slice_index_or, slice_set, Option, Some, None}
-use Rattle.std.specs.Option.{option_map_or}
+use Rattle.std.specs.Prelude.{ℕ, ◌-◌, fold, replicate, slice_index_or, slice_set, Option, Some, None}
 use Rattle.ddr_statistics.specs.Noted.{raised}
 use Rattle.ddr_trace.specs.declared.rule.Rule.{Rule}
 use Rattle.ddr_trace.specs.Names.{number_of}

@@ -1,5 +1,5 @@
 -- What contracts see of the stalled clocks of a channel.
-use Rattle.std.specs.Prelude.{◌≡◌, ℕ}
+use Rattle.std.specs.Prelude.{◌≡◌}
 use Rattle.ddr_legality.specs.OnePass.{HasPassed, config_of, start_of}
 use Rattle.ddr_ledger.specs.declared.stalls.Stalls.TheInside.{Inside}
 use Rattle.ddr_ledger.specs.Stalls.{Stalled}

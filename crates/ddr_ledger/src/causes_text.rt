@@ -8,8 +8,8 @@ use crate::causes::{Causes, RULES};
 use ddr_trace::rule::Rule;
 use std::alloc::{AllocError, Global};
 
-/// The lines of a channel's stalled clocks: those of all causes together, those for the cap and for the scheduler's choice, and those of each rule that
-/// has some.
+/// The lines of a channel's stalled clocks: those of all causes together, those for the cap and for the scheduler's choice, and those of
+/// each rule that has some.
 #[tactic(auto, unfolding(crate::specs::CausesText::causes_lines))]
 pub fn causes_lines(alloc: Global, causes: &Causes) -> Result<String, AllocError>
     ensures { IfOk result (λ text. string_bytes text ≡ causes_lines causes.now) }

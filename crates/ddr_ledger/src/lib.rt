@@ -1,13 +1,15 @@
 //! What a replay counts of its requests and of its channels' commands, and the text of it.
 //!
-//! Below stand the stream's requests (`ddr_stream`), the core (`ddr_world`), the statistics of its channels (`ddr_counting`, `ddr_statistics`)
-//! and the numbers of requests (`ddr_measure`). Above stands `ddr_replay`, which makes the rounds and tells here what comes of them.
+//! Below stand the stream's requests (`ddr_stream`), the core (`ddr_world`), the statistics of its channels (`ddr_counting`,
+//! `ddr_statistics`) and the numbers of requests (`ddr_measure`). Above stands `ddr_replay`, which makes the rounds and tells here what
+//! comes of them.
 //!
 //! `ledger` keeps when requests were accepted, how they found their banks (`found`), how long they took (`times`), how those of each port
-//! found theirs (`rows`), how many were outstanding (`windows`), for how long ports waited (`waited`), what channels did in their cycles (`activity`), and what their commands waited
-//! for while requests were pending (`stalls`, by `causes`; `sums` says that these add up). `served` is a request whose reply was released, with its line of text, and
-//! `measured` hands it to `ddr_measure`. `numbers` counts what a replay comes to, `places` is the text of ranks and banks, `causes_text`
-//! that of causes, and `times_report` that of how long requests took. `drampower` has commands in DRAMPower's form.
+//! found theirs (`rows`), how many were outstanding (`windows`), for how long ports waited (`waited`), what channels did in their cycles
+//! (`activity`), and what their commands waited for while requests were pending (`stalls`, by `causes`; `sums` says that these add up).
+//! `served` is a request whose reply was released, with its line of text, and `measured` hands it to `ddr_measure`. `numbers` counts what a
+//! replay comes to, `places` is the text of ranks and banks, `causes_text` that of causes, and `times_report` that of how long requests
+//! took. `drampower` has commands in DRAMPower's form.
 #![tactic(auto)]
 
 pub mod activity;

@@ -15,7 +15,7 @@ use ddr_stream::requests::Requests;
 use ddr_text::fault::Fault;
 use ddr_timing::units::CLOCK_STOP;
 use ddr_world::world::World;
-use std::alloc::{AllocError, Global};
+use std::alloc::Global;
 
 /// The numbers of a channel's commands, or of those of several. Each number stops at the last one that a `u64` holds, here and below.
 #[derive(Clone, Copy, Debug, PartialEq, Eq)]

@@ -1,10 +1,8 @@
 //! In which clocks of a channel requests are pending and no command goes out, and what the next command waits for in them.
 //!
 //! `causes` and the checker of `ddr_legality`, which tells what a command would have broken earlier, stand below, and `ledger` above.
-ghost use Rattle.std.specs.Prelude.{◌≡◌, [], IfOk};
-ghost use Rattle.ddr_legality.specs.OnePass.{HasPassed, config_of, start_of};
+ghost use Rattle.std.specs.Prelude.{◌≡◌, IfOk};
 ghost use Rattle.ddr_world.specs.Promise.{is_for_refresh};
-ghost use Rattle.ddr_ledger.specs.Causes.{clocks_of};
 ghost use Rattle.ddr_ledger.specs.Stalls.{and_stalls, at_cap, ended, held_by, idle_of, idled, issued, no_stalls, passed, stalls_together};
 
 use crate::causes::Causes;

@@ -449,9 +449,9 @@ burst = 8
 ";
 
 /// 365 clocks are five times 118 - 45 = 73, and 1000 + 320 + 6 * 45 + 8 = 1598. Where nothing is left over, each request meets a refresh:
-/// 1000 + 320 + 17 * 45 + 8 = 2093. Nine requests have 9 * 20 + 45 = 225 clocks, more than 155, and 1000 + 180 + 3 * 45 + 8 = 1323. With CWL 5
-/// a bank is closed 5 + 4 + 5 + 4 = 18 clocks behind a write, a request takes 22, and sixteen of them 352 + 45 = 397 clocks: three intervals,
-/// and 1 + 352 + 4 * 45 + 9 = 542.
+/// 1000 + 320 + 17 * 45 + 8 = 2093. Nine requests have 9 * 20 + 45 = 225 clocks, more than 155, and 1000 + 180 + 3 * 45 + 8 = 1323. With
+/// CWL 5 a bank is closed 5 + 4 + 5 + 4 = 18 clocks behind a write, a request takes 22, and sixteen of them 352 + 45 = 397 clocks: three
+/// intervals, and 1 + 352 + 4 * 45 + 9 = 542.
 const BOUNDS: &[Case] = &[
     (&[], Verdict::Clean, SAMPLE_BOUND),
     (&[("faw = 12", "faw = 7")], Verdict::Clean, SAMPLE_BOUND),

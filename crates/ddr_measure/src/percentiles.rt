@@ -10,8 +10,8 @@ ghost use Rattle.ddr_measure.specs.declared.group.Group.{Group};
 ghost use Rattle.ddr_measure.specs.declared.span.Span.{Span};
 ghost use Rattle.ddr_measure.specs.declared.timed.Timed.{Timed};
 
-/// Of all requests, fewer than 2^64, whose clocks a `u64` holds, and of a group that has one: the bound that is told of so many in a thousand
-/// is the true percentile or above it by an eighth at most, and below 16 clocks it is the percentile.
+/// Of all requests, fewer than 2^64, whose clocks a `u64` holds, and of a group that has one: the bound that is told of so many in a
+/// thousand is the true percentile or above it by an eighth at most, and below 16 clocks it is the percentile.
 ///
 /// A law: it does nothing.
 pub fn bounds_are_percentiles()

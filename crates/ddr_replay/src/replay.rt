@@ -45,9 +45,9 @@ use std::alloc::Global;
 /// serve a request, requests wait, and for `STUCK_INTERVALS` of them none was accepted or served. Where the run ends so, what is left of
 /// the input is read first, since the fault of a line is told before. `watch` is told now and then how far the rounds have come.
 ///
-/// Where requests or commands are asked for, what was written before a fault stands: it is the beginning of what is told of the run, as far as
-/// the rounds came. Else nothing is written before all of it is there, so only `Write` may leave a part of it. Over bytes in memory it never
-/// fails as `Read` or as `Write`.
+/// Where requests or commands are asked for, what was written before a fault stands: it is the beginning of what is told of the run, as far
+/// as the rounds came. Else nothing is written before all of it is there, so only `Write` may leave a part of it. Over bytes in memory it
+/// never fails as `Read` or as `Write`.
 pub fn replay<R: Source, W: Sink, V: Watch>(
     alloc: Global,
     sample: bool,

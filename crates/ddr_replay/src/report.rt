@@ -1,7 +1,7 @@
 //! The statistics of a replay as text.
 //!
-//! `numbers`, `rows`, `waited`, `activity`, `stalls`, `windows`, `places`, `times_report` and `ddr_statistics` stand below, and `telling` above. `specs/Report.antt` has
-//! the text, byte for byte.
+//! `numbers`, `rows`, `waited`, `activity`, `stalls`, `windows`, `places`, `times_report` and `ddr_statistics` stand below, and `telling`
+//! above. `specs/Report.antt` has the text, byte for byte.
 ghost use Rattle.std.specs.Prelude.{◌≡◌, IfOk, slice_index_or, string_bytes};
 ghost use Rattle.ddr_ledger.specs.Activities.{and_drains, drains_together};
 ghost use Rattle.ddr_ledger.specs.Activity.{no_activity};

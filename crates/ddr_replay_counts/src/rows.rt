@@ -18,9 +18,9 @@ pub fn replay_counts_agree()
     ensures replayed { (config : Config) (keeps : Bool) (order : Order) (queues : Queues) (n : ℕ) (last : Run) → replayed config n (begun config keeps order queues) ≡ Ok last → CountsAgree config last }
 {}
 
-/// And they add up, by a sum that stops nowhere, where the rounds that were made (`round` of `Run`) are fewer for all channels together than
-/// 2^64. A replay makes at most `MOST_ROUNDS` rounds, fewer than 2^32, and a `Geometry` has at most 4 channels: so it is in each that the
-/// program makes.
+/// And they add up, by a sum that stops nowhere, where the rounds that were made (`round` of `Run`) are fewer for all channels together
+/// than 2^64. A replay makes at most `MOST_ROUNDS` rounds, fewer than 2^32, and a `Geometry` has at most 4 channels: so it is in each that
+/// the program makes.
 ///
 /// A law: it does nothing.
 pub fn replay_counts_add_up()

@@ -14,8 +14,8 @@ ghost use Rattle.ddr_replay_deadline.specs.Waits.{IsAdmittedIn};
 /// refresh interval leaves time to serve a request (`leaves_room`). With `replay_serves_in_time`, one that is complete took fewer than
 /// `(intake + 1) * latency` from its acceptance to its completion. It holds behind any number of turns (`turns`), and at the end of a
 /// replay that comes to it (`replayed`); the events are those of `replay_serves_in_time`. They tell the clock of each acceptance
-/// (`acceptances`) in the order of the acceptance list, of whose requests the channel admits the first ones, in that order (`ddr_world`): so
-/// the request that was accepted at a place of the one list was admitted in the cycle at that place of the other (`IsAdmittedIn`).
+/// (`acceptances`) in the order of the acceptance list, of whose requests the channel admits the first ones, in that order (`ddr_world`):
+/// so the request that was accepted at a place of the one list was admitted in the cycle at that place of the other (`IsAdmittedIn`).
 ///
 /// A law: it does nothing. It counts from the acceptance: the time that a request waits for its port to accept it is not counted, and
 /// neither is that in which its reply waits for those before it. It counts cycles of the channel, of which each turn makes one.

@@ -52,10 +52,10 @@ impl Ended {
 
 /// Runs ports and workers to their ends, each in a thread. The ports ask for what the script says.
 ///
-/// None begins before all threads are there; where the system gives too few of them this fails as `ThreadsRefused`.
-/// Where one stops before its end the others stop too, by the flag, and it is told why the first one stopped by itself, in the
-/// order of channels and then of ports; or that all were told to, where a channel went on no more, as the flag says then. While threads run, memory is asked for by the replies' texts and the
-/// channels' cycles alone.
+/// None begins before all threads are there; where the system gives too few of them this fails as `ThreadsRefused`. Where one stops before
+/// its end the others stop too, by the flag, and it is told why the first one stopped by itself, in the order of channels and then of
+/// ports; or that all were told to, where a channel went on no more, as the flag says then. While threads run, memory is asked for by the
+/// replies' texts and the channels' cycles alone.
 pub fn run_all<R: Threads + Wait + Sync>(
     rt: &R,
     alloc: Global,

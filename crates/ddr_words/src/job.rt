@@ -30,10 +30,11 @@ pub enum JobError {
 
 /// The job that the words of a command line state, of which the first is the program's name.
 ///
-/// The subcommands are `sim`, `run`, `replay`, `check`, `draw`, `map` and `lint`. Each has the flag `--sample`, `sim` the option `--trace C`
-/// with the number of a channel, a `u32`, and `check` the flags `--explain` and `--all` and the option `--most N` with a `u32`, which
-/// asks for all faults too. `replay` has the flags `--dramsim3`, `--ramulator2`, `--spread`, `--wrap`, `--from-first`, `--fair`, `--requests`, `--progress` and
-/// `--numbers`, and `--trace C`, `--drampower C`, `--skip N`, `--tck PICOSECONDS` and `--every CYCLES`, each with a `u32`. `check` has the flags `--stream`, `--dramsim3` and `--ramulator2` and the options `--start CYCLE` with a `u64` and
+/// The subcommands are `sim`, `run`, `replay`, `check`, `draw`, `map` and `lint`. Each has the flag `--sample`, `sim` the option `--trace
+/// C` with the number of a channel, a `u32`, and `check` the flags `--explain` and `--all` and the option `--most N` with a `u32`, which
+/// asks for all faults too. `replay` has the flags `--dramsim3`, `--ramulator2`, `--spread`, `--wrap`, `--from-first`, `--fair`,
+/// `--requests`, `--progress` and `--numbers`, and `--trace C`, `--drampower C`, `--skip N`, `--tck PICOSECONDS` and `--every CYCLES`, each
+/// with a `u32`. `check` has the flags `--stream`, `--dramsim3` and `--ramulator2` and the options `--start CYCLE` with a `u64` and
 /// `--channel C` with a `u32` too: each of them asks for captured commands. `draw` has the flag `--svg` and the options `--from CYCLE` and
 /// `--to CYCLE`, and `lint` the flag `--bound`. No words, or the name alone, are read as `sim --sample`.
 ///

@@ -13,9 +13,9 @@
 //! A worker drives its channel beside a judge (`judged`), which is told each command as it is issued: so it is known by a look at the
 //! trace that it is legal, whether or not the trace is kept.
 //!
-//! Below stand one port (`ddr_ports`), one channel (`ddr_channel`), the judge (`ddr_judge`), the right replies to a list of requests as the core
-//! defines them and the items of a request queue (`ddr_world`), the requests (`ddr_address_map`) and the configuration (`ddr_timing`). Above stands the
-//! program's `run`. No call starts a thread: ports and workers are moved into threads of the caller.
+//! Below stand one port (`ddr_ports`), one channel (`ddr_channel`), the judge (`ddr_judge`), the right replies to a list of requests as the
+//! core defines them and the items of a request queue (`ddr_world`), the requests (`ddr_address_map`) and the configuration (`ddr_timing`).
+//! Above stands the program's `run`. No call starts a thread: ports and workers are moved into threads of the caller.
 #![tactic(auto)]
 
 pub mod closing;

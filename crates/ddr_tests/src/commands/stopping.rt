@@ -272,8 +272,8 @@ fn a_clock_that_is_spent_ends_the_run(rt: HostRuntime) -> Result<(), Fail> {
     Ok(())
 }
 
-/// Reads of which each wants another row of one bank. In profile S with RCD at 176 a refresh takes 21 clocks to come and 20 to end, and with
-/// RCD that is 217, above REFI.
+/// Reads of which each wants another row of one bank. In profile S with RCD at 176 a refresh takes 21 clocks to come and 20 to end, and
+/// with RCD that is 217, above REFI.
 const STARVED: &str = "read 0 0 1\nread 0 8192 1\nread 0 16384 1\nread 0 24576 1\n";
 
 /// How often such a run is made.

@@ -290,7 +290,8 @@ fn replays(rt: HostRuntime) -> Result<(), Fail> {
     states(&rt, alloc, "ddr replay", plain)
 }
 
-/// Words behind `ddr replay --sample --numbers`, how many requests are left out, how long a clock takes, and how many cycles an interval has.
+/// Words behind `ddr replay --sample --numbers`, how many requests are left out, how long a clock takes, and how many cycles an interval
+/// has.
 const NUMBERS: &[(&str, u32, Option<u32>, Option<u32>)] = &[
     ("", 0, None, None),
     (" --skip 0", 0, None, None),
