@@ -12,13 +12,13 @@ use Rattle.ddr_hazards.specs.declared.waiting.Waiting.{Waiting}
 use Rattle.ddr_hazards.specs.Hazards.{is_blocked}
 use Rattle.ddr_hazards.specs.PendingList.{is_same_kind}
 use Rattle.ddr_refresh.specs.Refreshes.{Refreshes, after_ticks, debt_of, is_forced}
-use Rattle.ddr_arbiter.specs.declared.candidates.Served.{Served}
+use Rattle.ddr_arbiter.specs.declared.candidates.CandidateSet.{CandidateSet}
 use Rattle.ddr_arbiter.specs.declared.choice.Choice.{Choice}
 use Rattle.ddr_arbiter.specs.declared.choice.Choice.TheVariants as choice
 use Rattle.ddr_arbiter.specs.Choice.{access_choice, can_column, candidates, candidates_of, choice_of, column_choice, column_place, first_choice, is_idly_forced, is_oldest_capped, is_overdue, is_rank_forced, is_rank_idle, is_something, of_kind, or_all, passes_at, ranks_of, refresh_choice, refresh_choice_at, row_choice, row_choice_at, served_kind}
 use Rattle.ddr_arbiter.specs.Forced.{AreForced}
 use Rattle.ddr_arbiter.specs.Quiet.{IsQuietUntil, later}
-use Rattle.ddr_arbiter.specs.Served.{is_candidate, is_free_of_marks, is_of_kind, places_of}
+use Rattle.ddr_arbiter.specs.CandidateSet.{is_candidate, is_free_of_marks, is_of_kind, places_of}
 use Rattle.ddr_arbiter.specs.Situation.{Situation}
 use Rattle.ddr_arbiter.specs.Until.{AreSteadyUntil, IsAgeSteadyUntil, IsCandidate, IsRefreshStuckUntil, IsStuck, IsStuckUntil}
 use Rattle.ddr_arbiter.proofs.LawLemmas.{passes_some}
@@ -117,13 +117,13 @@ none_among kept test (suc n) none =
     by_kept false is = rw is refl
 
 -- a place that passes is that of a request
-candidate_at : (c : Served) (waiting : List Waiting) (place : ℕ) → place < c.count → is_candidate c waiting place ≡ true → (w : Waiting) × IsCandidate c waiting place w
+candidate_at : (c : CandidateSet) (waiting : List Waiting) (place : ℕ) → place < c.count → is_candidate c waiting place ≡ true → (w : Waiting) × IsCandidate c waiting place w
 candidate_at c waiting place within passes =
     let parts = and_parts (is_of_kind c.kind waiting place) (is_free_of_marks c.forced waiting place) passes in
     let found = passes_some (λ w. is_same_kind c.kind w.request.echo.kind) (slice_get waiting place) parts.0 in
     (found.0, record { within = within; passes = passes; here = found.1 })
 
-no_column : (s : Situation) (c : Served) → ((place : ℕ) (w : Waiting) → IsCandidate c s.waiting place w → IsStuck s.bus c s.waiting s.room w.request.place) →
+no_column : (s : Situation) (c : CandidateSet) → ((place : ℕ) (w : Waiting) → IsCandidate c s.waiting place w → IsStuck s.bus c s.waiting s.room w.request.place) →
     column_place s.bus s.waiting (places_of c s.waiting) s.room ≡ None
 no_column s c stuck = by_room s.room refl
   where
@@ -133,7 +133,7 @@ no_column s c stuck = by_room s.room refl
         let at = candidate_at c s.waiting place within passes in
         stuck_column s.bus c s.waiting s.room place at.0 at.1 (stuck place at.0 at.1) is)
 
-no_row : (s : Situation) (c : Served) → ((place : ℕ) (w : Waiting) → IsCandidate c s.waiting place w → IsStuck s.bus c s.waiting s.room w.request.place) →
+no_row : (s : Situation) (c : CandidateSet) → ((place : ℕ) (w : Waiting) → IsCandidate c s.waiting place w → IsStuck s.bus c s.waiting s.room w.request.place) →
     row_choice s.bus s.waiting (places_of c s.waiting) ≡ choice.Nothing
 no_row s c stuck =
     let f : ℕ → Choice = row_choice_at s.bus s.waiting (places_of c s.waiting) in
@@ -141,13 +141,13 @@ no_row s c stuck =
     let at = candidate_at c s.waiting place within passes in
     ap is_something (stuck_row s.bus c s.waiting s.room place at.0 at.1 (stuck place at.0 at.1))))
 
-no_choice : (s : Situation) (c : Served) → ((rank : ℕ) → is_rank_forced s.waiting s.refreshes rank ≡ true → refresh_choice_at s.bus rank ≡ choice.Nothing) → candidates_of s ≡ places_of c s.waiting →
+no_choice : (s : Situation) (c : CandidateSet) → ((rank : ℕ) → is_rank_forced s.waiting s.refreshes rank ≡ true → refresh_choice_at s.bus rank ≡ choice.Nothing) → candidates_of s ≡ places_of c s.waiting →
     ((place : ℕ) (w : Waiting) → IsCandidate c s.waiting place w → IsStuck s.bus c s.waiting s.room w.request.place) → choice_of s ≡ choice.Nothing
 no_choice s c none served stuck =
     rw (no_refresh s.bus s.waiting s.refreshes none) (ap (access_choice s) served
     ∙ ap (λ o. option_map_or (column_choice s.policy.closed s.waiting) o (row_choice s.bus s.waiting (places_of c s.waiting))) (no_column s c stuck) ∙ no_row s c stuck)
 
-pub quiet_where : (s : Situation) (c : Served) (end : ℕ) → ((rank : ℕ) → is_rank_forced s.waiting s.refreshes rank ≡ true → IsRefreshStuckUntil end s.bus rank) → AreSteadyUntil end s.bus.now s.refreshes →
+pub quiet_where : (s : Situation) (c : CandidateSet) (end : ℕ) → ((rank : ℕ) → is_rank_forced s.waiting s.refreshes rank ≡ true → IsRefreshStuckUntil end s.bus rank) → AreSteadyUntil end s.bus.now s.refreshes →
     IsAgeSteadyUntil end s.bus.now s.policy.cap s.waiting → candidates_of s ≡ places_of c s.waiting →
     ((place : ℕ) (w : Waiting) → IsCandidate c s.waiting place w → IsStuckUntil end s.bus c s.waiting s.room w.request.place) → IsQuietUntil end s
 quiet_where s c end wait steady age served stuck = λ count before.

@@ -11,9 +11,9 @@ use Rattle.ddr_hazards.specs.declared.waiting.Waiting.{Waiting}
 use Rattle.ddr_arbiter.specs.Choice.{can_activate, can_precharge, is_on_other_row, is_open_row_wanted, is_row_open, open_row_at, passes_at, wants_open_row}
 use Rattle.ddr_arbiter.specs.Commands.{activate_at, precharge_at}
 use Rattle.ddr_hazards.specs.Banks.{in_bank, is_in_bank}
-use Rattle.ddr_arbiter.specs.declared.candidates.Served.{Served}
+use Rattle.ddr_arbiter.specs.declared.candidates.CandidateSet.{CandidateSet}
 use Rattle.ddr_arbiter.specs.Known.{AreInOneBank, HasNoStep}
-use Rattle.ddr_arbiter.specs.Served.{is_candidate, places_of, wants}
+use Rattle.ddr_arbiter.specs.CandidateSet.{is_candidate, places_of, wants}
 use Rattle.ddr_arbiter.specs.Until.{IsCandidate}
 use Rattle.ddr_arbiter.proofs.BankPlaceLemmas.{listed_place, place_of_bank}
 use Rattle.ddr_arbiter.proofs.LawLemmas.{passes_some}
@@ -130,7 +130,7 @@ abbrev is_wanting : Bus → Place → Waiting → Bool
 is_wanting b p w = wants_open_row b p w.request.place
 
 -- a candidate of the bank whose row is the open one
-pub candidate_wants : (b : Bus) (c : Served) (waiting : List Waiting) (p : Place) (place : ℕ) (w : Waiting) → IsCandidate c waiting place w → AreInOneBank p w.request.place →
+pub candidate_wants : (b : Bus) (c : CandidateSet) (waiting : List Waiting) (p : Place) (place : ℕ) (w : Waiting) → IsCandidate c waiting place w → AreInOneBank p w.request.place →
     is_row_open b w.request.place ≡ true → is_open_row_wanted b waiting (places_of c waiting) p ≡ true
 candidate_wants b c waiting p place w candidate bank opened =
     let here : is_wanting b p w ≡ true = rw (eq-eqb w.request.place.rank p.rank (sym bank.0), eq-eqb w.request.place.group p.group (sym bank.1), eq-eqb w.request.place.bank p.bank (sym bank.2)) opened in
@@ -140,7 +140,7 @@ candidate_wants b c waiting p place w candidate bank opened =
     (and_from (is_candidate c waiting place) (passes_at (is_wanting b p) waiting place) candidate.passes test)
 
 -- a candidate of the bank that wants the row
-pub found_wanted : (b : Bus) (c : Served) (waiting : List Waiting) (p : Place) (row k place : ℕ) → open_row_at b p ≡ Some row →
+pub found_wanted : (b : Bus) (c : CandidateSet) (waiting : List Waiting) (p : Place) (row k place : ℕ) → open_row_at b p ≡ Some row →
     in_bank p.rank p.group p.bank k waiting ≡ Some place → wants c row waiting place ≡ true → is_open_row_wanted b waiting (places_of c waiting) p ≡ true
 found_wanted b c waiting p row k place is there wanted =
     let at = place_of_bank p.rank p.group p.bank k place waiting there in
@@ -157,7 +157,7 @@ never_true true never = absurd (never refl)
 never_true false never = refl
 
 -- none of them does
-pub none_wanted : (b : Bus) (c : Served) (waiting : List Waiting) (p : Place) (row : ℕ) → open_row_at b p ≡ Some row →
+pub none_wanted : (b : Bus) (c : CandidateSet) (waiting : List Waiting) (p : Place) (row : ℕ) → open_row_at b p ≡ Some row →
     ((j place : ℕ) → in_bank p.rank p.group p.bank j waiting ≡ Some place → wants c row waiting place ≡ false) → is_open_row_wanted b waiting (places_of c waiting) p ≡ false
 none_wanted b c waiting p row is none =
     any_kept (is_candidate c waiting) (passes_at (is_wanting b p) waiting) (range_with_len 0 c.count)

@@ -18,12 +18,12 @@ use Rattle.ddr_address_map.specs.declared.request.Kind.{Kind}
 use Rattle.ddr_address_map.specs.declared.request.Kind.TheVariants.{Read, Write}
 use Rattle.ddr_hazards.specs.declared.waiting.Waiting.{Waiting}
 use Rattle.ddr_hazards.specs.PendingList.{is_same_kind}
-use Rattle.ddr_arbiter.specs.declared.candidates.Served.{Served}
+use Rattle.ddr_arbiter.specs.declared.candidates.CandidateSet.{CandidateSet}
 use Rattle.ddr_arbiter.specs.declared.choice.Choice.TheVariants as choice
 use Rattle.ddr_arbiter.specs.Choice.{can_column, can_precharge, is_open_row_wanted, is_row_open, open_row_at, row_choice_at}
 use Rattle.ddr_arbiter.specs.Commands.{activate_at, column_at, column_of, precharge_at}
 use Rattle.ddr_arbiter.specs.Known.{AreInOneBank}
-use Rattle.ddr_arbiter.specs.Served.{is_free_of_marks, is_of_kind, places_of}
+use Rattle.ddr_arbiter.specs.CandidateSet.{is_free_of_marks, is_of_kind, places_of}
 use Rattle.ddr_arbiter.specs.Until.{AreStuckUntil, IsBankStuckUntil, IsCandidate, IsStuck, IsStuckUntil, MarkTellsUntil}
 use Rattle.ddr_arbiter.proofs.ClosingLemmas.{closed_when_legal}
 use Rattle.ddr_arbiter.proofs.CommandLemmas.{closed_no_column, column_bank, first_row, legal_keeps}
@@ -82,7 +82,7 @@ closing_no_precharge b waiting places p none = elim (cases_Bool (is_legal_now b 
   | inr not_legal ↦ and_right _ (is_legal_now b (precharge_at p)) not_legal
 ]
 
-pub idle_stuck : (b : Bus) (c : Served) (waiting : List Waiting) (room : Bool) (p : Place) (first : ℕ) → ready_row (bank_behind (precharge_at p) b.trace) ≡ None → first ≤ LAST_CYCLE →
+pub idle_stuck : (b : Bus) (c : CandidateSet) (waiting : List Waiting) (room : Bool) (p : Place) (first : ℕ) → ready_row (bank_behind (precharge_at p) b.trace) ≡ None → first ≤ LAST_CYCLE →
     IsAllowedFrom b (activate_at (first_row p)) first → IsBankStuckUntil first b c waiting room p
 idle_stuck b c waiting room p first none bound allowed = λ place w candidate same count before.
     let q : Place = w.request.place in
@@ -96,7 +96,7 @@ idle_stuck b c waiting room p first none bound allowed = λ place w candidate sa
     )
 
 -- a bank whose row no candidate wants
-pub unwanted_stuck : (b : Bus) (c : Served) (waiting : List Waiting) (room : Bool) (p : Place) (row first : ℕ) → ready_row (bank_behind (precharge_at p) b.trace) ≡ Some row →
+pub unwanted_stuck : (b : Bus) (c : CandidateSet) (waiting : List Waiting) (room : Bool) (p : Place) (row first : ℕ) → ready_row (bank_behind (precharge_at p) b.trace) ≡ Some row →
     ((now : Bus) → open_row_at now p ≡ Some row → is_open_row_wanted now waiting (places_of c waiting) p ≡ false) → first ≤ LAST_CYCLE → IsAllowedFrom b (precharge_at p) first →
     IsBankStuckUntil first b c waiting room p
 unwanted_stuck b c waiting room p row first ready unwanted bound allowed = λ place w candidate same count before.
@@ -112,7 +112,7 @@ unwanted_stuck b c waiting room p row first ready unwanted bound allowed = λ pl
     )
 
 -- a bank whose row some candidate wants
-pub wanted_stuck : (b : Bus) (c : Served) (waiting : List Waiting) (room : Bool) (p : Place) (row end : ℕ) → ready_row (bank_behind (precharge_at p) b.trace) ≡ Some row →
+pub wanted_stuck : (b : Bus) (c : CandidateSet) (waiting : List Waiting) (room : Bool) (p : Place) (row end : ℕ) → ready_row (bank_behind (precharge_at p) b.trace) ≡ Some row →
     ((now : Bus) → open_row_at now p ≡ Some row → is_open_row_wanted now waiting (places_of c waiting) p ≡ true) →
     ((count : ℕ) → b.now + count < end → room ≡ true → is_legal_now (passed count b) (column_at false c.kind (record p { row = row; line = 0 })) ≡ false) →
     IsBankStuckUntil end b c waiting room p
@@ -127,17 +127,17 @@ wanted_stuck b c waiting room p row end ready wanted refused = λ place w candid
 
 -- an earlier end
 
-pub sooner : (later end : ℕ) (b : Bus) (c : Served) (waiting : List Waiting) (room : Bool) (p : Place) → end ≤ later → IsStuckUntil later b c waiting room p → IsStuckUntil end b c waiting room p
+pub sooner : (later end : ℕ) (b : Bus) (c : CandidateSet) (waiting : List Waiting) (room : Bool) (p : Place) → end ≤ later → IsStuckUntil later b c waiting room p → IsStuckUntil end b c waiting room p
 sooner later end b c waiting room p below stuck = λ count before. stuck count (omega (arith, below, before))
 
-pub bank_sooner : (later end : ℕ) (b : Bus) (c : Served) (waiting : List Waiting) (room : Bool) (p : Place) → end ≤ later → IsBankStuckUntil later b c waiting room p → IsBankStuckUntil end b c waiting room p
+pub bank_sooner : (later end : ℕ) (b : Bus) (c : CandidateSet) (waiting : List Waiting) (room : Bool) (p : Place) → end ≤ later → IsBankStuckUntil later b c waiting room p → IsBankStuckUntil end b c waiting room p
 bank_sooner later end b c waiting room p below stuck = λ place w candidate same. sooner later end b c waiting room w.request.place below (stuck place w candidate same)
 
 -- what holds of a bank, by another place of it
-pub bank_shared : (end : ℕ) (b : Bus) (c : Served) (waiting : List Waiting) (room : Bool) (p q : Place) → AreInOneBank p q → IsBankStuckUntil end b c waiting room p → IsBankStuckUntil end b c waiting room q
+pub bank_shared : (end : ℕ) (b : Bus) (c : CandidateSet) (waiting : List Waiting) (room : Bool) (p q : Place) → AreInOneBank p q → IsBankStuckUntil end b c waiting room p → IsBankStuckUntil end b c waiting room q
 bank_shared end b c waiting room p q same stuck = λ place w candidate there. stuck place w candidate (same.0 ∙ there.0, same.1 ∙ there.1, same.2 ∙ there.2)
 
-pub marks_sooner : (later end : ℕ) (b : Bus) (c : Served) (waiting : List Waiting) (room : Bool) (marks : List Bool) → end ≤ later → AreStuckUntil later b c waiting room marks →
+pub marks_sooner : (later end : ℕ) (b : Bus) (c : CandidateSet) (waiting : List Waiting) (room : Bool) (marks : List Bool) → end ≤ later → AreStuckUntil later b c waiting room marks →
     AreStuckUntil end b c waiting room marks
 marks_sooner later end b c waiting room marks below told = λ p inside. by_mark p _ (told p inside)
   where
@@ -154,7 +154,7 @@ same_kind Write Write same = refl
 same_kind Read Write same = absurd (false≢true same)
 same_kind Write Read same = absurd (false≢true same)
 
-pub stuck_column : (b : Bus) (c : Served) (waiting : List Waiting) (room : Bool) (place : ℕ) (w : Waiting) → IsCandidate c waiting place w → IsStuck b c waiting room w.request.place → room ≡ true →
+pub stuck_column : (b : Bus) (c : CandidateSet) (waiting : List Waiting) (room : Bool) (place : ℕ) (w : Waiting) → IsCandidate c waiting place w → IsStuck b c waiting room w.request.place → room ≡ true →
     can_column b waiting place ≡ false
 stuck_column b c waiting room place w candidate stuck has_room =
     let parts = and_parts (is_of_kind c.kind waiting place) (is_free_of_marks c.forced waiting place) candidate.passes in
@@ -162,6 +162,6 @@ stuck_column b c waiting room place w candidate stuck has_room =
     ap (λ o. option_map_or (λ (v : Waiting). is_legal_now b (column_of false v.request)) o false) candidate.here
     ∙ ap (λ k. is_legal_now b (column_at false k w.request.place)) (sym (same_kind c.kind w.request.echo.kind of_kind)) ∙ stuck.0 has_room
 
-pub stuck_row : (b : Bus) (c : Served) (waiting : List Waiting) (room : Bool) (place : ℕ) (w : Waiting) → IsCandidate c waiting place w → IsStuck b c waiting room w.request.place →
+pub stuck_row : (b : Bus) (c : CandidateSet) (waiting : List Waiting) (room : Bool) (place : ℕ) (w : Waiting) → IsCandidate c waiting place w → IsStuck b c waiting room w.request.place →
     row_choice_at b waiting (places_of c waiting) place ≡ choice.Nothing
 stuck_row b c waiting room place w candidate stuck = rw (candidate.here, stuck.1.0, stuck.1.1) refl

@@ -6,8 +6,8 @@ use Rattle.ddr_address_map.specs.declared.request.Kind.{Kind}
 use Rattle.ddr_hazards.specs.declared.waiting.Waiting.{Waiting}
 use Rattle.ddr_hazards.specs.Banks.{bank_number}
 use Rattle.ddr_hazards.specs.PendingList.{IsInRank}
-use Rattle.ddr_arbiter.specs.declared.columns.Bank.{Bank}
-use Rattle.ddr_arbiter.specs.declared.columns.Bank.TheVariants as bank
+use Rattle.ddr_arbiter.specs.declared.columns.KnownBank.{KnownBank}
+use Rattle.ddr_arbiter.specs.declared.columns.KnownBank.TheVariants as bank
 use Rattle.ddr_arbiter.specs.declared.rows.Step.{Step}
 use Rattle.ddr_arbiter.specs.declared.rows.Step.TheVariants as step
 use Rattle.ddr_arbiter.specs.Choice.{can_activate, can_precharge, open_row_at}
@@ -18,12 +18,12 @@ abbrev pub AreInOneBank : Place → Place → Type 0
 AreInOneBank p q = (p.rank ≡ q.rank) × (p.group ≡ q.group) × (p.bank ≡ q.bank)
 
 -- what the entry of a place's bank says of reads or of writes there
-abbrev pub Tells : Bus → Kind → Place → Option Bank → Type 0
+abbrev pub Tells : Bus → Kind → Place → Option KnownBank → Type 0
 Tells b kind p (Some (bank.Open row)) = open_row_at b p ≡ Some row
 Tells b kind p (Some bank.Refused) = is_legal_now b (column_at false kind p) ≡ false
 Tells b kind p _ = Unit {0}
 
-abbrev pub AreKnown : Bus → Kind → List Bank → Type 0
+abbrev pub AreKnown : Bus → Kind → List KnownBank → Type 0
 AreKnown b kind banks = (p : Place) → IsInRank p → Tells b kind p (slice_get banks (bank_number p))
 
 -- neither an ACT nor a PRE can be chosen for a request to the place

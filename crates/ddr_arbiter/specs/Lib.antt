@@ -5,6 +5,6 @@ pub mod Known
 pub mod Laws
 pub mod Mode
 pub mod Quiet
-pub mod Served
+pub mod CandidateSet
 pub mod Situation
 pub mod Until

@@ -7,12 +7,12 @@ use Rattle.ddr_hazards.specs.declared.waiting.Waiting.{Waiting}
 use Rattle.ddr_hazards.specs.Banks.{bank_number}
 use Rattle.ddr_hazards.specs.PendingList.{IsInRank}
 use Rattle.ddr_refresh.specs.Refreshes.{Refreshes, after_ticks, debt_of}
-use Rattle.ddr_arbiter.specs.declared.candidates.Served.{Served}
+use Rattle.ddr_arbiter.specs.declared.candidates.CandidateSet.{CandidateSet}
 use Rattle.ddr_arbiter.specs.declared.choice.Choice.TheVariants as choice
 use Rattle.ddr_arbiter.specs.Choice.{is_oldest_capped, refresh_choice_at}
 use Rattle.ddr_arbiter.specs.Commands.{column_at}
 use Rattle.ddr_arbiter.specs.Known.{AreInOneBank, HasNoStep}
-use Rattle.ddr_arbiter.specs.Served.{is_candidate, places_of}
+use Rattle.ddr_arbiter.specs.CandidateSet.{is_candidate, places_of}
 
 -- in each cycle from now on that is before this one each rank owes as many REFs as now
 abbrev pub AreSteadyUntil : ℕ → ℕ → List Refreshes → Type 0
@@ -27,32 +27,32 @@ abbrev pub IsRefreshStuckUntil : ℕ → Bus → ℕ → Type 0
 IsRefreshStuckUntil end b rank = (count : ℕ) → b.now + count < end → refresh_choice_at (passed count b) rank ≡ choice.Nothing
 
 -- neither a read or a write, where there is room for one, nor an ACT or a PRE can be chosen for a candidate of the place
-abbrev pub IsStuck : Bus → Served → List Waiting → Bool → Place → Type 0
+abbrev pub IsStuck : Bus → CandidateSet → List Waiting → Bool → Place → Type 0
 IsStuck b c waiting room p = (room ≡ true → is_legal_now b (column_at false c.kind p) ≡ false) × HasNoStep b waiting (places_of c waiting) p
 
 -- in each cycle from now on that is before this one it is so
-abbrev pub IsStuckUntil : ℕ → Bus → Served → List Waiting → Bool → Place → Type 0
+abbrev pub IsStuckUntil : ℕ → Bus → CandidateSet → List Waiting → Bool → Place → Type 0
 IsStuckUntil end b c waiting room p = (count : ℕ) → b.now + count < end → IsStuck (passed count b) c waiting room p
 
 -- the request at this place of the list is a candidate
-pub record IsCandidate (c : Served) (waiting : List Waiting) (place : ℕ) (w : Waiting) : Type 0 where
+pub record IsCandidate (c : CandidateSet) (waiting : List Waiting) (place : ℕ) (w : Waiting) : Type 0 where
   pub within : place < c.count
   pub passes : is_candidate c waiting place ≡ true
   pub here : slice_get waiting place ≡ Some w
 
 -- some candidate is for this place
-abbrev pub HasCandidateAt : Served → List Waiting → Place → Type 0
+abbrev pub HasCandidateAt : CandidateSet → List Waiting → Place → Type 0
 HasCandidateAt c waiting p = (place : ℕ) × (w : Waiting) × IsCandidate c waiting place w × (w.request.place ≡ p)
 
 -- so for each candidate of the place's bank
-abbrev pub IsBankStuckUntil : ℕ → Bus → Served → List Waiting → Bool → Place → Type 0
+abbrev pub IsBankStuckUntil : ℕ → Bus → CandidateSet → List Waiting → Bool → Place → Type 0
 IsBankStuckUntil end b c waiting room p =
     (place : ℕ) (w : Waiting) → IsCandidate c waiting place w → AreInOneBank p w.request.place → IsStuckUntil end b c waiting room w.request.place
 
 -- what the mark of a place's bank says
-abbrev pub MarkTellsUntil : ℕ → Bus → Served → List Waiting → Bool → Place → Option Bool → Type 0
+abbrev pub MarkTellsUntil : ℕ → Bus → CandidateSet → List Waiting → Bool → Place → Option Bool → Type 0
 MarkTellsUntil end b c waiting room p (Some true) = IsBankStuckUntil end b c waiting room p
 MarkTellsUntil end b c waiting room p _ = Unit {0}
 
-abbrev pub AreStuckUntil : ℕ → Bus → Served → List Waiting → Bool → List Bool → Type 0
+abbrev pub AreStuckUntil : ℕ → Bus → CandidateSet → List Waiting → Bool → List Bool → Type 0
 AreStuckUntil end b c waiting room marks = (p : Place) → IsInRank p → MarkTellsUntil end b c waiting room p (slice_get marks (bank_number p))

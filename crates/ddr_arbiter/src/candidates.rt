@@ -5,7 +5,7 @@ ghost use Rattle.ddr_refresh.specs.Refreshes.{Refreshes};
 ghost use Rattle.ddr_hazards.specs.PendingList.{IsInRank, is_same_kind};
 ghost use Rattle.ddr_arbiter.specs.Choice.{candidates, served_kind};
 ghost use Rattle.ddr_arbiter.specs.Forced.{AreForced};
-ghost use Rattle.ddr_arbiter.specs.Served.{capped_kind, is_candidate, is_free_of_marks, is_of_unmarked_rank, other_kind, places_of};
+ghost use Rattle.ddr_arbiter.specs.CandidateSet.{capped_kind, is_candidate, is_free_of_marks, is_of_unmarked_rank, other_kind, places_of};
 
 use crate::refresh::Forced;
 use ddr_address_map::request::Kind;
@@ -14,7 +14,7 @@ use ddr_hazards::pending::Pending;
 /// Which of the pending requests are candidates, told without a list of them: of the `count` oldest those of the kind,
 /// with no older one to their line, of ranks that are not forced.
 #[derive(Clone, Copy)]
-pub(crate) struct Served {
+pub(crate) struct CandidateSet {
     pub kind: Kind,
     pub count: usize,
     pub forced: Forced,
@@ -28,7 +28,7 @@ pub(crate) fn candidates(
     cap: u32,
     drain: bool,
     forced: &Forced,
-) -> Served
+) -> CandidateSet
     requires admitted { All (λ w. w.admitted ≤ now) pending.now.waiting }
     requires inside { All (λ w. IsInRank w.request.place) pending.now.waiting }
     ensures places { (refreshes : List Refreshes) → AreForced pending.now.waiting refreshes forced.now
@@ -36,13 +36,13 @@ pub(crate) fn candidates(
     ensures count { result.count ≤ length pending.now.waiting }
 {
     if let Some(kind) = capped_kind(pending, now, cap) {
-        return Served {
+        return CandidateSet {
             kind,
             count: 1,
             forced: *forced,
         };
     }
-    let served = Served {
+    let served = CandidateSet {
         kind: served_kind(drain),
         count: pending.len(),
         forced: *forced,
@@ -50,7 +50,7 @@ pub(crate) fn candidates(
     if has_any(&served, pending) {
         served
     } else {
-        Served {
+        CandidateSet {
             kind: other_kind(served.kind),
             ..served
         }
@@ -92,7 +92,7 @@ fn other_kind(kind: Kind) -> Kind
 }
 
 /// Whether there is any candidate.
-fn has_any(candidates: &Served, pending: &Pending) -> bool
+fn has_any(candidates: &CandidateSet, pending: &Pending) -> bool
     requires inside { All (λ w. IsInRank w.request.place) pending.now.waiting }
     requires count { candidates.now.count ≤ length pending.now.waiting }
     ensures { result ≡ list_any (is_candidate candidates.now pending.now.waiting) (range_with_len 0 candidates.now.count) }
@@ -106,7 +106,7 @@ fn has_any(candidates: &Served, pending: &Pending) -> bool
 }
 
 /// Whether the request at the place is a candidate, as far as its place goes.
-pub(crate) fn is_candidate(candidates: &Served, pending: &Pending, place: usize) -> bool
+pub(crate) fn is_candidate(candidates: &CandidateSet, pending: &Pending, place: usize) -> bool
     requires inside { All (λ w. IsInRank w.request.place) pending.now.waiting }
     requires place { place < length pending.now.waiting }
     ensures { result ≡ is_candidate candidates.now pending.now.waiting place }

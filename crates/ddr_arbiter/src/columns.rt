@@ -5,10 +5,10 @@ ghost use Rattle.ddr_hazards.specs.PendingList.{IsInRank};
 ghost use Rattle.ddr_arbiter.specs.Choice.{can_column, column_place, is_row_open};
 ghost use Rattle.ddr_arbiter.specs.Commands.{column_at};
 ghost use Rattle.ddr_arbiter.specs.Known.{AreKnown};
-ghost use Rattle.ddr_arbiter.specs.Served.{is_candidate, places_of};
+ghost use Rattle.ddr_arbiter.specs.CandidateSet.{is_candidate, places_of};
 
 use crate::banks::{BANKS, bank_number};
-use crate::candidates::{Served, is_free, is_same_kind};
+use crate::candidates::{CandidateSet, is_free, is_same_kind};
 use crate::commands::{column_at, may};
 use ddr_address_map::place::Place;
 use ddr_address_map::request::Kind;
@@ -17,7 +17,7 @@ use ddr_legality::legality::Legality;
 
 /// What is known of a bank while the candidates are gone through.
 #[derive(Clone, Copy)]
-pub(crate) enum Bank {
+pub(crate) enum KnownBank {
     /// No request of it was met.
     Unmet,
     /// This row is open.
@@ -27,13 +27,13 @@ pub(crate) enum Bank {
 }
 
 /// What is known of each bank that a channel may have.
-type Banks = [Bank; BANKS];
+type KnownBanks = [KnownBank; BANKS];
 
 /// The oldest candidate whose column command is legal now, where there is room for it.
 pub(crate) fn column_place(
     pending: &Pending,
     legality: &Legality,
-    candidates: &Served,
+    candidates: &CandidateSet,
     room: bool,
 ) -> Option<usize>
     requires inside { All (λ w. IsInRank w.request.place) pending.now.waiting }
@@ -43,7 +43,7 @@ pub(crate) fn column_place(
     if !room {
         return None;
     }
-    let mut banks = [Bank::Unmet; BANKS];
+    let mut banks = [KnownBank::Unmet; BANKS];
     for place in 0..candidates.count {
         if is_ready(pending, legality, candidates, &mut banks, place) {
             return Some(place);
@@ -56,8 +56,8 @@ pub(crate) fn column_place(
 fn is_ready(
     pending: &Pending,
     legality: &Legality,
-    candidates: &Served,
-    banks: &mut Banks,
+    candidates: &CandidateSet,
+    banks: &mut KnownBanks,
     place: usize,
 ) -> bool
     requires inside { All (λ w. IsInRank w.request.place) pending.now.waiting }
@@ -81,7 +81,7 @@ fn is_ready(
 }
 
 /// Whether the place's row is open in its bank, and a line of it may be read or written, as far as is known.
-fn is_hit(legality: &Legality, kind: Kind, banks: &mut Banks, at: Place) -> bool
+fn is_hit(legality: &Legality, kind: Kind, banks: &mut KnownBanks, at: Place) -> bool
     requires inside { IsInRank at }
     requires known { AreKnown legality.now.bus kind banks.old }
     ensures hit { result ≡ true → is_row_open legality.entry.now.bus at ≡ true }
@@ -90,26 +90,26 @@ fn is_hit(legality: &Legality, kind: Kind, banks: &mut Banks, at: Place) -> bool
 {
     let number = bank_number(at);
     match banks[number] {
-        Bank::Unmet => {
+        KnownBank::Unmet => {
             match legality.open_row(at.rank, at.group, at.bank) {
                 Some(row) => {
-                    banks[number] = Bank::Open(row);
+                    banks[number] = KnownBank::Open(row);
                     row == at.row
                 }
                 None => {
-                    banks[number] = Bank::Refused;
+                    banks[number] = KnownBank::Refused;
                     false
                 }
             }
         }
-        Bank::Open(row) => row == at.row,
-        Bank::Refused => false,
+        KnownBank::Open(row) => row == at.row,
+        KnownBank::Refused => false,
     }
 }
 
 /// Whether the line of the place, whose row is open, may be read or written now. What one line of an open row may,
 /// each may that the geometry has: so the first is asked for, once for the bank where it may not.
-fn can_hit(legality: &Legality, kind: Kind, banks: &mut Banks, at: Place) -> bool
+fn can_hit(legality: &Legality, kind: Kind, banks: &mut KnownBanks, at: Place) -> bool
     requires inside { IsInRank at }
     requires opened { is_row_open legality.now.bus at ≡ true }
     requires known { AreKnown legality.now.bus kind banks.old }
@@ -119,6 +119,6 @@ fn can_hit(legality: &Legality, kind: Kind, banks: &mut Banks, at: Place) -> boo
     if may(legality, column_at(false, kind, Place { line: 0, ..at })) {
         return may(legality, column_at(false, kind, at));
     }
-    banks[bank_number(at)] = Bank::Refused;
+    banks[bank_number(at)] = KnownBank::Refused;
     false
 }

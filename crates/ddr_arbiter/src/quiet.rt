@@ -9,7 +9,7 @@ ghost use Rattle.ddr_timing.specs.declared.units.TheConstants.{CLOCK_STOP, MOST_
 ghost use Rattle.ddr_trace.specs.Banks.{bank_behind, ready_row};
 ghost use Rattle.ddr_hazards.specs.declared.waiting.Waiting.{Waiting};
 ghost use Rattle.ddr_hazards.specs.PendingList.{IsInRank};
-ghost use Rattle.ddr_arbiter.specs.declared.candidates.Served.{Served};
+ghost use Rattle.ddr_arbiter.specs.declared.candidates.CandidateSet.{CandidateSet};
 ghost use Rattle.ddr_arbiter.specs.Commands as commands;
 ghost use Rattle.ddr_arbiter.specs.Forced.{AreForced, must_refresh};
 ghost use Rattle.ddr_arbiter.specs.Quiet.{IsQuietUntil};
@@ -17,11 +17,11 @@ ghost use Rattle.ddr_arbiter.specs.Situation.{situation};
 ghost use Rattle.ddr_legality.specs.Bus.{Bus};
 ghost use Rattle.ddr_refresh.specs.Refreshes.{Refreshes};
 ghost use Rattle.ddr_arbiter.specs.Choice.{is_open_row_wanted, open_row_at};
-ghost use Rattle.ddr_arbiter.specs.Served.{places_of};
+ghost use Rattle.ddr_arbiter.specs.CandidateSet.{places_of};
 ghost use Rattle.ddr_arbiter.specs.Until.{AreSteadyUntil, AreStuckUntil, HasCandidateAt, IsAgeSteadyUntil, IsBankStuckUntil, IsCandidate, IsRefreshStuckUntil, IsStuckUntil};
 
 use crate::banks::{BANKS, bank_number};
-use crate::candidates::{Served, candidates, is_free, is_same_kind};
+use crate::candidates::{CandidateSet, candidates, is_free, is_same_kind};
 use crate::commands::{activate_at, column_at, precharge_at};
 use crate::policy::Policy;
 use crate::refresh::{Forced, forced_ranks, is_active, is_rank_forced};
@@ -211,7 +211,7 @@ fn age_steady_until(pending: &Pending, now: u64, cap: u32) -> u64
 fn stuck_until(
     pending: &Pending,
     legality: &Legality,
-    candidates: &Served,
+    candidates: &CandidateSet,
     room: bool,
     end: u64,
 ) -> u64
@@ -239,7 +239,7 @@ fn stuck_until(
 fn place_until(
     pending: &Pending,
     legality: &Legality,
-    candidates: &Served,
+    candidates: &CandidateSet,
     room: bool,
     asked: &mut Asked,
     until: u64,
@@ -278,7 +278,7 @@ fn place_until(
 fn bank_until(
     pending: &Pending,
     legality: &Legality,
-    candidates: &Served,
+    candidates: &CandidateSet,
     room: bool,
     at: Place,
 ) -> u64
@@ -303,7 +303,7 @@ fn bank_until(
 
 /// Whether a candidate wants this row, which is open in the bank of the place, where some candidate is for this place: it may be
 /// that one.
-fn is_row_wanted(pending: &Pending, candidates: &Served, at: Place, row: u32) -> bool
+fn is_row_wanted(pending: &Pending, candidates: &CandidateSet, at: Place, row: u32) -> bool
     requires inside { All (λ w. IsInRank w.request.place) pending.now.waiting }
     requires count { candidates.now.count ≤ length pending.now.waiting }
     requires at { IsInRank at }
@@ -321,7 +321,7 @@ fn is_row_wanted(pending: &Pending, candidates: &Served, at: Place, row: u32) ->
 /// What one row may, each may that the geometry has.
 fn idle_until(legality: &Legality, at: Place) -> u64
     requires { ready_row (bank_behind (commands.precharge_at at) legality.now.bus.trace) ≡ None }
-    ensures { (candidates : Served) (waiting : List Waiting) (room : Bool) → IsBankStuckUntil result legality.entry.now.bus candidates waiting room at }
+    ensures { (candidates : CandidateSet) (waiting : List Waiting) (room : Bool) → IsBankStuckUntil result legality.entry.now.bus candidates waiting room at }
 {
     legality.allowed_at(activate_at(Place { row: 0, ..at }))
 }

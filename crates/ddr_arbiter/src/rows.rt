@@ -6,10 +6,10 @@ ghost use Rattle.ddr_hazards.specs.PendingList.{IsInRank};
 ghost use Rattle.ddr_arbiter.specs.declared.choice.Choice.TheVariants as choice;
 ghost use Rattle.ddr_arbiter.specs.Choice.{is_open_row_wanted, open_row_at, row_choice, row_choice_at};
 ghost use Rattle.ddr_arbiter.specs.Known.{AreDone, StepTells};
-ghost use Rattle.ddr_arbiter.specs.Served.{is_candidate, places_of, wants};
+ghost use Rattle.ddr_arbiter.specs.CandidateSet.{is_candidate, places_of, wants};
 
 use crate::banks::{BANKS, bank_number};
-use crate::candidates::{Served, is_candidate, is_free, is_same_kind};
+use crate::candidates::{CandidateSet, is_candidate, is_free, is_same_kind};
 use crate::choice::{Choice, is_something};
 use crate::commands::{activate_at, may, precharge_at};
 use ddr_address_map::place::Place;
@@ -31,7 +31,11 @@ pub(crate) enum Step {
 }
 
 /// The ACT or PRE of the oldest candidate that needs one that may be issued now.
-pub(crate) fn row_choice(pending: &Pending, legality: &Legality, candidates: &Served) -> Choice
+pub(crate) fn row_choice(
+    pending: &Pending,
+    legality: &Legality,
+    candidates: &CandidateSet,
+) -> Choice
     requires inside { All (λ w. IsInRank w.request.place) pending.now.waiting }
     requires count { candidates.now.count ≤ length pending.now.waiting }
     ensures { result ≡ row_choice legality.entry.now.bus pending.now.waiting (places_of candidates.now pending.now.waiting) }
@@ -50,7 +54,7 @@ pub(crate) fn row_choice(pending: &Pending, legality: &Legality, candidates: &Se
 fn row_choice_at(
     pending: &Pending,
     legality: &Legality,
-    candidates: &Served,
+    candidates: &CandidateSet,
     done: &mut Done,
     place: usize,
 ) -> Choice
@@ -89,7 +93,7 @@ fn row_choice_at(
 }
 
 /// What can be done now for a request to the place.
-fn step_at(pending: &Pending, legality: &Legality, candidates: &Served, at: Place) -> Step
+fn step_at(pending: &Pending, legality: &Legality, candidates: &CandidateSet, at: Place) -> Step
     requires inside { All (λ w. IsInRank w.request.place) pending.now.waiting }
     requires count { candidates.now.count ≤ length pending.now.waiting }
     requires at { IsInRank at }
@@ -126,7 +130,7 @@ fn activate_step(legality: &Legality, at: Place) -> Step
 }
 
 /// Whether a candidate wants this row, which is open in the bank of the place.
-pub(crate) fn is_wanted(pending: &Pending, candidates: &Served, at: Place, row: u32) -> bool
+pub(crate) fn is_wanted(pending: &Pending, candidates: &CandidateSet, at: Place, row: u32) -> bool
     requires inside { All (λ w. IsInRank w.request.place) pending.now.waiting }
     requires count { candidates.now.count ≤ length pending.now.waiting }
     requires at { IsInRank at }
@@ -144,7 +148,7 @@ pub(crate) fn is_wanted(pending: &Pending, candidates: &Served, at: Place, row: 
 }
 
 /// Whether the request at the place is a candidate that wants the row.
-fn wants(pending: &Pending, candidates: &Served, row: u32, place: usize) -> bool
+fn wants(pending: &Pending, candidates: &CandidateSet, row: u32, place: usize) -> bool
     requires inside { All (λ w. IsInRank w.request.place) pending.now.waiting }
     requires count { candidates.now.count ≤ length pending.now.waiting }
     ensures { result ≡ wants candidates.now row pending.now.waiting place }

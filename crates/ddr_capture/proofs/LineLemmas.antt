@@ -18,13 +18,12 @@ use Rattle.ddr_capture.specs.Captured.{IsLineFault, Read, captured, nothing, rea
 use Rattle.ddr_capture.specs.Feed.{Along, BeginsWith, HasFound, IsFound, IsTooLong, IsUnfed}
 use Rattle.ddr_capture.specs.Form.{is_missing}
 use Rattle.ddr_capture.specs.Lines.{IsReadFault, StandsAt, line_fault, text_of}
-use Rattle.ddr_capture.specs.declared.capture.TheConstants.{MOST_LINES}
 use Rattle.ddr_capture.specs.declared.form.Form.{Form}
 use Rattle.ddr_capture.specs.declared.feed.Found.{Found}
 use Rattle.ddr_capture.specs.declared.feed.Found.TheVariants as found
 use Rattle.ddr_capture.specs.declared.feed.Refusal.{Refusal}
 use Rattle.ddr_capture.specs.declared.feed.Refusal.TheVariants as refusals
-use Rattle.ddr_capture.specs.declared.feed.TheConstants.{LONGEST_LINE}
+use Rattle.ddr_capture.specs.declared.feed.TheConstants.{LONGEST_LINE, MOST_LINES}
 
 abbrev is_feed : ℕ → Bool
 is_feed byte = byte == 10

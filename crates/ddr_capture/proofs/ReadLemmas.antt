@@ -6,7 +6,7 @@ use Rattle.std.proofs.Math.Seq.{get_or-append_seam}
 use Rattle.ddr_timing.specs.declared.config.Config.{Config}
 use Rattle.ddr_trace.specs.declared.command.Entry.{Entry}
 use Rattle.ddr_judge.specs.declared.fault.Fault as judged
-use Rattle.ddr_judge.specs.Records.{Record, end_behind, lane}
+use Rattle.ddr_judge.specs.Records.{Record, end_behind, of_channel}
 use Rattle.ddr_judge.specs.Verdict.{IsVerdict}
 use Rattle.ddr_text.specs.declared.fault.Fault.{Fault}
 use Rattle.ddr_text.specs.declared.fault.Fault.TheVariants as faults
@@ -44,21 +44,21 @@ pub verdicts_none : (config : Config) (start end : ℕ) (records : List Record) 
 verdicts_none config start end records first = record { count = refl; each = λ at below. absurd (omega (arith, below)) }
 
 pub verdicts_more : (config : Config) (start end : ℕ) (records : List Record) (first channels : ℕ) (verdicts : List (Option judged.Fault)) (v : Option judged.Fault) → AreVerdicts config start end records first channels verdicts
-    → IsVerdict config start end (lane (first + channels) records) v → AreVerdicts config start end records first (channels + 1) (verdicts ++ v ∷ [])
+    → IsVerdict config start end (of_channel (first + channels) records) v → AreVerdicts config start end records first (channels + 1) (verdicts ++ v ∷ [])
 verdicts_more config start end records first channels verdicts v are is = record {
   count = omega (arith, length-append verdicts (v ∷ []), are.count);
   each = λ at below. by_place at below (nat_lt at (length verdicts)) refl;
 }
   where
-    by_place : (at : ℕ) → at < length (verdicts ++ v ∷ []) → (b : Bool) → nat_lt at (length verdicts) ≡ b → IsVerdict config start end (lane (first + at) records) (get_or (verdicts ++ v ∷ []) at None)
+    by_place : (at : ℕ) → at < length (verdicts ++ v ∷ []) → (b : Bool) → nat_lt at (length verdicts) ≡ b → IsVerdict config start end (of_channel (first + at) records) (get_or (verdicts ++ v ∷ []) at None)
     by_place at below true e =
         let inside : at < length verdicts = ltb-true at (length verdicts) e in
-        subst (λ (w : Option judged.Fault). IsVerdict config start end (lane (first + at) records) w) (sym (get_or_append_left verdicts (v ∷ []) None at inside)) (are.each at inside)
+        subst (λ (w : Option judged.Fault). IsVerdict config start end (of_channel (first + at) records) w) (sym (get_or_append_left verdicts (v ∷ []) None at inside)) (are.each at inside)
     by_place at below false e =
         let last : at ≡ length verdicts = omega (arith, below, length-append verdicts (v ∷ []), ltb-false at (length verdicts) e) in
         let here : get_or (verdicts ++ v ∷ []) at None ≡ v = ap (λ n. get_or (verdicts ++ v ∷ []) n None) last ∙ get_or-append_seam verdicts v [] None in
-        subst (λ (w : Option judged.Fault). IsVerdict config start end (lane (first + at) records) w) (sym here)
-        (subst (λ n. IsVerdict config start end (lane (first + n) records) v) (sym (last ∙ are.count)) is)
+        subst (λ (w : Option judged.Fault). IsVerdict config start end (of_channel (first + at) records) w) (sym here)
+        (subst (λ n. IsVerdict config start end (of_channel (first + n) records) v) (sym (last ∙ are.count)) is)
 
 -- the channels that are told are there
 told_of_all : (format : Format) (channels : ℕ) → 1 ≤ channels → channels_in format channels ≤ channels

@@ -9,7 +9,7 @@ use Rattle.ddr_text.specs.declared.fault.Fault.TheVariants as faults
 use Rattle.ddr_capture.specs.Captured.{Read, captured, end_in}
 use Rattle.ddr_capture.specs.Front.{IsConfigRefused, IsOpened}
 use Rattle.ddr_capture.specs.Report.{AreVerdicts, are_legal, first_told, report, told_channels}
-use Rattle.ddr_capture.specs.declared.capture.TheConstants.{MOST_LINES}
+use Rattle.ddr_capture.specs.declared.feed.TheConstants.{MOST_LINES}
 use Rattle.ddr_capture.specs.declared.form.Form.{Form}
 
 -- what an input says: its configuration, and the commands of its body or the fault that comes first in it

@@ -7,7 +7,7 @@ use Rattle.ddr_text.specs.declared.fault.Fault.TheVariants as faults
 use Rattle.ddr_text.specs.declared.fault.LineFault.TheVariants.{TooLong}
 use Rattle.ddr_capture.specs.Captured.{HasRead, Read, captured, read_from}
 use Rattle.ddr_capture.specs.Feed.{Along}
-use Rattle.ddr_capture.specs.declared.capture.TheConstants.{MOST_LINES}
+use Rattle.ddr_capture.specs.declared.feed.TheConstants.{MOST_LINES}
 use Rattle.ddr_capture.specs.declared.feed.Found.{Found}
 use Rattle.ddr_capture.specs.declared.feed.Found.TheVariants as found
 use Rattle.ddr_capture.specs.declared.feed.Refusal.{Refusal}

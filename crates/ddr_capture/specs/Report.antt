@@ -5,7 +5,7 @@ use Rattle.std.specs.List.{list_all}
 use Rattle.ddr_timing.specs.declared.config.Config.{Config}
 use Rattle.ddr_trace.specs.Names.{name_of}
 use Rattle.ddr_judge.specs.declared.fault.Fault as judged
-use Rattle.ddr_judge.specs.Records.{Record, lane}
+use Rattle.ddr_judge.specs.Records.{Record, of_channel}
 use Rattle.ddr_judge.specs.Verdict.{IsVerdict}
 use Rattle.ddr_text.specs.declared.command.Format.{Format}
 use Rattle.ddr_text.specs.declared.command.Format.TheVariants.{Own, Dramsim3, Ramulator2}
@@ -57,7 +57,7 @@ report form verdicts = lines_from form.format (first_told form) verdicts
 -- of each channel from this one on its verdict, so many
 pub record AreVerdicts (config : Config) (start end : ℕ) (records : List Record) (first channels : ℕ) (verdicts : List (Option judged.Fault)) : Type 0 where
   pub count : length verdicts ≡ channels
-  pub each : (at : ℕ) → at < length verdicts → IsVerdict config start end (lane (first + at) records) (slice_index_or verdicts at None)
+  pub each : (at : ℕ) → at < length verdicts → IsVerdict config start end (of_channel (first + at) records) (slice_index_or verdicts at None)
 
 abbrev pub are_legal : List (Option judged.Fault) → Bool
 are_legal verdicts = list_all is_none verdicts

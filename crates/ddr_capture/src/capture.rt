@@ -13,7 +13,7 @@ ghost use Rattle.ddr_capture.specs.Form.{is_missing};
 ghost use Rattle.ddr_capture.specs.Front.{ComesFirst};
 ghost use Rattle.ddr_capture.specs.Lines.{AreRead, IsNext, IsReadFault, StandsAt, line_fault, text_of};
 
-use crate::feed::{Feed, Found, Refusal, without_return};
+use crate::feed::{Feed, Found, MOST_LINES, Refusal, without_return};
 use crate::form::Form;
 use crate::front::read_config;
 use crate::reading::Reading;
@@ -25,9 +25,6 @@ use ddr_text::writing::write_whole;
 use ddr_timing::config::Config;
 use ddr_timing::profile::PROFILE_S;
 use std::alloc::Global;
-
-/// The most lines of a capture, or of a stream.
-pub const MOST_LINES: u64 = 0xffff_ffff_ffff_fffe;
 
 /// Reads captured commands in this form, which begin in cycle `start`, and writes a line for each channel: `channel C legal`, or
 /// `channel C fault PLACE RULE line N` for its first fault. Where the form names one channel, all commands are of that one, and it

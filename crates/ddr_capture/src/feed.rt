@@ -18,6 +18,9 @@ use std::io::ErrorKind;
 /// The most bytes of a line, without its end.
 pub const LONGEST_LINE: usize = 4096;
 
+/// The most lines that are read, so that each has a number.
+pub const MOST_LINES: u64 = 0xffff_ffff_ffff_fffe;
+
 /// How many bytes are asked for at a time.
 const CHUNK_BYTES: usize = 8192;
 

@@ -100,14 +100,14 @@ first_kept passes test a (suc n) ys r above below kept here = by_tests (passes a
         record { at = it.at; low = it.low; kept = it.kept; here = it.here; found = found_skip passes test a (filter passes (range_with_len (a + 1) n)) ys p ∙ it.found }
 
 -- The rank's own step is nothing, or the choice is the step of an overdue rank that is tried no later.
-pub record Served (s : Situation) (rank : ℕ) : Type 0 where
+pub record OverdueServed (s : Situation) (rank : ℕ) : Type 0 where
   pub at : ℕ
   pub low : at ≤ rank
   pub overdue : is_overdue s.refreshes at ≡ true
   pub is : arbiter.choice_of s ≡ refresh_choice_at s.bus at
   pub some : is_something (refresh_choice_at s.bus at) ≡ true
 
-pub overdue_served : (s : Situation) (rank : ℕ) → rank < length s.refreshes → is_overdue s.refreshes rank ≡ true → (is_something (refresh_choice_at s.bus rank) ≡ false) ⊎ Served s rank
+pub overdue_served : (s : Situation) (rank : ℕ) → rank < length s.refreshes → is_overdue s.refreshes rank ≡ true → (is_something (refresh_choice_at s.bus rank) ≡ false) ⊎ OverdueServed s rank
 overdue_served s rank inside overdue = elim (cases_Bool (is_something (refresh_choice_at s.bus rank))) [
   | inr nothing ↦ inl nothing
   | inl some ↦

@@ -23,7 +23,7 @@ use Rattle.ddr_channel.specs.Choice.{bus_of, choice_of, situation_of}
 use Rattle.ddr_channel.specs.State.{State}
 use Rattle.ddr_channel.specs.Refresh.{commands_from}
 use Rattle.ddr_channel.proofs.BusLemmas.{IsNext, all_before}
-use Rattle.ddr_channel.proofs.ForcedLemmas.{Served, overdue_command, overdue_served, overdue_when, precharged_active, ranks_counted, step_cases, when_overdue}
+use Rattle.ddr_channel.proofs.ForcedLemmas.{OverdueServed, overdue_command, overdue_served, overdue_when, precharged_active, ranks_counted, step_cases, when_overdue}
 use Rattle.ddr_channel.proofs.PlaceLemmas.{pushed}
 use Rattle.ddr_channel.proofs.PromptLemmas.{IsClosed, IsElsewhere, IsLegalNow, IsPrompt, IsPromptBy, after, due_at, free_after, is_before_from, prompt_fresh, prompt_precharge, prompt_taken, prompt_waits, refresh_is, taken_from}
 
@@ -168,7 +168,7 @@ overdue_elsewhere s o rank is kept inside late other =
       ]
     ]
   where
-    by_rank : (served : Served (situation_of s) rank) (c : Command) → rank_of c ≡ served.at → o ≡ Some c →
+    by_rank : (served : OverdueServed (situation_of s) rank) (c : Command) → rank_of c ≡ served.at → o ≡ Some c →
         IsPromptBy (after o (bus_of s)) rank (due_at (bus_of s) rank) (taken_from rank (due_at (bus_of s) rank) (after o (bus_of s)).trace)
     by_rank served c of it =
         let b = bus_of s in

@@ -12,7 +12,7 @@ use Rattle.ddr_address_map.specs.declared.place.Place.{Place}
 use Rattle.ddr_address_map.specs.declared.request.Kind.{Kind}
 use Rattle.ddr_address_map.specs.declared.request.Kind.TheVariants.{Read, Write}
 use Rattle.ddr_hazards.specs.declared.banks.TheConstants.{BANKS}
-use Rattle.ddr_hazards.specs.declared.counts.Counts.{Counts}
+use Rattle.ddr_hazards.specs.declared.counts.KindCounts.{KindCounts}
 use Rattle.ddr_hazards.specs.declared.pending.Pending.TheInside.{Inside}
 use Rattle.ddr_hazards.specs.declared.slots.TheConstants.{CAPACITY}
 use Rattle.ddr_hazards.specs.declared.waiting.Waiting.{Waiting}
@@ -68,7 +68,7 @@ counts_one a place w mine sound is there =
     omega (arith, sound.counted mine, pending_count-remove mine (in_slots a.slots) place w there, ap (one_of mine) is, one_of-same mine)
 
 -- each queue has room for its share of a request that has room in its own
-fits-add : (kind mine : Kind) (counts limits : Counts) → count_of counts mine + 1 ≤ count_of limits mine → count_of counts kind ≤ count_of limits kind
+fits-add : (kind mine : Kind) (counts limits : KindCounts) → count_of counts mine + 1 ≤ count_of limits mine → count_of counts kind ≤ count_of limits kind
     → count_of counts kind + one_of kind mine ≤ count_of limits kind
 fits-add Read Read counts limits room fits = room
 fits-add Write Write counts limits room fits = room

@@ -7,12 +7,12 @@ use ddr_address_map::request::Kind;
 
 /// A number of reads and a number of writes.
 #[derive(Clone, Copy)]
-pub(crate) struct Counts {
+pub(crate) struct KindCounts {
     pub reads: u32,
     pub writes: u32,
 }
 
-impl Counts {
+impl KindCounts {
     /// The number of one kind.
     pub fn of(self, kind: Kind) -> u32
         ensures { result ≡ count_of self kind }

@@ -10,7 +10,7 @@ ghost use Rattle.ddr_hazards.specs.PendingList.{opened, pending_count, is_full, 
 ghost use Rattle.ddr_hazards.specs.Hazards.{hazard_count, is_blocked};
 
 use crate::banks::{Banks, bank_number, number};
-use crate::counts::Counts;
+use crate::counts::KindCounts;
 use crate::hazards::{count_less, count_line, position};
 use crate::slots::{CAPACITY, Slots};
 use crate::waiting::Waiting;
@@ -32,8 +32,8 @@ pub struct Pending {
     banks: Banks,
     // Of each slot, how many older requests have the line of its request.
     hazards: [u8; CAPACITY],
-    counts: Counts,
-    limits: Counts,
+    counts: KindCounts,
+    limits: KindCounts,
 }
 
 impl Model for Pending {
@@ -59,11 +59,11 @@ impl Pending {
             slots: Slots::new(),
             banks: Banks::new(),
             hazards: [0; CAPACITY],
-            counts: Counts {
+            counts: KindCounts {
                 reads: 0,
                 writes: 0,
             },
-            limits: Counts { reads, writes },
+            limits: KindCounts { reads, writes },
         }
     }
 

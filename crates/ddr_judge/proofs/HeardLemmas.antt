@@ -12,7 +12,7 @@ use Rattle.ddr_trace.proofs.FaultLemmas.{IsCleanBelow, clean_all, first_at_end}
 use Rattle.ddr_legality.specs.declared.one_pass.Checker.{Checker}
 use Rattle.ddr_legality.specs.OnePass.{HasPassed, config_of, start_of}
 use Rattle.ddr_judge.specs.declared.fault.Fault.{Fault}
-use Rattle.ddr_judge.specs.declared.lane.Lane.{Lane}
+use Rattle.ddr_judge.specs.declared.channel_judge.ChannelJudge.{ChannelJudge}
 use Rattle.ddr_judge.specs.Heard.{IsAtFault, IsTold, KeepsAll}
 use Rattle.ddr_judge.specs.Records.{AllBelow, Record, entries_of, line_at}
 use Rattle.ddr_judge.specs.Verdict.{IsVerdict}
@@ -34,12 +34,12 @@ module _ (c : Config) (start : ℕ) (records : List Record) (x : Record) where
         (fault_stays c start end (entries_of records) x.entry f.place f.rule (omega (arith, fault.within, length-map records (λ r. r.entry))) (fault.first end (parts end below).0));
   }
 
-  pub told_behind : (l m : Lane) (o : Option Fault) → is_some o ≡ true → IsTold l c start records o → IsTold m c start (records ++ x ∷ []) o
+  pub told_behind : (l m : ChannelJudge) (o : Option Fault) → is_some o ≡ true → IsTold l c start records o → IsTold m c start (records ++ x ∷ []) o
   told_behind l m (Some f) at_fault told = still_at_fault f told
   told_behind l m None off told = cc
 
   -- the first fault
-  pub now_at_fault : (l : Lane) (place line : ℕ) (r : Rule) → KeepsAll l c start (entries_of records) → place ≡ length records → x.line ≡ line
+  pub now_at_fault : (l : ChannelJudge) (place line : ℕ) (r : Rule) → KeepsAll l c start (entries_of records) → place ≡ length records → x.line ≡ line
       → Some r ≡ lowest_rule (λ q. breaks c start (x.entry.cycle + 1) q (entries_of records) x.entry)
       → IsAtFault (record { place = place; rule = r; line = Some line }) c start (records ++ x ∷ [])
   now_at_fault l place line r kept here stands lowest = record {
@@ -53,7 +53,7 @@ module _ (c : Config) (start : ℕ) (records : List Record) (x : Record) where
   }
 
   -- no fault yet
-  pub still_kept : (l m : Lane) → KeepsAll l c start (entries_of records) → config_of m.checker ≡ config_of l.checker → start_of m.checker ≡ start_of l.checker
+  pub still_kept : (l m : ChannelJudge) → KeepsAll l c start (entries_of records) → config_of m.checker ≡ config_of l.checker → start_of m.checker ≡ start_of l.checker
       → HasPassed m.checker (entries_of records ++ x.entry ∷ [])
       → None ≡ lowest_rule (λ q. breaks c start (x.entry.cycle + 1) q (entries_of records) x.entry)
       → KeepsAll m c start (entries_of (records ++ x ∷ []))
@@ -68,16 +68,16 @@ module _ (c : Config) (start : ℕ) (records : List Record) (x : Record) where
   }
 
 -- the verdict of a channel at fault
-pub verdict_at_fault : (l : Lane) (c : Config) (start end : ℕ) (records : List Record) (o : Option Fault) → is_some o ≡ true → IsTold l c start records o → AllBelow end (entries_of records) → IsVerdict c start end records o
+pub verdict_at_fault : (l : ChannelJudge) (c : Config) (start end : ℕ) (records : List Record) (o : Option Fault) → is_some o ≡ true → IsTold l c start records o → AllBelow end (entries_of records) → IsVerdict c start end records o
 verdict_at_fault l c start end records (Some f) at_fault told below = (told.first end below, told.line)
 verdict_at_fault l c start end records None off told below = cc
 
 -- where no command is at fault, nothing else was kept
-pub told_kept : (l : Lane) (c : Config) (start : ℕ) (records : List Record) (o : Option Fault) → is_some o ≡ false → IsTold l c start records o → KeepsAll l c start (entries_of records)
+pub told_kept : (l : ChannelJudge) (c : Config) (start : ℕ) (records : List Record) (o : Option Fault) → is_some o ≡ false → IsTold l c start records o → KeepsAll l c start (entries_of records)
 told_kept l c start records None off told = told
 told_kept l c start records (Some f) none told = cc
 
-pub told_none : (l : Lane) (c : Config) (start : ℕ) (records : List Record) (o : Option Fault) → is_some o ≡ false → KeepsAll l c start (entries_of records) → IsTold l c start records o
+pub told_none : (l : ChannelJudge) (c : Config) (start : ℕ) (records : List Record) (o : Option Fault) → is_some o ≡ false → KeepsAll l c start (entries_of records) → IsTold l c start records o
 told_none l c start records None off kept = kept
 told_none l c start records (Some f) none kept = cc
 
@@ -88,7 +88,7 @@ told_of k c start end history e same_config same_start =
     ∙ ap (λ n. lowest_rule (λ q. breaks c n end q history e)) same_start
 
 -- and that of another: its end alone may be
-module _ (l : Lane) (c : Config) (start end : ℕ) (records : List Record) (kept : KeepsAll l c start (entries_of records)) (below : AllBelow end (entries_of records)) where
+module _ (l : ChannelJudge) (c : Config) (start end : ℕ) (records : List Record) (kept : KeepsAll l c start (entries_of records)) (below : AllBelow end (entries_of records)) where
   by_kept : ends_late (config_of l.checker) (start_of l.checker) end (entries_of records) ≡ ends_late c start end (entries_of records)
   by_kept =
       ap (λ d. ends_late d (start_of l.checker) end (entries_of records)) kept.config

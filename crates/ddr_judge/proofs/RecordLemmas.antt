@@ -5,22 +5,22 @@ use Rattle.std.proofs.lemmas.List.{append-nil, map-append}
 use Rattle.std.proofs.lemmas.List.Elements.{filter-append}
 use Rattle.std.proofs.lemmas.List.Sums.{fold-append}
 use Rattle.std.proofs.lemmas.Option.{slice_get_past}
-use Rattle.ddr_judge.specs.Records.{AllBelow, Record, end_behind, entries_of, lane, line_at}
+use Rattle.ddr_judge.specs.Records.{AllBelow, Record, end_behind, entries_of, of_channel, line_at}
 use Rattle.ddr_judge.proofs.TraceLemmas.{kept_at, last_at}
 
 module _ (records : List Record) (x : Record) where
   pub entries_more : entries_of (records ++ x ∷ []) ≡ entries_of records ++ x.entry ∷ []
   entries_more = map-append (λ r. r.entry) records (x ∷ [])
 
-  pub lane_same : (channel : ℕ) → x.channel ≡ channel → lane channel (records ++ x ∷ []) ≡ lane channel records ++ x ∷ []
-  lane_same channel same =
+  pub channel_same : (channel : ℕ) → x.channel ≡ channel → of_channel channel (records ++ x ∷ []) ≡ of_channel channel records ++ x ∷ []
+  channel_same channel same =
       let on : (x.channel == channel) ≡ true = grind (arith, nat_tests) in
       filter-append (λ r. r.channel == channel) records (x ∷ []) ∙ rw on refl
 
-  pub lane_other : (channel : ℕ) → x.channel ≢ channel → lane channel (records ++ x ∷ []) ≡ lane channel records
-  lane_other channel other =
+  pub channel_other : (channel : ℕ) → x.channel ≢ channel → of_channel channel (records ++ x ∷ []) ≡ of_channel channel records
+  channel_other channel other =
       let off : (x.channel == channel) ≡ false = grind (arith, nat_tests) in
-      filter-append (λ r. r.channel == channel) records (x ∷ []) ∙ rw off (append-nil (lane channel records))
+      filter-append (λ r. r.channel == channel) records (x ∷ []) ∙ rw off (append-nil (of_channel channel records))
 
   pub line_kept : (place : ℕ) → place < length records → line_at (records ++ x ∷ []) place ≡ line_at records place
   line_kept place before = ap (λ (o : Option Record). option_map (λ r. r.line) o) (kept_at records x place before)
@@ -40,28 +40,28 @@ start_within start (r ∷ records) = omega (arith, start_within (max start (r.en
 
 module _ (r : Record) (channel : ℕ) (records : List Record) where
   -- a record in front, of the channel or of another
-  more_below : (end : ℕ) → r.entry.cycle < end → AllBelow end (entries_of (lane channel records)) → AllBelow end (entries_of (lane channel (r ∷ records)))
+  more_below : (end : ℕ) → r.entry.cycle < end → AllBelow end (entries_of (of_channel channel records)) → AllBelow end (entries_of (of_channel channel (r ∷ records)))
   more_below end below rest = by_channel (r.channel == channel) refl
     where
-      by_channel : (w : Bool) → (r.channel == channel) ≡ w → AllBelow end (entries_of (lane channel (r ∷ records)))
+      by_channel : (w : Bool) → (r.channel == channel) ≡ w → AllBelow end (entries_of (of_channel channel (r ∷ records)))
       by_channel true on = rw on (below, rest)
       by_channel false off = rw off rest
 
-  one_more : length (lane channel records) ≤ length records → length (lane channel (r ∷ records)) ≤ length (r ∷ records)
+  one_more : length (of_channel channel records) ≤ length records → length (of_channel channel (r ∷ records)) ≤ length (r ∷ records)
   one_more rest = by_channel (r.channel == channel) refl
     where
-      by_channel : (w : Bool) → (r.channel == channel) ≡ w → length (lane channel (r ∷ records)) ≤ length (r ∷ records)
+      by_channel : (w : Bool) → (r.channel == channel) ≡ w → length (of_channel channel (r ∷ records)) ≤ length (r ∷ records)
       by_channel true on = rw on (omega arith)
       by_channel false off = rw off (omega arith)
 
 -- a channel's entries stand before the end that is behind every command
-pub lane_below : (start end channel : ℕ) (records : List Record) → end_behind start records ≤ end → AllBelow end (entries_of (lane channel records))
-lane_below start end channel [] behind = tt
-lane_below start end channel (r ∷ records) behind =
+pub channel_below : (start end channel : ℕ) (records : List Record) → end_behind start records ≤ end → AllBelow end (entries_of (of_channel channel records))
+channel_below start end channel [] behind = tt
+channel_below start end channel (r ∷ records) behind =
     more_below r channel records end (omega (arith, start_within (max start (r.entry.cycle + 1)) records))
-    (lane_below (max start (r.entry.cycle + 1)) end channel records behind)
+    (channel_below (max start (r.entry.cycle + 1)) end channel records behind)
 
 -- a channel has no more commands than there are
-pub lane_length : (channel : ℕ) (records : List Record) → length (lane channel records) ≤ length records
-lane_length channel [] = omega arith
-lane_length channel (r ∷ records) = one_more r channel records (lane_length channel records)
+pub channel_length : (channel : ℕ) (records : List Record) → length (of_channel channel records) ≤ length records
+channel_length channel [] = omega arith
+channel_length channel (r ∷ records) = one_more r channel records (channel_length channel records)

@@ -10,8 +10,8 @@ pub record Record : Type 0 where
   pub line : ℕ
 
 -- those of a channel
-abbrev pub lane : ℕ → List Record → List Record
-lane channel records = filter (λ r. r.channel == channel) records
+abbrev pub of_channel : ℕ → List Record → List Record
+of_channel channel records = filter (λ r. r.channel == channel) records
 
 abbrev pub entries_of : List Record → List Entry
 entries_of records = map (λ r. r.entry) records

@@ -1,6 +1,6 @@
 //! The first fault of a channel.
 //!
-//! `lane` and `judge` stand above.
+//! `channel_judge` and `judge` stand above.
 use ddr_trace::rule::Rule;
 
 /// The lowest place of a channel's commands that breaks a rule, with the lowest rule broken there.

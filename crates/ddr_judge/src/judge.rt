@@ -1,13 +1,13 @@
 //! The judge of a capture: which channels are legal, and the first fault of each other.
 //!
-//! `lane` stands below, and what reads a capture above.
+//! `channel_judge` stands below, and what reads a capture above.
 ghost use Rattle.std.specs.Prelude.{◌≡◌, ◌≢◌, ℕ, ◌+◌, ◌-◌, ◌<◌, ◌≤◌, ◌^◌, List, [], ◌∷◌, ◌++◌, IfOk, length, max};
 ghost use Rattle.ddr_timing.specs.declared.config.Config.{Config};
-ghost use Rattle.ddr_judge.specs.Records.{Record, end_behind, lane};
+ghost use Rattle.ddr_judge.specs.Records.{Record, end_behind, of_channel};
 ghost use Rattle.ddr_judge.specs.Verdict.{IsVerdict};
 
+use crate::channel_judge::ChannelJudge;
 use crate::fault::Fault;
-use crate::lane::Lane;
 use ddr_timing::config::Config;
 use ddr_trace::command::Entry;
 use std::alloc::{AllocError, Global};
@@ -18,7 +18,7 @@ use std::alloc::{AllocError, Global};
 #[derive(Drop)]
 pub struct Judge {
     /// One for each channel.
-    lanes: Vec<Lane>,
+    judges: Vec<ChannelJudge>,
     /// The first cycle from the start on that is behind every command.
     end: u64,
 }
@@ -33,11 +33,11 @@ impl Judge {
         ensures end { IfOk result (λ j. end_of j ≡ start) }
         ensures judged { IfOk result (λ j. HasJudged j config.now start []) }
     {
-        let mut lanes = Vec::new(alloc);
+        let mut judges = Vec::new(alloc);
         for _channel in 0..config.geometry.channels {
-            lanes.push(Lane::open(alloc, config, start)?)?;
+            judges.push(ChannelJudge::open(alloc, config, start)?)?;
         }
-        Ok(Judge { lanes, end: start })
+        Ok(Judge { judges, end: start })
     }
 
     /// Judges the next command of the capture, which stands in that line, behind those of its channel. Behind its channel's
@@ -54,7 +54,7 @@ impl Judge {
             → HasJudged self.new config start (records ++ record { channel = channel; entry = entry.now; line = line } ∷ []) }
     {
         self.end = self.end.max(entry.cycle + 1);
-        self.lanes[channel as usize].pass(entry, line);
+        self.judges[channel as usize].pass(entry, line);
     }
 
     /// The channel's first fault, in a trace that ends at `end`; `None` where the channel is legal. No command stands at `end`
@@ -63,9 +63,9 @@ impl Judge {
         requires there { channel < channels_of self.now }
         requires behind { end_of self.now ≤ end }
         ensures { (config : Config) (start : ℕ) (records : List Record) → HasJudged self.now config start records
-            → IsVerdict config start end (lane channel records) result }
+            → IsVerdict config start end (of_channel channel records) result }
     {
-        self.lanes[channel as usize].verdict(end)
+        self.judges[channel as usize].verdict(end)
     }
 
     /// How many commands the channel had.
@@ -73,9 +73,9 @@ impl Judge {
         requires { channel < channels_of self.now }
         ensures value { result ≡ commands_of self.now channel }
         ensures counted { (config : Config) (start : ℕ) (records : List Record) → HasJudged self.now config start records
-            → result ≡ length (lane channel records) }
+            → result ≡ length (of_channel channel records) }
     {
-        self.lanes[channel as usize].count
+        self.judges[channel as usize].count
     }
 
     /// The first cycle from the start on that is behind every command.

@@ -10,7 +10,7 @@ use Rattle.ddr_statistics.specs.declared.counts.Finding.{Finding}
 use Rattle.ddr_ledger.specs.declared.activity.Activity.{Activity}
 use Rattle.ddr_ledger.specs.declared.activity.Seen.{Seen}
 use Rattle.ddr_ledger.specs.declared.rows.Rows.{Rows}
-use Rattle.ddr_ledger.specs.declared.served.Served.{Served}
+use Rattle.ddr_ledger.specs.declared.released.ReleasedRequest.{ReleasedRequest}
 use Rattle.ddr_ledger.specs.Activity.{acted, no_activity}
 use Rattle.ddr_ledger.specs.declared.waited.Waited.{Waited}
 use Rattle.ddr_ledger.specs.Rows.{column_counted, no_rows}
@@ -41,7 +41,7 @@ pub record Ledger : Type 0 where
   pub stalls : List Stalled
   -- whether the others are kept, and those that are, in the order in which their replies were released
   pub keeps : Bool
-  pub served : List Served
+  pub served : List ReleasedRequest
 
 -- of the channels and ports of this configuration, before the first request
 abbrev pub no_ledger : Config → Bool → Ledger
@@ -145,7 +145,7 @@ abbrev pub without_oldest : ℕ → Ledger → Ledger
 without_oldest port ledger = record ledger { accepted = slice_set ledger.accepted port (drop 1 (accepted_at ledger port)) }
 
 -- this request of a port, which was served so, and whose reply is released in this round
-abbrev pub served_of : ℕ → Service → ℕ → Accepted → Ledger → Served
+abbrev pub served_of : ℕ → Service → ℕ → Accepted → Ledger → ReleasedRequest
 served_of port service round accepted ledger = record {
   ask = accepted.ask;
   port = port;
@@ -158,12 +158,12 @@ served_of port service round accepted ledger = record {
 }
 
 -- the port's oldest request, where requests are kept
-abbrev pub next_row : ℕ → Service → ℕ → Ledger → Option Served
+abbrev pub next_row : ℕ → Service → ℕ → Ledger → Option ReleasedRequest
 next_row port service round ledger =
     if ledger.keeps then option_map (λ accepted. served_of port service round accepted ledger) (slice_get (accepted_at ledger port) 0) else None
 
 -- it is kept, where requests are
-abbrev pub with_served : Served → Ledger → Ledger
+abbrev pub with_served : ReleasedRequest → Ledger → Ledger
 with_served served ledger = if ledger.keeps then record ledger { served = ledger.served ++ served ∷ [] } else ledger
 
 -- its times are noted

@@ -1,7 +1,7 @@
 //! When requests were accepted, how they found their banks, how long those took whose replies were released, for how long ports waited,
 //! what channels did in their cycles, and what their commands waited for.
 //!
-//! `times`, `rows`, `waited`, `activity`, `stalls`, `found` and `served` stand below, and `ddr_replay` above.
+//! `times`, `rows`, `waited`, `activity`, `stalls`, `found` and `released` stand below, and `ddr_replay` above.
 ghost use Rattle.std.specs.Prelude.{◌≡◌, [], ◌∷◌, ◌++◌, drop, length, replicate, slice_get, IfOk, OnOk, Some};
 ghost use Rattle.ddr_ledger.specs.Activity.{no_activity};
 ghost use Rattle.ddr_ledger.specs.Ledgers.{accepted_at, found_at, next_row, no_ledger, noted, oldest_found, served_of, times_at, with_accepted, with_acted, with_activity, with_column, with_command, with_finding, with_found, with_full, with_idled, with_outstanding, with_times, with_unissued, with_wait, with_window, without_found, without_oldest};
@@ -12,8 +12,8 @@ ghost use Rattle.ddr_ledger.specs.Waited.{no_wait};
 
 use crate::activity::{Activity, Seen};
 use crate::found::Found;
+use crate::released::ReleasedRequest;
 use crate::rows::Rows;
-use crate::served::Served;
 use crate::stalls::Stalls;
 use crate::times::{Accepted, Times};
 use crate::waited::Waited;
@@ -100,7 +100,7 @@ pub struct Ledger {
     /// Whether the requests whose replies were released are kept.
     keeps: bool,
     /// Those that were kept, which `teller` has: here they are for contracts alone.
-    served: Past<Served>,
+    served: Past<ReleasedRequest>,
 }
 
 impl Model for Ledger {
@@ -285,7 +285,7 @@ impl Ledger {
     }
 
     /// The port's oldest request, which was served so, and whose reply is released in that round, where requests are kept.
-    pub fn next_row(&self, port: u32, service: Service, round: u32) -> Option<Served>
+    pub fn next_row(&self, port: u32, service: Service, round: u32) -> Option<ReleasedRequest>
         ensures { result ≡ next_row port service round self.now }
     {
         if !self.keeps {
@@ -296,10 +296,10 @@ impl Ledger {
     }
 
     /// That request of the port, with when it was accepted.
-    fn row_of(&self, port: u32, service: Service, round: u32, accepted: Accepted) -> Served
+    fn row_of(&self, port: u32, service: Service, round: u32, accepted: Accepted) -> ReleasedRequest
         ensures { result ≡ served_of port service round accepted self.now }
     {
-        Served {
+        ReleasedRequest {
             ask: accepted.ask,
             port,
             number: self.count_at(port),

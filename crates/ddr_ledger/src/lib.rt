@@ -7,8 +7,8 @@
 //! `ledger` keeps when requests were accepted, how they found their banks (`found`), how long they took (`times`), how those of each port
 //! found theirs (`rows`), how many were outstanding (`windows`), for how long ports waited (`waited`), what channels did in their cycles
 //! (`activity`), and what their commands waited for while requests were pending (`stalls`, by `causes`; `sums` says that these add up).
-//! `served` is a request whose reply was released, with its line of text, and `measured` hands it to `ddr_measure`. `numbers` counts what a
-//! replay comes to, `places` is the text of ranks and banks, `causes_text` that of causes, and `times_report` that of how long requests
+//! `released` is a request whose reply was released, with its line of text, and `measured` hands it to `ddr_measure`. `numbers` counts what
+//! a replay comes to, `places` is the text of ranks and banks, `causes_text` that of causes, and `times_report` that of how long requests
 //! took. `drampower` has commands in DRAMPower's form.
 #![tactic(auto)]
 
@@ -21,8 +21,8 @@ pub mod ledger;
 pub mod measured;
 pub mod numbers;
 pub mod places;
+pub mod released;
 pub mod rows;
-pub mod served;
 pub mod stalls;
 pub mod sums;
 pub mod times;

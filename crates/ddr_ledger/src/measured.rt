@@ -1,14 +1,14 @@
 //! A request that was served, as numbers are taken of it.
 //!
-//! `served` and `ddr_measure` stand below, and `ddr_replay` above.
+//! `released` and `ddr_measure` stand below, and `ddr_replay` above.
 ghost use Rattle.std.specs.Prelude.{◌≡◌};
 ghost use Rattle.ddr_ledger.specs.Measured.{timed_of};
 
-use crate::served::Served;
+use crate::released::ReleasedRequest;
 use ddr_measure::timed::Timed;
 
 /// A request, with how it found its bank.
-pub fn timed_of(served: &Served) -> Timed
+pub fn timed_of(served: &ReleasedRequest) -> Timed
     ensures { result ≡ timed_of served.now }
 {
     Timed {

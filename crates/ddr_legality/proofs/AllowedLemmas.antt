@@ -18,10 +18,10 @@ use Rattle.ddr_rank.proofs.HeldLemmas.{any_alike, any_either, below_max, none_fo
 use Rattle.ddr_rank.specs.Distances.{is_on_state, keeps_distances, no_distance}
 use Rattle.ddr_rank.specs.Ready.{LAST_CYCLE, after}
 use Rattle.ddr_legality.specs.declared.columns.Columns.{Columns}
-use Rattle.ddr_legality.specs.declared.issued.Issued.{Issued}
+use Rattle.ddr_legality.specs.declared.bus_readiness.BusReadiness.{BusReadiness}
 use Rattle.ddr_legality.specs.Bus.{Bus, keeps_distances_now}
 use Rattle.ddr_legality.specs.Columns.{behind_columns, behind_switch, is_switched_soon, switches_soon}
-use Rattle.ddr_legality.specs.Issued.{HasIssued, behind_last, is_later, other_columns}
+use Rattle.ddr_legality.specs.BusReadiness.{HasIssued, behind_last, is_later, other_columns}
 use Rattle.ddr_legality.proofs.IssuedLemmas.{other_told}
 
 -- the rules on the bus beside those on a rank
@@ -135,7 +135,7 @@ in_order_by start y true begun = grind (arith, nat_tests)
 in_order_by start y false begun = refl
 
 -- a command in the geometry
-pub allowed_told : (i : Issued) (history : List Entry) (c : Command) (from y first free : ℕ) → HasIssued i history → is_in i.config.geometry c ≡ true → y < LAST_CYCLE → i.start ≤ from → from ≤ y
+pub allowed_told : (i : BusReadiness) (history : List Entry) (c : Command) (from y first free : ℕ) → HasIssued i history → is_in i.config.geometry c ≡ true → y < LAST_CYCLE → i.start ≤ from → from ≤ y
     → free ≡ max (max from (behind_last i.last)) (behind_columns i.config.timing (other_columns i (rank_of c)) c)
     → free ≤ first
     → (free ≤ y → keeps_distances i.config history (entry y c) ≡ nat_le first y)

@@ -14,8 +14,8 @@ use Rattle.ddr_trace.proofs.LowestLemmas.{lowest_rule-alike, lowest_rule-none, n
 use Rattle.ddr_trace.proofs.SpacingLemmas.{no_pairs}
 use Rattle.ddr_trace.proofs.WindowLemmas.{no_ref_gap}
 use Rattle.ddr_rank.specs.Stands.{lowest_on_rank}
-use Rattle.ddr_legality.specs.declared.issued.Issued.{Issued}
-use Rattle.ddr_legality.specs.Issued.{HasIssued, is_in_order}
+use Rattle.ddr_legality.specs.declared.bus_readiness.BusReadiness.{BusReadiness}
+use Rattle.ddr_legality.specs.BusReadiness.{HasIssued, is_in_order}
 use Rattle.ddr_legality.specs.Refreshes.{refresh_broken}
 use Rattle.ddr_legality.proofs.SwitchLemmas.{no_column, no_switch}
 
@@ -75,14 +75,14 @@ module _ (c : Config) (start end : ℕ) (history : List Entry) (e : Entry) (orde
       by_rule q = none_broken _ none q
 
 -- what is kept of the last command tells the order
-in_order_told : (i : Issued) (history : List Entry) → HasIssued i history → (end : ℕ) (e : Entry) → not (is_in_order i.last i.start end e.cycle) ≡ breaks_order i.start end history e
+in_order_told : (i : BusReadiness) (history : List Entry) → HasIssued i history → (end : ℕ) (e : Entry) → not (is_in_order i.last i.start end e.cycle) ≡ breaks_order i.start end history e
 in_order_told i history issued end e =
     ap (λ (b : Bool). not (b && nat_le i.start e.cycle && nat_lt e.cycle end)) (issued.last e.cycle)
 
-pub out_of_order : (i : Issued) (history : List Entry) → HasIssued i history → (end : ℕ) (e : Entry) → is_in_order i.last i.start end e.cycle ≡ false → breaks_order i.start end history e ≡ true
+pub out_of_order : (i : BusReadiness) (history : List Entry) → HasIssued i history → (end : ℕ) (e : Entry) → is_in_order i.last i.start end e.cycle ≡ false → breaks_order i.start end history e ≡ true
 out_of_order i history issued end e out = sym (in_order_told i history issued end e) ∙ ap not out
 
-pub in_order : (i : Issued) (history : List Entry) → HasIssued i history → (end : ℕ) (e : Entry) → is_in_order i.last i.start end e.cycle ≡ true → breaks_order i.start end history e ≡ false
+pub in_order : (i : BusReadiness) (history : List Entry) → HasIssued i history → (end : ℕ) (e : Entry) → is_in_order i.last i.start end e.cycle ≡ true → breaks_order i.start end history e ≡ false
 in_order i history issued end e within = sym (in_order_told i history issued end e) ∙ ap not within
 
 -- in order, a command comes after all others

@@ -14,19 +14,19 @@ use Rattle.ddr_trace.specs.Rules.{breaks_order, breaks_rtrs, is_in, latency}
 use Rattle.ddr_rank.specs.Ready.{LAST_CYCLE, after}
 use Rattle.ddr_legality.specs.declared.columns.Columns.{Columns}
 use Rattle.ddr_legality.specs.declared.columns.Switch.{Switch}
-use Rattle.ddr_legality.specs.declared.issued.Issued.{Issued}
+use Rattle.ddr_legality.specs.declared.bus_readiness.BusReadiness.{BusReadiness}
 use Rattle.ddr_legality.specs.Columns.{behind_columns, behind_switch, switch_behind, switches_soon}
-use Rattle.ddr_legality.specs.Issued.{HasIssued, behind_last, behind_other, is_later, other_columns, switch_of}
+use Rattle.ddr_legality.specs.BusReadiness.{HasIssued, behind_last, behind_other, is_later, other_columns, switch_of}
 use Rattle.ddr_legality.proofs.RankLemmas.{second_rank}
 use Rattle.ddr_legality.proofs.SwitchLemmas.{switch_told}
 
 -- all commands are of banks that there are
-pub all_placed : (i : Issued) (history : List Entry) → HasIssued i history → AllByRecursion (λ a. is_in i.config.geometry a.command ≡ true) history
+pub all_placed : (i : BusReadiness) (history : List Entry) → HasIssued i history → AllByRecursion (λ a. is_in i.config.geometry a.command ≡ true) history
 all_placed i history issued =
     subst (λ (c : Config). AllByRecursion (λ a. is_in c.geometry a.command ≡ true) history) i.first_config issued.first.placed
 
 -- RTRS, by what is kept of the other rank
-pub other_told : (i : Issued) (history : List Entry) (e : Entry) → HasIssued i history → is_in i.config.geometry e.command ≡ true → switches_soon i.config.timing (other_columns i (rank_of e.command)) e ≡ breaks_rtrs i.config.timing history e
+pub other_told : (i : BusReadiness) (history : List Entry) (e : Entry) → HasIssued i history → is_in i.config.geometry e.command ≡ true → switches_soon i.config.timing (other_columns i (rank_of e.command)) e ≡ breaks_rtrs i.config.timing history e
 other_told i history e issued placed = by_rank (rank_of e.command == 0) refl
   where
     by_rank : (w : Bool) → (rank_of e.command == 0) ≡ w → switches_soon i.config.timing (if w then i.second_columns else i.first_columns) e ≡ breaks_rtrs i.config.timing history e
@@ -48,14 +48,14 @@ alike_columns t c d first second same columns =
     rw (first, second, alike t c d same columns.read, alike t c d same columns.write) refl
 
 -- the other rank leaves every other command all cycles
-pub all_left : (i : Issued) (c : Command) → is_column c ≡ false → 0 ≡ behind_other i c
+pub all_left : (i : BusReadiness) (c : Command) → is_column c ≡ false → 0 ≡ behind_other i c
 all_left i c none = rw none refl
 
 pub no_column : (c : Command) → ((k : ℕ) × (c ≡ PreAll k)) ⊎ ((k : ℕ) × (c ≡ Refresh k)) → is_column c ≡ false
 no_column c (inl is) = rw is.1 refl
 no_column c (inr is) = rw is.1 refl
 
-module _ (i : Issued) (history : List Entry) (issued : HasIssued i history) where
+module _ (i : BusReadiness) (history : List Entry) (issued : HasIssued i history) where
   -- by the rank of the command
   by_rank : (pick : Switch → ℕ) (c : Command) → ((columns : Columns) → pick (switch_behind i.config.timing columns) ≡ behind_columns i.config.timing columns c) → pick (switch_of i (rank_of c)) ≡ behind_other i c
   by_rank pick c picked = cases (rank_of c == 0) refl

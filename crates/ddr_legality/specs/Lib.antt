@@ -1,7 +1,7 @@
 pub mod Bus
 pub mod Columns
 pub mod Followed
-pub mod Issued
+pub mod BusReadiness
 pub mod Kept
 pub mod OnePass
 pub mod Refreshes

@@ -4,7 +4,7 @@ use Rattle.ddr_timing.specs.declared.config.Config.{Config}
 use Rattle.ddr_trace.specs.declared.command.Entry.{Entry}
 use Rattle.ddr_trace.specs.Rules.{is_in}
 use Rattle.ddr_legality.specs.declared.one_pass.Checker.{Checker}
-use Rattle.ddr_legality.specs.Issued.{HasIssued, is_later}
+use Rattle.ddr_legality.specs.BusReadiness.{HasIssued, is_later}
 use Rattle.ddr_legality.specs.declared.refreshes.Refreshes.{Refreshes}
 use Rattle.ddr_legality.specs.Refreshes.{HasCounted}
 

@@ -9,7 +9,7 @@ ghost use Rattle.ddr_trace.specs.Legality.{IsLegal};
 ghost use Rattle.ddr_rank.specs.Ready.{LAST_CYCLE};
 ghost use Rattle.ddr_legality.specs.Bus.{broken_now, fits_now, is_legal_now, keeps_distances_now, open_row_now, opened, passed, recorded, ticked};
 
-use crate::issued::Issued;
+use crate::bus_readiness::BusReadiness;
 use ddr_past::past::Past;
 use ddr_timing::config::Config;
 use ddr_trace::command::{Command, Entry};
@@ -22,7 +22,7 @@ use std::marker::Model;
 /// keeps none, contracts alone know what was issued.
 #[derive(Drop)]
 pub struct Legality {
-    issued: Issued,
+    issued: BusReadiness,
     now: u64,
     // What was issued, for contracts alone.
     past: Past<Entry>,
@@ -65,7 +65,7 @@ impl Legality {
         ensures keeps { IfOk result (λ l. l.keeps ≡ true) }
     {
         Ok(Legality {
-            issued: Issued::open(alloc, config, first)?,
+            issued: BusReadiness::open(alloc, config, first)?,
             now: first,
             past: Past::new(),
             keeps: true,
@@ -84,7 +84,7 @@ impl Legality {
         ensures keeps { IfOk result (λ l. l.keeps ≡ false) }
     {
         Ok(Legality {
-            issued: Issued::open(alloc, config, first)?,
+            issued: BusReadiness::open(alloc, config, first)?,
             now: first,
             past: Past::new(),
             keeps: false,

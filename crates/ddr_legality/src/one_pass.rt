@@ -1,7 +1,7 @@
 //! A trace's checker, to which the entries come one by one.
 //!
 //! It finds what `ddr_trace`'s checker finds, which compares each entry with all those before it, and what it keeps of
-//! these doesn't grow with their number: `issued` tells the lowest rule on commands that the next entry breaks, and the
+//! these doesn't grow with their number: `bus_readiness` tells the lowest rule on commands that the next entry breaks, and the
 //! `refreshes` of its rank the two on refresh. `checker` stands above, and so do crates that read a trace as it comes.
 ghost use Rattle.std.specs.Prelude.{◌≡◌, ℕ, ◌&&◌, List, [], ◌∷◌, ◌++◌, IfOk, IfNone, IsTrue, true};
 ghost use Rattle.std.specs.Option.{is_none};
@@ -10,7 +10,7 @@ ghost use Rattle.ddr_trace.specs.Rules.{breaks, ends_late, is_in, last_cycle_bel
 ghost use Rattle.ddr_trace.specs.Commands.{rank_of};
 ghost use Rattle.ddr_trace.specs.Legality.{lowest_rule};
 
-use crate::issued::Issued;
+use crate::bus_readiness::BusReadiness;
 use crate::refreshes::Refreshes;
 use ddr_timing::config::Config;
 use ddr_trace::command::{Command, Entry};
@@ -21,7 +21,7 @@ use std::alloc::{AllocError, Global};
 /// list of entries that was passed so, and of any number of them.
 #[derive(Drop)]
 pub struct Checker {
-    issued: Issued,
+    issued: BusReadiness,
     /// The REFs of rank 0.
     first: Refreshes,
     /// The REFs of rank 1.
@@ -39,7 +39,7 @@ impl Checker {
         ensures passed { IfOk result (λ s. HasPassed s []) }
     {
         Ok(Checker {
-            issued: Issued::open(alloc, config, start)?,
+            issued: BusReadiness::open(alloc, config, start)?,
             first: Refreshes::NONE,
             second: Refreshes::NONE,
         })

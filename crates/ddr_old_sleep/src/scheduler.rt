@@ -28,7 +28,7 @@ type Forced = [bool; MOST_RANKS as usize];
 /// Which of the pending requests are candidates, told without a list of them: of the `count` oldest those of the kind,
 /// with no older one to their line, of ranks that are not forced.
 #[derive(Clone, Copy)]
-struct Served {
+struct CandidateSet {
     kind: Kind,
     count: usize,
     forced: Forced,
@@ -184,15 +184,15 @@ fn age_steady_until(pending: &Pending, now: u64, cap: u32) -> u64 {
 
 /// The requests that may be served in cycle `now`, none of a rank that is forced: where the oldest has reached the cap,
 /// it is alone; otherwise those with no older one to their line, of the kind that the mode serves, if any are.
-fn candidates(pending: &Pending, now: u64, cap: u32, drain: bool, forced: &Forced) -> Served {
+fn candidates(pending: &Pending, now: u64, cap: u32, drain: bool, forced: &Forced) -> CandidateSet {
     if let Some(kind) = capped_kind(pending, now, cap) {
-        return Served {
+        return CandidateSet {
             kind,
             count: 1,
             forced: *forced,
         };
     }
-    let served = Served {
+    let served = CandidateSet {
         kind: served_kind(drain),
         count: pending.len(),
         forced: *forced,
@@ -200,7 +200,7 @@ fn candidates(pending: &Pending, now: u64, cap: u32, drain: bool, forced: &Force
     if has_any(&served, pending) {
         served
     } else {
-        Served {
+        CandidateSet {
             kind: other_kind(served.kind),
             ..served
         }
@@ -235,7 +235,7 @@ fn other_kind(kind: Kind) -> Kind {
 }
 
 /// Whether there is any candidate.
-fn has_any(candidates: &Served, pending: &Pending) -> bool {
+fn has_any(candidates: &CandidateSet, pending: &Pending) -> bool {
     for place in 0..candidates.count {
         if is_candidate(candidates, pending, place) {
             return true;
@@ -245,7 +245,7 @@ fn has_any(candidates: &Served, pending: &Pending) -> bool {
 }
 
 /// Whether the request at the place is a candidate, as far as its place goes.
-fn is_candidate(candidates: &Served, pending: &Pending, place: usize) -> bool {
+fn is_candidate(candidates: &CandidateSet, pending: &Pending, place: usize) -> bool {
     match pending.get(place) {
         Some((request, _)) => {
             candidates.kind == request.echo.kind && is_free(&candidates.forced, pending, place)
@@ -272,7 +272,7 @@ fn is_of_free_rank(forced: &Forced, pending: &Pending, place: usize) -> bool {
 fn stuck_until(
     pending: &Pending,
     legality: &Legality,
-    candidates: &Served,
+    candidates: &CandidateSet,
     room: bool,
     end: u64,
 ) -> u64 {
@@ -294,7 +294,7 @@ fn stuck_until(
 fn place_until(
     pending: &Pending,
     legality: &Legality,
-    candidates: &Served,
+    candidates: &CandidateSet,
     room: bool,
     asked: &mut Asked,
     until: u64,
@@ -337,7 +337,7 @@ fn bank_number(place: Place) -> usize {
 fn bank_until(
     pending: &Pending,
     legality: &Legality,
-    candidates: &Served,
+    candidates: &CandidateSet,
     room: bool,
     at: Place,
 ) -> u64 {
@@ -362,7 +362,7 @@ fn idle_until(legality: &Legality, at: Place) -> u64 {
 }
 
 /// Whether a candidate wants this row, which is open in the bank of the place.
-fn is_wanted(pending: &Pending, candidates: &Served, at: Place, row: u32) -> bool {
+fn is_wanted(pending: &Pending, candidates: &CandidateSet, at: Place, row: u32) -> bool {
     for k in 0..pending.len() {
         let Some(place) = in_bank(pending, at, k) else {
             return false;
@@ -383,7 +383,7 @@ fn in_bank(pending: &Pending, at: Place, k: usize) -> Option<usize> {
 }
 
 /// Whether the request at the place is a candidate that wants the row.
-fn wants(pending: &Pending, candidates: &Served, row: u32, place: usize) -> bool {
+fn wants(pending: &Pending, candidates: &CandidateSet, row: u32, place: usize) -> bool {
     match pending.get(place) {
         Some((request, _)) => {
             request.place.row == row

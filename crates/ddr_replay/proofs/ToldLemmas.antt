@@ -25,7 +25,7 @@ use Rattle.ddr_ledger.specs.Ledgers.{Ledger, accepted_at, next_row, noted, serve
 use Rattle.ddr_ledger.specs.ServedText.{served_head, served_line}
 use Rattle.ddr_replay.specs.Told.{IsNoted, command_text, commands_of, comes_at_end, channel_of, head_of, row_text, said}
 use Rattle.ddr_replay.specs.View.{IsTold, Replay, Tells, told_so_far}
-use Rattle.ddr_ledger.specs.declared.served.Served.{Served}
+use Rattle.ddr_ledger.specs.declared.released.ReleasedRequest.{ReleasedRequest}
 use Rattle.ddr_ledger.specs.declared.times.Accepted.{Accepted}
 use Rattle.ddr_replay.specs.declared.wanted.Wanted.{Wanted}
 use Rattle.ddr_replay.specs.declared.wanted.Wanted.TheVariants as told
@@ -38,7 +38,7 @@ lines_more line head xs x =
     ap (λ (t : List ℕ). head ++ t) (flat_map-append line xs (x ∷ []) ∙ ap (λ (t : List ℕ). flat_map line xs ++ t) (append-nil (line x)))
     ∙ sym (append_assoc head (flat_map line xs) (line x))
 
-pub said_row : (w : Wanted) (rows : List Served) (row : Served) (commands : List Entry) → said w (rows ++ row ∷ []) commands ≡ said w rows commands ++ row_text w row
+pub said_row : (w : Wanted) (rows : List ReleasedRequest) (row : ReleasedRequest) (commands : List Entry) → said w (rows ++ row ∷ []) commands ≡ said w rows commands ++ row_text w row
 said_row told.Statistics rows row commands = refl
 said_row told.Requests rows row commands = lines_more served_line served_head rows row
 said_row (told.Trace channel) rows row commands = sym (append-nil (said (told.Trace channel) rows commands))
@@ -46,7 +46,7 @@ said_row (told.Drampower channel) rows row commands = sym (append-nil (said (tol
 said_row (told.Numbers skip clock) rows row commands = refl
 said_row (told.Intervals skip every) rows row commands = refl
 
-pub said_command : (w : Wanted) (rows : List Served) (commands : List Entry) (e : Entry) → said w rows (commands ++ e ∷ []) ≡ said w rows commands ++ command_text w e
+pub said_command : (w : Wanted) (rows : List ReleasedRequest) (commands : List Entry) (e : Entry) → said w rows (commands ++ e ∷ []) ≡ said w rows commands ++ command_text w e
 said_command told.Statistics rows commands e = refl
 said_command told.Requests rows commands e = sym (append-nil (said told.Requests rows commands))
 said_command (told.Trace channel) rows commands e = lines_more (λ (x : Entry). record_text (command_fields x.cycle x.command)) (record_text header) commands e
@@ -64,7 +64,7 @@ said_nothing (told.Numbers skip clock) = refl
 said_nothing (told.Intervals skip every) = refl
 
 -- where all is told at the end, nothing is before
-pub said_at_end : (w : Wanted) (rows : List Served) (commands : List Entry) → comes_at_end w ≡ true → said w rows commands ≡ []
+pub said_at_end : (w : Wanted) (rows : List ReleasedRequest) (commands : List Entry) → comes_at_end w ≡ true → said w rows commands ≡ []
 said_at_end told.Statistics rows commands is = refl
 said_at_end told.Requests rows commands is = absurd (let impossible = is in cc)
 said_at_end (told.Trace channel) rows commands is = absurd (let impossible = is in cc)
@@ -74,17 +74,17 @@ said_at_end (told.Intervals skip every) rows commands is = refl
 
 -- ---- a reply that is released
 
-pub noted_more : (w : Wanted) (commands : List Entry) (text next : List ℕ) (rows more : List Served) (row : Served) → more ≡ rows ++ row ∷ [] → next ≡ text ++ row_text w row → IsNoted commands text next w rows more
+pub noted_more : (w : Wanted) (commands : List Entry) (text next : List ℕ) (rows more : List ReleasedRequest) (row : ReleasedRequest) → more ≡ rows ++ row ∷ [] → next ≡ text ++ row_text w row → IsNoted commands text next w rows more
 noted_more w commands text next rows more row is told = λ earlier so.
-    ap (λ (xs : List Served). said w xs commands) is ∙ said_row w rows row commands ∙ ap (λ (t : List ℕ). t ++ row_text w row) so
+    ap (λ (xs : List ReleasedRequest). said w xs commands) is ∙ said_row w rows row commands ∙ ap (λ (t : List ℕ). t ++ row_text w row) so
     ∙ append_assoc earlier text (row_text w row) ∙ ap (λ (t : List ℕ). earlier ++ t) (sym told)
 
-pub noted_none : (w : Wanted) (commands : List Entry) (text : List ℕ) (rows more : List Served) → more ≡ rows → IsNoted commands text text w rows more
-noted_none w commands text rows more is = λ earlier so. ap (λ (xs : List Served). said w xs commands) is ∙ so
+pub noted_none : (w : Wanted) (commands : List Entry) (text : List ℕ) (rows more : List ReleasedRequest) → more ≡ rows → IsNoted commands text text w rows more
+noted_none w commands text rows more is = λ earlier so. ap (λ (xs : List ReleasedRequest). said w xs commands) is ∙ so
 
 -- the requests that are kept, and the next one
 
-abbrev rows_of : Option Served → List Served
+abbrev rows_of : Option ReleasedRequest → List ReleasedRequest
 rows_of None = []
 rows_of (Some row) = row ∷ []
 
@@ -106,11 +106,11 @@ pub noted_rows : (port round : ℕ) (service : Service) (ledger : Ledger) → (n
 noted_rows port round service ledger =
     by_keeps port round service ledger ledger.keeps (slice_get (accepted_at ledger port) 0) refl
 
-pub noted_some : (port round : ℕ) (service : Service) (ledger : Ledger) (row : Served) → next_row port service round ledger ≡ Some row → (noted port service round ledger).served ≡ ledger.served ++ row ∷ []
-noted_some port round service ledger row is = noted_rows port round service ledger ∙ ap (λ (o : Option Served). ledger.served ++ rows_of o) is
+pub noted_some : (port round : ℕ) (service : Service) (ledger : Ledger) (row : ReleasedRequest) → next_row port service round ledger ≡ Some row → (noted port service round ledger).served ≡ ledger.served ++ row ∷ []
+noted_some port round service ledger row is = noted_rows port round service ledger ∙ ap (λ (o : Option ReleasedRequest). ledger.served ++ rows_of o) is
 
 pub noted_nothing : (port round : ℕ) (service : Service) (ledger : Ledger) → next_row port service round ledger ≡ None → (noted port service round ledger).served ≡ ledger.served
-noted_nothing port round service ledger is = noted_rows port round service ledger ∙ ap (λ (o : Option Served). ledger.served ++ rows_of o) is ∙ append-nil ledger.served
+noted_nothing port round service ledger is = noted_rows port round service ledger ∙ ap (λ (o : Option ReleasedRequest). ledger.served ++ rows_of o) is ∙ append-nil ledger.served
 
 -- ---- what the core does
 
@@ -126,7 +126,7 @@ tells_same old new wanted text served traces = λ earlier told.
     so_far_same : (a b : Replay) → b.wanted ≡ a.wanted → b.ledger.served ≡ a.ledger.served → ((c : ℕ) → trace_at (state_of b.world) c ≡ trace_at (state_of a.world) c) → told_so_far b ≡ told_so_far a
     so_far_same a b wanted served traces =
         ap (λ (w : Wanted). said w b.ledger.served (commands_of w (state_of b.world))) wanted
-        ∙ ap (λ (rows : List Served). said a.wanted rows (commands_of a.wanted (state_of b.world))) served
+        ∙ ap (λ (rows : List ReleasedRequest). said a.wanted rows (commands_of a.wanted (state_of b.world))) served
         ∙ ap (λ (commands : List Entry). said a.wanted a.ledger.served commands) (by_channel (state_of a.world) (state_of b.world) (channel_of a.wanted) traces)
 
 -- the commands of the channel that is asked for, with those of a round
@@ -134,7 +134,7 @@ commands_more : (w : Option ℕ) (s next : State) (told : List Told) → ((c : �
 commands_more None s next told traces = refl
 commands_more (Some c) s next told traces = traces c
 
-said_newest : (w : Wanted) (rows : List Served) (commands : List Entry) (o : Option Entry) → said w rows (commands ++ newest_list o) ≡ said w rows commands ++ option_map_or (command_text w) o []
+said_newest : (w : Wanted) (rows : List ReleasedRequest) (commands : List Entry) (o : Option Entry) → said w rows (commands ++ newest_list o) ≡ said w rows commands ++ option_map_or (command_text w) o []
 said_newest w rows commands None = ap (said w rows) (append-nil commands) ∙ sym (append-nil (said w rows commands))
 said_newest w rows commands (Some e) = said_command w rows commands e
 
@@ -145,7 +145,7 @@ tells_newest old new told o wanted served traces newest text = λ earlier so.
     let w = old.wanted in
     let before = commands_of w (state_of old.world) in
     ap (λ (x : Wanted). said x new.ledger.served (commands_of x (state_of new.world))) wanted
-    ∙ ap (λ (rows : List Served). said w rows (commands_of w (state_of new.world))) served
+    ∙ ap (λ (rows : List ReleasedRequest). said w rows (commands_of w (state_of new.world))) served
     ∙ ap (said w old.ledger.served) (commands_more (channel_of w) (state_of old.world) (state_of new.world) told traces ∙ ap (λ (es : List Entry). before ++ es) (sym newest))
     ∙ said_newest w old.ledger.served before o
     ∙ ap (λ (t : List ℕ). t ++ option_map_or (command_text w) o []) so
@@ -172,13 +172,13 @@ released_still c k next p r a =
     h.traces c ∙ ap (λ (es : List Entry). trace_at (state_of k) c ++ es) (sym (collected c h.told []) ∙ sym h.heard ∙ none_released c p r) ∙ append-nil (trace_at (state_of k) c)
 
 -- a reply was released, and its request told of
-pub tells_released : (old new : Replay) (rows : List Served) (p : ℕ) (r : Result Outcome Refusal) → new.wanted ≡ old.wanted → new.ledger.served ≡ rows → IsAnswered old.world new.world (Release p) r
+pub tells_released : (old new : Replay) (rows : List ReleasedRequest) (p : ℕ) (r : Result Outcome Refusal) → new.wanted ≡ old.wanted → new.ledger.served ≡ rows → IsAnswered old.world new.world (Release p) r
     → ((commands : List Entry) → IsNoted commands old.text new.text old.wanted old.ledger.served rows) → Tells old new
 tells_released old new rows p r wanted served answered noted = λ earlier told.
     let w = old.wanted in
     let before = commands_of w (state_of old.world) in
     ap (λ (x : Wanted). said x new.ledger.served (commands_of x (state_of new.world))) wanted
-    ∙ ap (λ (xs : List Served). said w xs (commands_of w (state_of new.world))) served
+    ∙ ap (λ (xs : List ReleasedRequest). said w xs (commands_of w (state_of new.world))) served
     ∙ ap (said w rows) (by_asked (channel_of w) (λ c. released_still c old.world new.world p r answered))
     ∙ noted before earlier told
   where
@@ -200,7 +200,7 @@ none_asked config (Some c) = none_issued config config.geometry.channels c
 pub begun_told : (config : Config) (r : Replay) → state_of r.world ≡ opened config 0 0 → r.ledger.served ≡ [] → r.text ≡ head_of r.wanted → IsTold [] r
 begun_told config r state served text =
     ap (λ (s : State). said r.wanted r.ledger.served (commands_of r.wanted s)) state
-    ∙ ap (λ (rows : List Served). said r.wanted rows (commands_of r.wanted (opened config 0 0))) served
+    ∙ ap (λ (rows : List ReleasedRequest). said r.wanted rows (commands_of r.wanted (opened config 0 0))) served
     ∙ ap (said r.wanted []) (none_asked config (channel_of r.wanted))
     ∙ said_nothing r.wanted ∙ sym text
 

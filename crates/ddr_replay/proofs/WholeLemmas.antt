@@ -10,7 +10,7 @@ use Rattle.ddr_stream.specs.Waiting.{IsSized, Waiting}
 use Rattle.ddr_replay.specs.declared.books.Books.{Books}
 use Rattle.ddr_replay.specs.declared.order.Asking.{Asking}
 use Rattle.ddr_replay.specs.declared.replaying.Replaying.TheInside.{Inside}
-use Rattle.ddr_ledger.specs.declared.served.Served.{Served}
+use Rattle.ddr_ledger.specs.declared.released.ReleasedRequest.{ReleasedRequest}
 use Rattle.ddr_replay.specs.declared.teller.Tale.{Tale}
 use Rattle.ddr_replay.specs.declared.teller.Teller.{Teller}
 use Rattle.ddr_replay.specs.Books.{heard}
@@ -30,7 +30,7 @@ whole_served a world before books teller k noting watched served config keeps wa
   counted = omega (arith, k.counted, waiting);
   noted = noted_heard a.config (state_of a.world) (state_of world) before.noting books.noting (subst (AreNoted a.config (state_of a.world)) (sym noting) k.noted) (noting_heard before books (state_of a.world) (state_of world) h);
   watched = ap (λ (b : Books). b.watched) h.heard ∙ all_watched h.told before ∙ watched ∙ k.watched ∙ ap (λ (t : Tale). channel_of (wanted_of t)) (sym tale);
-  kept = subst (λ (t : Tale). IsKept t books.ledger.served) (sym tale) (subst (λ (xs : List Served). IsKept a.teller.tale xs) (sym (ap (λ (b : Books). b.ledger.served) h.heard ∙ heard_served h.told before ∙ served)) k.kept);
+  kept = subst (λ (t : Tale). IsKept t books.ledger.served) (sym tale) (subst (λ (xs : List ReleasedRequest). IsKept a.teller.tale xs) (sym (ap (λ (b : Books). b.ledger.served) h.heard ∙ heard_served h.told before ∙ served)) k.kept);
 }
 
 -- a port's submissions
@@ -44,5 +44,5 @@ whole_submitted a asking world stream ledger went_on k config keeps same sized c
   counted = omega (arith, count, k.counted);
   noted = noted_still a.config (state_of a.world) (state_of world) a.books.noting k.noted traces;
   watched = k.watched;
-  kept = subst (λ (xs : List Served). IsKept a.teller.tale xs) (sym served) k.kept;
+  kept = subst (λ (xs : List ReleasedRequest). IsKept a.teller.tale xs) (sym served) k.kept;
 }

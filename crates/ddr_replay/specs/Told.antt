@@ -8,7 +8,7 @@ use Rattle.ddr_world.specs.State.{State}
 use Rattle.ddr_ledger.specs.Drampower.{drampower_line}
 use Rattle.ddr_ledger.specs.Measured.{timed_of}
 use Rattle.ddr_ledger.specs.ServedText.{served_head, served_line}
-use Rattle.ddr_ledger.specs.declared.served.Served.{Served}
+use Rattle.ddr_ledger.specs.declared.released.ReleasedRequest.{ReleasedRequest}
 use Rattle.ddr_replay.specs.declared.teller.Tale.{Tale}
 use Rattle.ddr_replay.specs.declared.teller.Tale.TheVariants as tale
 use Rattle.ddr_replay.specs.declared.wanted.Wanted.{Wanted}
@@ -22,7 +22,7 @@ head_of told.Requests = served_head
 head_of (told.Trace channel) = record_text header
 head_of _ = []
 
-abbrev pub row_text : Wanted → Served → List ℕ
+abbrev pub row_text : Wanted → ReleasedRequest → List ℕ
 row_text told.Requests row = served_line row
 row_text _ row = []
 
@@ -48,7 +48,7 @@ abbrev pub commands_of : Wanted → State → List Entry
 commands_of wanted s = option_map_or (trace_at s) (channel_of wanted) []
 
 -- all that was told of these requests and these commands
-abbrev pub said : Wanted → List Served → List Entry → List ℕ
+abbrev pub said : Wanted → List ReleasedRequest → List Entry → List ℕ
 said told.Requests rows commands = served_head ++ flat_map served_line rows
 said (told.Trace channel) rows commands = record_text header ++ flat_map (λ e. record_text (command_fields e.cycle e.command)) commands
 said (told.Drampower channel) rows commands = flat_map drampower_line commands
@@ -62,7 +62,7 @@ comes_at_end (told.Drampower channel) = false
 comes_at_end _ = true
 
 -- what was written, whatever that is, and what is to be written next are all that was told, also behind some requests more
-abbrev pub IsNoted : List Entry → List ℕ → List ℕ → Wanted → List Served → List Served → Type 0
+abbrev pub IsNoted : List Entry → List ℕ → List ℕ → Wanted → List ReleasedRequest → List ReleasedRequest → Type 0
 IsNoted commands text next wanted rows more = (earlier : List ℕ) → said wanted rows commands ≡ earlier ++ text → said wanted more commands ≡ earlier ++ next
 
 -- ---- what is kept until the end
@@ -76,7 +76,7 @@ wanted_of (tale.Numbers skip clock left requests) = told.Numbers skip clock
 wanted_of (tale.Intervals skip every left requests) = told.Intervals skip every
 
 -- of these requests those behind the first so many, as numbers are taken of them
-abbrev pub IsKept : Tale → List Served → Type 0
+abbrev pub IsKept : Tale → List ReleasedRequest → Type 0
 IsKept (tale.Numbers skip clock left requests) rows = (left ≡ skip - length rows) × (requests ≡ map timed_of (drop skip rows))
 IsKept (tale.Intervals skip every left requests) rows = (left ≡ skip - length rows) × (requests.items ≡ map timed_of (drop skip rows))
 IsKept _ rows = Unit {0}

@@ -8,13 +8,13 @@ ghost use Rattle.ddr_trace.specs.Text.{command_fields, header, record_text};
 ghost use Rattle.ddr_trace.specs.declared.command.Entry.{Entry};
 ghost use Rattle.ddr_ledger.specs.Ledgers.{noted};
 ghost use Rattle.ddr_replay.specs.Told.{IsKept, IsNoted, LeavesOut, command_text, head_of, row_text, wanted_of};
-ghost use Rattle.ddr_ledger.specs.declared.served.Served.{Served};
+ghost use Rattle.ddr_ledger.specs.declared.released.ReleasedRequest.{ReleasedRequest};
 
 use crate::wanted::Wanted;
 use ddr_ledger::drampower::drampower_line;
 use ddr_ledger::ledger::Ledger;
 use ddr_ledger::measured::timed_of;
-use ddr_ledger::served::{HEAD, Served, served_line};
+use ddr_ledger::released::{HEAD, ReleasedRequest, served_line};
 use ddr_measure::measured::Measured;
 use ddr_measure::timed::Timed;
 use ddr_reorder::reply::Service;
@@ -86,10 +86,10 @@ impl Tale {
     }
 
     /// Notes a request whose reply is released, as far as that is told at the end.
-    fn note(&mut self, row: &Served) -> Result<(), AllocError>
+    fn note(&mut self, row: &ReleasedRequest) -> Result<(), AllocError>
         ensures wanted { wanted_of self.new ≡ wanted_of self.old }
-        ensures kept { OnOk result ((rows : List Served) → IsKept self.old rows → IsKept self.new (rows ++ row.now ∷ [])) }
-        ensures stays { IfErr result (λ e. (rows : List Served) → IsKept self.old rows → IsKept self.new rows) }
+        ensures kept { OnOk result ((rows : List ReleasedRequest) → IsKept self.old rows → IsKept self.new (rows ++ row.now ∷ [])) }
+        ensures stays { IfErr result (λ e. (rows : List ReleasedRequest) → IsKept self.old rows → IsKept self.new rows) }
     {
         match self {
             Tale::Numbers { left, requests, .. } => {
@@ -122,11 +122,11 @@ impl Teller {
     }
 
     /// Tells of a request whose reply is released.
-    fn note(&mut self, alloc: Global, row: &Served) -> Result<(), AllocError>
+    fn note(&mut self, alloc: Global, row: &ReleasedRequest) -> Result<(), AllocError>
         ensures wanted { wanted_of self.new.tale ≡ wanted_of self.old.tale }
         ensures text { OnOk result (self.new.text.items ≡ self.old.text.items ++ row_text (wanted_of self.old.tale) row.now) }
-        ensures kept { OnOk result ((rows : List Served) → IsKept self.old.tale rows → IsKept self.new.tale (rows ++ row.now ∷ [])) }
-        ensures stays { IfErr result (λ e. (rows : List Served) → IsKept self.old.tale rows → IsKept self.new.tale rows) }
+        ensures kept { OnOk result ((rows : List ReleasedRequest) → IsKept self.old.tale rows → IsKept self.new.tale (rows ++ row.now ∷ [])) }
+        ensures stays { IfErr result (λ e. (rows : List ReleasedRequest) → IsKept self.old.tale rows → IsKept self.new.tale rows) }
     {
         if let Tale::Requests = self.tale {
             let line = served_line(alloc, row)?;

@@ -21,7 +21,7 @@ use Rattle.ddr_stream.specs.Asks.{asked_by}
 use Rattle.ddr_stream.specs.Stream.{queue_at}
 use Rattle.ddr_ledger.specs.declared.activity.Seen.{Seen}
 use Rattle.ddr_ledger.specs.declared.rows.Rows.{Rows}
-use Rattle.ddr_ledger.specs.declared.served.Served.{Served}
+use Rattle.ddr_ledger.specs.declared.released.ReleasedRequest.{ReleasedRequest}
 use Rattle.ddr_ledger.specs.declared.times.Accepted.{Accepted}
 use Rattle.ddr_ledger.specs.Activities.{all_acted}
 use Rattle.ddr_ledger.specs.Activity.{seen_at}
@@ -150,7 +150,7 @@ all_submitted_still ports config run =
 
 -- ---- what ports collect and release
 
-kept_rows : (keeps : Bool) (served : List Served) (ledger : Ledger)
+kept_rows : (keeps : Bool) (served : List ReleasedRequest) (ledger : Ledger)
     → (cond keeps (record ledger { served = served }) ledger).rows ≡ ledger.rows
 kept_rows true served ledger = refl
 kept_rows false served ledger = refl

@@ -26,7 +26,7 @@ use Rattle.ddr_stream.specs.declared.ask.Ask.{Ask}
 use Rattle.ddr_stream.specs.Asks.{asked_by}
 use Rattle.ddr_stream.specs.Stream.{Queues, queue_at}
 use Rattle.ddr_ledger.specs.declared.activity.Seen.{Seen}
-use Rattle.ddr_ledger.specs.declared.served.Served.{Served}
+use Rattle.ddr_ledger.specs.declared.released.ReleasedRequest.{ReleasedRequest}
 use Rattle.ddr_ledger.specs.declared.times.Accepted.{Accepted}
 use Rattle.ddr_ledger.specs.declared.times.Times.{Times}
 use Rattle.ddr_ledger.specs.Activities.{all_acted}
@@ -93,7 +93,7 @@ one_timed ports p issued_in round accepted ledger inside is =
           (is.same number of by time);
     }
 
-kept_times : (keeps : Bool) (served : List Served) (ledger : Ledger)
+kept_times : (keeps : Bool) (served : List ReleasedRequest) (ledger : Ledger)
     → TimesStill ledger (cond keeps (record ledger { served = served }) ledger)
 kept_times true served ledger = (refl, refl)
 kept_times false served ledger = (refl, refl)

@@ -14,7 +14,7 @@ use Rattle.ddr_reorder.specs.Replies.{Answer}
 use Rattle.ddr_ports.specs.Asked.{echo_of}
 use Rattle.ddr_world.specs.History.{Answered, Whereabouts, begun, run}
 use Rattle.ddr_stream.specs.Asks.{asked_by}
-use Rattle.ddr_ledger.specs.declared.served.Served.{Served}
+use Rattle.ddr_ledger.specs.declared.released.ReleasedRequest.{ReleasedRequest}
 use Rattle.ddr_ledger.specs.declared.times.Accepted.{Accepted}
 use Rattle.ddr_ledger.specs.declared.times.Times.{Times}
 use Rattle.ddr_world.specs.State.{State}
@@ -46,19 +46,19 @@ pub record IsPortTold (config : Config) (events : List Answered) (accepted : Lis
   pub each : (q : ℕ) (a : Accepted) → slice_get accepted q ≡ Some a → IsAcceptedAt config events p (length ((run (replay_opening config) events).taken p) + q) a
   pub many : noted_count times ≡ length ((run (replay_opening config) events).taken p)
 
-pub record IsRow (config : Config) (events : List Answered) (row : Served) : Type 0 where
+pub record IsRow (config : Config) (events : List Answered) (row : ReleasedRequest) : Type 0 where
   pub is_row : IsRowOf config events row
   pub in_order : IsInOrder row
 
 -- the rows of each port, one for each reply that it released
-abbrev pub AreNumbered : Config → List Answered → List Served → Type 0
-AreNumbered config events rows = (p : ℕ) → map (λ (row : Served). row.number) (rows_of p rows) ≡ range_with_len 0 (length ((run (replay_opening config) events).taken p))
+abbrev pub AreNumbered : Config → List Answered → List ReleasedRequest → Type 0
+AreNumbered config events rows = (p : ℕ) → map (λ (row : ReleasedRequest). row.number) (rows_of p rows) ≡ range_with_len 0 (length ((run (replay_opening config) events).taken p))
 
-pub record IsLedger (config : Config) (events : List Answered) (lists : List (List Accepted)) (times : List Times) (keeps : Bool) (rows : List Served) : Type 0 where
+pub record IsLedger (config : Config) (events : List Answered) (lists : List (List Accepted)) (times : List Times) (keeps : Bool) (rows : List ReleasedRequest) : Type 0 where
   pub lists_are : length lists ≡ config.limits.ports
   pub times_are : length times ≡ config.limits.ports
   pub ports : (p : ℕ) → p < config.limits.ports → IsPortTold config events (slice_index_or lists p []) (slice_index_or times p no_times) p
-  pub each : (i : ℕ) (row : Served) → slice_get rows i ≡ Some row → IsRow config events row
+  pub each : (i : ℕ) (row : ReleasedRequest) → slice_get rows i ≡ Some row → IsRow config events row
   pub numbered : keeps ≡ true → AreNumbered config events rows
 
 -- what is told stays as more events come
@@ -75,7 +75,7 @@ accepted_still config events more p k a w =
       came = on.came w.at.channel w.at.place a.round w.came;
     }
 
-pub row_still : (config : Config) (events more : List Answered) (row : Served) → IsRow config events row → IsRow config (events ++ more) row
+pub row_still : (config : Config) (events more : List Answered) (row : ReleasedRequest) → IsRow config events row → IsRow config (events ++ more) row
 row_still config events more row w =
     let on = goes_on (replay_opening config) events more in
     let r = w.is_row in
@@ -110,11 +110,11 @@ port_still config events more accepted times p sent taken k = record {
   many = k.many ∙ ap (λ (ts : List Answer). length ts) (sym taken);
 }
 
-pub numbered_still : (config : Config) (events more : List Answered) (rows : List Served) → (run (replay_opening config) (events ++ more)).taken ≡ (run (replay_opening config) events).taken → AreNumbered config events rows
+pub numbered_still : (config : Config) (events more : List Answered) (rows : List ReleasedRequest) → (run (replay_opening config) (events ++ more)).taken ≡ (run (replay_opening config) events).taken → AreNumbered config events rows
     → AreNumbered config (events ++ more) rows
 numbered_still config events more rows taken k p = k p ∙ ap (λ (f : ℕ → List Answer). range_with_len 0 (length (f p))) (sym taken)
 
-pub ledger_still : (config : Config) (events more : List Answered) (lists : List (List Accepted)) (times : List Times) (keeps : Bool) (rows : List Served) → (run (replay_opening config) (events ++ more)).sent ≡ (run (replay_opening config) events).sent
+pub ledger_still : (config : Config) (events more : List Answered) (lists : List (List Accepted)) (times : List Times) (keeps : Bool) (rows : List ReleasedRequest) → (run (replay_opening config) (events ++ more)).sent ≡ (run (replay_opening config) events).sent
     → (run (replay_opening config) (events ++ more)).taken ≡ (run (replay_opening config) events).taken → IsLedger config events lists times keeps rows → IsLedger config (events ++ more) lists times keeps rows
 ledger_still config events more lists times keeps rows sent taken k = record {
   lists_are = k.lists_are;
@@ -142,10 +142,10 @@ set_at old p d x inside = record {
 pub same_at : {X : Type 0} (old : List X) (p : ℕ) (d : X) → IsSetAt old old p d (slice_index_or old p d)
 same_at old p d = record { as_long = refl; here = refl; others = λ q other. refl }
 
-pub ledger_with : (config : Config) (events more : List Answered) (lists lists' : List (List Accepted)) (times times' : List Times) (keeps : Bool) (rows rows' : List Served) (p : ℕ) (accepted : List Accepted) (noted : Times) → IsLedger config events lists times keeps rows
+pub ledger_with : (config : Config) (events more : List Answered) (lists lists' : List (List Accepted)) (times times' : List Times) (keeps : Bool) (rows rows' : List ReleasedRequest) (p : ℕ) (accepted : List Accepted) (noted : Times) → IsLedger config events lists times keeps rows
     → IsSetAt lists lists' p [] accepted → IsSetAt times times' p no_times noted → ((q : ℕ) → q ≢ p → (run (replay_opening config) (events ++ more)).sent q ≡ (run (replay_opening config) events).sent q)
     → ((q : ℕ) → q ≢ p → (run (replay_opening config) (events ++ more)).taken q ≡ (run (replay_opening config) events).taken q) → IsPortTold config (events ++ more) accepted noted p
-    → ((i : ℕ) (row : Served) → slice_get rows' i ≡ Some row → IsRow config (events ++ more) row) → (keeps ≡ true → AreNumbered config (events ++ more) rows') → IsLedger config (events ++ more) lists' times' keeps rows'
+    → ((i : ℕ) (row : ReleasedRequest) → slice_get rows' i ≡ Some row → IsRow config (events ++ more) row) → (keeps ≡ true → AreNumbered config (events ++ more) rows') → IsLedger config (events ++ more) lists' times' keeps rows'
 ledger_with config events more lists lists' times times' keeps rows rows' p accepted noted k one two sent taken told all numbered = record {
   lists_are = one.as_long ∙ k.lists_are;
   times_are = two.as_long ∙ k.times_are;
@@ -202,24 +202,24 @@ count_noted n times is few = omega (arith, is, few)
 number_last : (n : ℕ) → range_with_len 0 (n + 1) ≡ range_with_len 0 n ++ n ∷ []
 number_last n = sym (map-id (range_with_len 0 (n + 1))) ∙ map-range_with_len_more (λ i. i) 0 n n (omega arith) ∙ ap (λ (xs : List ℕ). xs ++ n ∷ []) (map-id (range_with_len 0 n))
 
-row_pushed : (p : ℕ) (rows : List Served) (row : Served) (b : Bool) → eqb row.port p ≡ b → map (λ (x : Served). x.number) (rows_of p (rows ++ row ∷ [])) ≡ map (λ (x : Served). x.number) (rows_of p rows) ++ cond b (row.number ∷ []) []
+row_pushed : (p : ℕ) (rows : List ReleasedRequest) (row : ReleasedRequest) (b : Bool) → eqb row.port p ≡ b → map (λ (x : ReleasedRequest). x.number) (rows_of p (rows ++ row ∷ [])) ≡ map (λ (x : ReleasedRequest). x.number) (rows_of p rows) ++ cond b (row.number ∷ []) []
 row_pushed p rows row b is =
-    ap (map (λ (x : Served). x.number)) (filter-append (λ (x : Served). eqb x.port p) rows (row ∷ []))
-    ∙ map-append (λ (x : Served). x.number) (rows_of p rows) (rows_of p (row ∷ []))
-    ∙ ap (λ (xs : List ℕ). map (λ (x : Served). x.number) (rows_of p rows) ++ xs) (ap (λ t. map (λ (x : Served). x.number) (cond t (row ∷ []) [])) is ∙ by_port b)
+    ap (map (λ (x : ReleasedRequest). x.number)) (filter-append (λ (x : ReleasedRequest). eqb x.port p) rows (row ∷ []))
+    ∙ map-append (λ (x : ReleasedRequest). x.number) (rows_of p rows) (rows_of p (row ∷ []))
+    ∙ ap (λ (xs : List ℕ). map (λ (x : ReleasedRequest). x.number) (rows_of p rows) ++ xs) (ap (λ t. map (λ (x : ReleasedRequest). x.number) (cond t (row ∷ []) [])) is ∙ by_port b)
   where
-    by_port : (t : Bool) → map (λ (x : Served). x.number) (cond t (row ∷ []) []) ≡ cond t (row.number ∷ []) []
+    by_port : (t : Bool) → map (λ (x : ReleasedRequest). x.number) (cond t (row ∷ []) []) ≡ cond t (row.number ∷ []) []
     by_port true = refl
     by_port false = refl
 
-pub numbered_more : (config : Config) (events more : List Answered) (rows : List Served) (row : Served) → length ((run (replay_opening config) (events ++ more)).taken row.port) ≡ length ((run (replay_opening config) events).taken row.port) + 1
+pub numbered_more : (config : Config) (events more : List Answered) (rows : List ReleasedRequest) (row : ReleasedRequest) → length ((run (replay_opening config) (events ++ more)).taken row.port) ≡ length ((run (replay_opening config) events).taken row.port) + 1
     → row.number ≡ length ((run (replay_opening config) events).taken row.port) → ((q : ℕ) → q ≢ row.port → (run (replay_opening config) (events ++ more)).taken q ≡ (run (replay_opening config) events).taken q)
     → AreNumbered config events rows → AreNumbered config (events ++ more) (rows ++ row ∷ [])
 numbered_more config events more rows row longer number others k p = elim (eqb_tells row.port p) [
   | inl same ↦ (let n = length ((run (replay_opening config) events).taken row.port) in
-      let was : map (λ (x : Served). x.number) (rows_of p rows) ≡ range_with_len 0 n = k p ∙ ap (λ q. range_with_len 0 (length ((run (replay_opening config) events).taken q))) (sym same.1) in
+      let was : map (λ (x : ReleasedRequest). x.number) (rows_of p rows) ≡ range_with_len 0 n = k p ∙ ap (λ q. range_with_len 0 (length ((run (replay_opening config) events).taken q))) (sym same.1) in
       row_pushed p rows row true (eq-eqb row.port p same.1) ∙ ap (λ (xs : List ℕ). xs ++ row.number ∷ []) was ∙ ap (λ m. range_with_len 0 n ++ m ∷ []) number
       ∙ sym (number_last n) ∙ ap (range_with_len 0) (sym longer) ∙ ap (λ q. range_with_len 0 (length ((run (replay_opening config) (events ++ more)).taken q))) same.1)
-  | inr other ↦ row_pushed p rows row false (ne_eqb row.port p other.1) ∙ append-nil (map (λ (x : Served). x.number) (rows_of p rows)) ∙ k p
+  | inr other ↦ row_pushed p rows row false (ne_eqb row.port p other.1) ∙ append-nil (map (λ (x : ReleasedRequest). x.number) (rows_of p rows)) ∙ k p
       ∙ ap (λ (ts : List Answer). range_with_len 0 (length ts)) (sym (others p (λ same. other.1 (sym same))))
 ]

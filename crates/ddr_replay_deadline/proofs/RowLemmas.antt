@@ -24,7 +24,7 @@ use Rattle.ddr_stream.specs.declared.ask.Ask.{Ask}
 use Rattle.ddr_stream.specs.Asks.{asked_by}
 use Rattle.ddr_stream.specs.Stream.{Queues, queue_at}
 use Rattle.ddr_replay.specs.declared.order.Order.{Order}
-use Rattle.ddr_ledger.specs.declared.served.Served.{Served}
+use Rattle.ddr_ledger.specs.declared.released.ReleasedRequest.{ReleasedRequest}
 use Rattle.ddr_ledger.specs.declared.times.Accepted.{Accepted}
 use Rattle.ddr_ledger.specs.declared.times.Times.{Times}
 use Rattle.ddr_replay.specs.Books.{all_found}
@@ -220,7 +220,7 @@ lists_told : (config : Config) (clock : ℕ) (events : List Answered) (s : State
 lists_told config clock events s old new same k =
     subst (λ (xs : List (List Accepted)). IsTold config clock events s xs new.ports new.keeps new.served) (sym same.0)
     (subst (λ (ts : List Times). IsTold config clock events s old.accepted ts new.keeps new.served) (sym same.1)
-    (subst (λ b. IsTold config clock events s old.accepted old.ports b new.served) (sym same.2) (subst (λ (rs : List Served). IsTold config clock events s old.accepted old.ports old.keeps rs) (sym same.3) k)))
+    (subst (λ b. IsTold config clock events s old.accepted old.ports b new.served) (sym same.2) (subst (λ (rs : List ReleasedRequest). IsTold config clock events s old.accepted old.ports old.keeps rs) (sym same.3) k)))
 
 round_made_told : (config : Config) (clock : ℕ) (events : List Answered) (run next : Run) → IsReached (replay_opening config) run.state → NoneDone run.state → run.round ≡ clock → IsToldBy config clock events run.state run.ledger
     → round_made config run ≡ Some next → IsToldBy config (clock + 1) (events ++ events_of_round_made config run) next.state next.ledger × (next.round ≡ clock + 1)

@@ -16,7 +16,7 @@ use Rattle.ddr_core_deadline.proofs.NoneLemmas.{begun_none}
 use Rattle.ddr_core_deadline.proofs.RoundLemmas.{begun_reached}
 use Rattle.ddr_stream.specs.Stream.{Queues}
 use Rattle.ddr_replay.specs.declared.order.Order.{Order}
-use Rattle.ddr_ledger.specs.declared.served.Served.{Served}
+use Rattle.ddr_ledger.specs.declared.released.ReleasedRequest.{ReleasedRequest}
 use Rattle.ddr_replay.specs.Runs.{Run, begun, replayed, turns}
 use Rattle.ddr_replay_deadline.specs.InReplay.{IsServedIn, events_of_turns, replay_opening}
 use Rattle.ddr_replay_deadline.specs.Rows.{IsRowInTime, IsRowOf, TellsRows, channel_by}
@@ -36,7 +36,7 @@ some_of None P some = absurd some
 some_of (Some n) P some = (n, refl, some)
 
 -- what is served in time and was admitted in time is complete in time
-row_in_time : (config : Config) (events : List Answered) (s : State) (row : Served) → IsRowOf config events row → (history.run (replay_opening config) events).state ≡ s
+row_in_time : (config : Config) (events : List Answered) (s : State) (row : ReleasedRequest) → IsRowOf config events row → (history.run (replay_opening config) events).state ≡ s
     → ((c : ℕ) (side : ChannelSide) → slice_get s.channels c ≡ Some side → IsServedIn config events s c side) → ((c : ℕ) (side : ChannelSide) → slice_get s.channels c ≡ Some side → IsAdmittedIn config events s c side) → IsRowInTime config row
 row_in_time config events s row r state serves admits =
     let o = replay_opening config in

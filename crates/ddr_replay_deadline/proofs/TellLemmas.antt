@@ -42,7 +42,7 @@ use Rattle.ddr_core_deadline.proofs.RoundLemmas.{Leads}
 use Rattle.ddr_stream.specs.declared.ask.Ask.{Ask}
 use Rattle.ddr_stream.specs.Asks.{asked_by, line_asked}
 use Rattle.ddr_statistics.specs.declared.counts.Finding.{Finding}
-use Rattle.ddr_ledger.specs.declared.served.Served.{Served}
+use Rattle.ddr_ledger.specs.declared.released.ReleasedRequest.{ReleasedRequest}
 use Rattle.ddr_ledger.specs.declared.times.Accepted.{Accepted}
 use Rattle.ddr_ledger.specs.declared.times.Times.{Times}
 use Rattle.ddr_ledger.specs.Ledgers.{Ledger, accepted_at, found_at, noted, oldest_found, times_at, with_accepted, with_oldest, with_times, without_oldest}
@@ -58,7 +58,7 @@ use Rattle.ddr_replay_deadline.proofs.NowLemmas.{AreNow, made_clocks}
 use Rattle.ddr_replay_deadline.proofs.ServiceLemmas.{IsOwned}
 
 -- by the events the core came to this state, in which each channel has this clock, and the ledger tells of its requests
-pub record IsTold (config : Config) (clock : ℕ) (events : List Answered) (s : State) (lists : List (List Accepted)) (times : List Times) (keeps : Bool) (rows : List Served) : Type 0 where
+pub record IsTold (config : Config) (clock : ℕ) (events : List Answered) (s : State) (lists : List (List Accepted)) (times : List Times) (keeps : Bool) (rows : List ReleasedRequest) : Type 0 where
   pub state : (run (replay_opening config) events).state ≡ s
   pub takes : TakesAllIn (begun (replay_opening config)) events
   pub clocks : AreNow clock s
@@ -71,11 +71,11 @@ takes_then : (h : History) (xs ys : List Answered) → TakesAllIn h xs → Takes
 takes_then h [] ys first second = second
 takes_then h (a ∷ xs) ys first second = (first.0, takes_then (after h a) xs ys first.1 second)
 
-followed : (config : Config) (clock : ℕ) (events : List Answered) (s : State) (lists : List (List Accepted)) (times : List Times) (keeps : Bool) (rows : List Served) → IsTold config clock events s lists times keeps rows → IsFollowedBy (replay_opening config) events
+followed : (config : Config) (clock : ℕ) (events : List Answered) (s : State) (lists : List (List Accepted)) (times : List Times) (keeps : Bool) (rows : List ReleasedRequest) → IsTold config clock events s lists times keeps rows → IsFollowedBy (replay_opening config) events
 followed config clock events s lists times keeps rows k = run_followed (replay_opening config) events (omega arith) k.takes
 
 -- events that neither submit nor release
-pub inner_told : (config : Config) (clock clock' : ℕ) (events more : List Answered) (s next : State) (lists : List (List Accepted)) (times : List Times) (keeps : Bool) (rows : List Served) → IsTold config clock events s lists times keeps rows → Leads s more next → AreInner more
+pub inner_told : (config : Config) (clock clock' : ℕ) (events more : List Answered) (s next : State) (lists : List (List Accepted)) (times : List Times) (keeps : Bool) (rows : List ReleasedRequest) → IsTold config clock events s lists times keeps rows → Leads s more next → AreInner more
     → AreNow clock' next → IsTold config clock' (events ++ more) next lists times keeps rows
 inner_told config clock clock' events more s next lists times keeps rows k leads inner now =
     let o = replay_opening config in
@@ -276,7 +276,7 @@ channel_inside config events c place r there = elim (cases_lt c (length h.state.
     core = run_keeps (replay_opening config) events
 
 -- the clock of each channel, as its calls make it
-told_clock : (config : Config) (clock : ℕ) (events : List Answered) (s : State) (lists : List (List Accepted)) (times : List Times) (keeps : Bool) (rows : List Served) (c : ℕ) → IsTold config clock events s lists times keeps rows → c < config.geometry.channels
+told_clock : (config : Config) (clock : ℕ) (events : List Answered) (s : State) (lists : List (List Accepted)) (times : List Times) (keeps : Bool) (rows : List ReleasedRequest) (c : ℕ) → IsTold config clock events s lists times keeps rows → c < config.geometry.channels
     → (channel_at (replay_opening config) (calls_of c (begun (replay_opening config)) events)).state.now ≡ clock
 told_clock config clock events s lists times keeps rows c k inside =
     let o = replay_opening config in
@@ -287,7 +287,7 @@ told_clock config clock events s lists times keeps rows c k inside =
     sym (ap (λ (t : channel_state.State). t.now) made) ∙ k.clocks c channel.0 at
 
 -- the row of the port's oldest request, as its reply is released
-abbrev row_for : ℕ → ℕ → Service → Accepted → Times → Option Finding → Served
+abbrev row_for : ℕ → ℕ → Service → Accepted → Times → Option Finding → ReleasedRequest
 row_for p clock v x times found = record { ask = x.ask; port = p; number = count_of times; accepted = x.round; issued = v.issued; due = v.due; released = clock; found = found }
 
 -- how many replies the port released
@@ -297,7 +297,7 @@ taken_few config events p port by there =
     let keeps = (run_keeps (replay_opening config) events).ports p port there in
     omega (arith, keeps.counted, keeps.next, (by.served p port there).few)
 
-row_told : (config : Config) (clock : ℕ) (events : List Answered) (s : State) (lists : List (List Accepted)) (times : List Times) (keeps : Bool) (rows : List Served) (p : ℕ) (v : Service) (x : Accepted) (found : Option Finding) → IsTold config (clock + 1) events s lists times keeps rows
+row_told : (config : Config) (clock : ℕ) (events : List Answered) (s : State) (lists : List (List Accepted)) (times : List Times) (keeps : Bool) (rows : List ReleasedRequest) (p : ℕ) (v : Service) (x : Accepted) (found : Option Finding) → IsTold config (clock + 1) events s lists times keeps rows
     → p < config.limits.ports → IsFront s p v → slice_get (slice_index_or lists p []) 0 ≡ Some x → IsRow config events (row_for p clock v x (slice_index_or times p no_times) found)
 row_told config clock events s lists times keeps rows p v x found k inside front oldest =
     let o = replay_opening config in
@@ -406,7 +406,7 @@ release_told config clock events s ledger p v inside k is =
     let times = timed x v.issued clock (times_at ledger p) in
     let port = released_port config clock events more p v x (accepted_at ledger p) (times_at ledger p) front.answer told oldest.1 (taken_few config events p front.port by there) (ap (λ (f : ℕ → List Whereabouts). f p) sent)
     (ap (λ (f : ℕ → List Answer). f p) taken ∙ with_next_same h.taken p front.answer) in
-    let next : (rows : List Served) → ((i : ℕ) (y : Served) → slice_get rows i ≡ Some y → IsRow config (events ++ more) y) → (ledger.keeps ≡ true → AreNumbered config (events ++ more) rows)
+    let next : (rows : List ReleasedRequest) → ((i : ℕ) (y : ReleasedRequest) → slice_get rows i ≡ Some y → IsRow config (events ++ more) y) → (ledger.keeps ≡ true → AreNumbered config (events ++ more) rows)
     → IsTold config (clock + 1) (events ++ more) m.state (slice_set ledger.accepted p (drop 1 (accepted_at ledger p))) (slice_set ledger.ports p times) ledger.keeps rows =
     λ rows all numbered. record {
       state = ap (λ (y : History). y.state) whole;
@@ -416,10 +416,10 @@ release_told config clock events s ledger p v inside k is =
           (set_at ledger.accepted p [] (drop 1 (accepted_at ledger p)) (omega (arith, inside, k.ledger.lists_are))) (set_at ledger.ports p no_times times (omega (arith, inside, k.ledger.times_are)))
           (λ q other. ap (λ (f : ℕ → List Whereabouts). f q) sent) (λ q other. ap (λ (f : ℕ → List Answer). f q) taken ∙ with_next_other h.taken p front.answer q other) port all numbered;
     } in
-    let was : (i : ℕ) (y : Served) → slice_get ledger.served i ≡ Some y → IsRow config (events ++ more) y = λ i y at. row_still config events more y (k.ledger.each i y at) in
-    let with_row : (i : ℕ) (y : Served) → slice_get (ledger.served ++ row ∷ []) i ≡ Some y → IsRow config (events ++ more) y = λ i y at. elim (before_or_last ledger.served row y i at) [
+    let was : (i : ℕ) (y : ReleasedRequest) → slice_get ledger.served i ≡ Some y → IsRow config (events ++ more) y = λ i y at. row_still config events more y (k.ledger.each i y at) in
+    let with_row : (i : ℕ) (y : ReleasedRequest) → slice_get (ledger.served ++ row ∷ []) i ≡ Some y → IsRow config (events ++ more) y = λ i y at. elim (before_or_last ledger.served row y i at) [
       | inl before ↦ was i y before
-      | inr last ↦ subst (λ (z : Served). IsRow config (events ++ more) z) (sym last.1) is_row
+      | inr last ↦ subst (λ (z : ReleasedRequest). IsRow config (events ++ more) z) (sym last.1) is_row
     ] in
     let number : row.number ≡ length (h.taken p) = count_noted (length (h.taken p)) (times_at ledger p) told.many (taken_few config events p front.port by there) in
     let longer : length ((run o (events ++ more)).taken p) ≡ length (h.taken p) + 1 = ap (λ (f : ℕ → List Answer). length (f p)) taken ∙ ap (λ (ts : List Answer). length ts) (with_next_same h.taken p front.answer) ∙ length_push (h.taken p) front.answer in

@@ -13,7 +13,7 @@ use Rattle.ddr_world.specs.Promise.{request_there}
 use Rattle.ddr_world.specs.Record.{IsRecord}
 use Rattle.ddr_core_deadline.specs.InCore.{calls_of}
 use Rattle.ddr_stream.specs.Asks.{asked_by}
-use Rattle.ddr_ledger.specs.declared.served.Served.{Served}
+use Rattle.ddr_ledger.specs.declared.released.ReleasedRequest.{ReleasedRequest}
 use Rattle.ddr_replay.specs.Runs.{Run}
 use Rattle.ddr_replay_deadline.specs.InReplay.{replay_opening}
 use Rattle.ddr_replay_deadline.specs.Waits.{acceptances, longest_wait}
@@ -23,7 +23,7 @@ abbrev pub channel_by : Config → List Answered → ℕ → channel.History
 channel_by config events c = channel.run config 0 (calls_of c (begun (replay_opening config)) events)
 
 -- By the events, the row is that of its port's request of its number, and tells when that was accepted and when it was served.
-pub record IsRowOf (config : Config) (events : List Answered) (row : Served) : Type 0 where
+pub record IsRowOf (config : Config) (events : List Answered) (row : ReleasedRequest) : Type 0 where
   -- the channel of the request, and its place in the acceptance list
   pub at : Whereabouts
   pub sent : slice_get ((run (replay_opening config) events).sent row.port) row.number ≡ Some at
@@ -43,29 +43,29 @@ pub record IsRowOf (config : Config) (events : List Answered) (row : Served) : T
   pub due : row.due ≡ row.issued + service_time config row.ask.kind
 
 -- it was accepted, read or written, complete, and its reply was released, in that order
-pub record IsInOrder (row : Served) : Type 0 where
+pub record IsInOrder (row : ReleasedRequest) : Type 0 where
   pub issued : row.accepted ≤ row.issued
   pub due : row.issued < row.due
   pub released : row.due ≤ row.released
 
 -- from its acceptance to its completion it took fewer clocks than a request may wait in the queue and then take in the channel
-abbrev pub IsRowInTime : Config → Served → Type 0
+abbrev pub IsRowInTime : Config → ReleasedRequest → Type 0
 IsRowInTime config row = row.due < row.accepted + (longest_wait config + latency config)
 
-pub record TellsRow (config : Config) (events : List Answered) (row : Served) : Type 0 where
+pub record TellsRow (config : Config) (events : List Answered) (row : ReleasedRequest) : Type 0 where
   pub is_row : IsRowOf config events row
   pub in_order : IsInOrder row
   -- where each refresh interval leaves time to serve a request
   pub in_time : leaves_room config ≡ true → IsRowInTime config row
 
 -- the rows of a port, in the order in which its replies were released
-abbrev pub rows_of : ℕ → List Served → List Served
+abbrev pub rows_of : ℕ → List ReleasedRequest → List ReleasedRequest
 rows_of p rows = filter (λ row. row.port == p) rows
 
 -- These events made the state of the run, each answered as it may be, and by them each row tells of a request.
 pub record TellsRows (config : Config) (events : List Answered) (last : Run) : Type 0 where
   pub is_record : IsRecord (begun (replay_opening config)) events
   pub state : (run (replay_opening config) events).state ≡ last.state
-  pub rows : (place : ℕ) (row : Served) → slice_get last.ledger.served place ≡ Some row → TellsRow config events row
+  pub rows : (place : ℕ) (row : ReleasedRequest) → slice_get last.ledger.served place ≡ Some row → TellsRow config events row
   -- and where rows are kept, there is one of each request whose reply was released, in the order of their numbers
   pub whole : last.ledger.keeps ≡ true → (p : ℕ) → map (λ row. row.number) (rows_of p last.ledger.served) ≡ range_with_len 0 (length ((run (replay_opening config) events).taken p))

@@ -7,8 +7,8 @@ ghost use Rattle.ddr_replay.specs.Runs.{Run, begun, replayed, turns};
 ghost use Rattle.ddr_replay_deadline.specs.InReplay.{events_of_turns};
 ghost use Rattle.ddr_replay_deadline.specs.Rows.{TellsRows};
 
-/// Whatever stream is replayed, each row of a served request (`Served`, which `replay` prints, and of which the times of requests are
-/// taken) tells of that request what became of it: behind any number of turns (`turns`), and at the end of a replay that comes to it
+/// Whatever stream is replayed, each row of a served request (`ReleasedRequest`, which `replay` prints, and of which the times of requests
+/// are taken) tells of that request what became of it: behind any number of turns (`turns`), and at the end of a replay that comes to it
 /// (`replayed`). By the replay's own events, those of `replay_serves_in_time`, it is the row of its port's request of its number, with what
 /// that asks for: `accepted` is the clock at which the queue of the request's channel accepted it, `issued` the cycle of its own read or
 /// write, and `due` that command's latency and burst later (`IsRowOf`). So they come in order, and `released` is no earlier (`IsInOrder`).

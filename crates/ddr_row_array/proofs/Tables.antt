@@ -8,7 +8,7 @@ use Rattle.std.proofs.lemmas.List.{get_or-take, get_or-drop, get_or-set_same, ge
 use Rattle.std.proofs.Math.Seq.{take-set-lt}
 use Rattle.std.proofs.lemmas.List.Elements.{All-push, All-set}
 use Rattle.std.proofs.lemmas.List.Sums.{sum_by_push, sum_by-set, get_or-le-sum_by}
-use Rattle.ddr_row_array.specs.declared.slot.Slot.{Slot}
+use Rattle.ddr_row_array.specs.declared.slot.StoredRow.{StoredRow}
 use Rattle.ddr_row_array.specs.declared.slot.Slots.TheInside.{Inside}
 use Rattle.ddr_row_array.specs.Arena.{Reserved}
 use Rattle.ddr_row_array.specs.LentItem.{with_item as written}
@@ -77,21 +77,21 @@ IsTabled-new a narrow rows words untabled room bounded = record {
 }
 
 -- ---- a row is stored
-module _ (old new : Inside) (t : Slot) (sound : IsTabled old) (width : new.width ≡ old.width) (words : new.words ≡ old.words) (untabled : new.untabled ≡ old.untabled + old.width) (rows : new.rows.items ≡ old.rows.items ++ t ∷ []) (unset : t.start ≡ 0) (room : length old.words.items + old.untabled + old.width ≤ old.words.capacity) where
-  abbrev slots : List Slot
+module _ (old new : Inside) (t : StoredRow) (sound : IsTabled old) (width : new.width ≡ old.width) (words : new.words ≡ old.words) (untabled : new.untabled ≡ old.untabled + old.width) (rows : new.rows.items ≡ old.rows.items ++ t ∷ []) (unset : t.start ≡ 0) (room : length old.words.items + old.untabled + old.width ≤ old.words.capacity) where
+  abbrev slots : List StoredRow
   slots = old.rows.items
 
-  abbrev pushed : List Slot
+  abbrev pushed : List StoredRow
   pushed = slots ++ t ∷ []
 
-  start-old : (i : ℕ) (d : Slot) → i < length slots → (get_or pushed i d).start ≡ (get_or slots i d).start
-  start-old i d within = ap (λ (s : Slot). s.start) (get_or_append_left slots (t ∷ []) d i within)
+  start-old : (i : ℕ) (d : StoredRow) → i < length slots → (get_or pushed i d).start ≡ (get_or slots i d).start
+  start-old i d within = ap (λ (s : StoredRow). s.start) (get_or_append_left slots (t ∷ []) d i within)
 
-  start-new : (i : ℕ) (d : Slot) → length slots ≤ i → i < length pushed → (get_or pushed i d).start ≡ 0
+  start-new : (i : ℕ) (d : StoredRow) → length slots ≤ i → i < length pushed → (get_or pushed i d).start ≡ 0
   start-new i d past within =
-      ap (λ (s : Slot). s.start) (get_or_push slots t d i (omega (arith, length_push slots t))) ∙ unset
+      ap (λ (s : StoredRow). s.start) (get_or_push slots t d i (omega (arith, length_push slots t))) ∙ unset
 
-  apart-pushed : (i j l m : ℕ) (d : Slot) → i < length pushed → j < length pushed → l < old.width → m < old.width → 0 < (get_or pushed i d).start → (get_or pushed i d).start + l ≡ (get_or pushed j d).start + m → i ≡ j
+  apart-pushed : (i j l m : ℕ) (d : StoredRow) → i < length pushed → j < length pushed → l < old.width → m < old.width → 0 < (get_or pushed i d).start → (get_or pushed i d).start + l ≡ (get_or pushed j d).start + m → i ≡ j
   apart-pushed i j l m d i_in j_in l_in m_in set_i same =
       elim (cases_lt i (length slots)) [
         | inl i_old ↦
@@ -113,8 +113,8 @@ module _ (old new : Inside) (t : Slot) (sound : IsTabled old) (width : new.width
     zeros = rw (width, words) sound.zeros;
     within =
         rw (width, words, rows)
-        (All-push (λ (s : Slot). s.start + old.width ≤ length old.words.items) slots t sound.within (let first = zeros_first old sound in omega arith));
-    behind = rw (width, rows) (All-push (λ (s : Slot). 0 < s.start → old.width ≤ s.start) slots t sound.behind (λ h. absurd (omega arith)));
+        (All-push (λ (s : StoredRow). s.start + old.width ≤ length old.words.items) slots t sound.within (let first = zeros_first old sound in omega arith));
+    behind = rw (width, rows) (All-push (λ (s : StoredRow). 0 < s.start → old.width ≤ s.start) slots t sound.behind (λ h. absurd (omega arith)));
     apart = rw (width, rows) apart-pushed;
     counted =
         let all : untabled_in old.width t ≡ old.width = rw unset refl in
@@ -126,8 +126,8 @@ module _ (old new : Inside) (t : Slot) (sound : IsTabled old) (width : new.width
   }
 
 -- ---- a place is set, where the row has its table
-module _ (a : Inside) (sound : IsTabled a) (k l p : ℕ) (t : Slot) (in_slots : k < length a.rows.items) (in_row : l < a.width) (is : t ≡ get_or a.rows.items k t) (tabled : 0 < t.start) where
-  abbrev rows : List Slot
+module _ (a : Inside) (sound : IsTabled a) (k l p : ℕ) (t : StoredRow) (in_slots : k < length a.rows.items) (in_row : l < a.width) (is : t ≡ get_or a.rows.items k t) (tabled : 0 < t.start) where
+  abbrev rows : List StoredRow
   rows = a.rows.items
 
   abbrev old_words : List ℕ
@@ -139,14 +139,14 @@ module _ (a : Inside) (sound : IsTabled a) (k l p : ℕ) (t : Slot) (in_slots : 
   abbrev pub placed_inside : Inside
   placed_inside = record a { words = written a.words (t.start + l) p }
 
-  is_at : (d : Slot) → get_or rows k d ≡ t
+  is_at : (d : StoredRow) → get_or rows k d ≡ t
   is_at d = get_or_default rows k d t in_slots ∙ sym is
 
   slot_within : t.start + a.width ≤ length old_words
-  slot_within = subst (λ (s : Slot). s.start + a.width ≤ length old_words) (sym is) (sound.within k t in_slots)
+  slot_within = subst (λ (s : StoredRow). s.start + a.width ≤ length old_words) (sym is) (sound.within k t in_slots)
 
   slot_behind : a.width ≤ t.start
-  slot_behind = subst (λ (s : Slot). 0 < s.start → a.width ≤ s.start) (sym is) (sound.behind k t in_slots) tabled
+  slot_behind = subst (λ (s : StoredRow). 0 < s.start → a.width ≤ s.start) (sym is) (sound.behind k t in_slots) tabled
 
   pub IsTabled-placed : IsTabled placed_inside
   IsTabled-placed = record {
@@ -167,7 +167,7 @@ module _ (a : Inside) (sound : IsTabled a) (k l p : ℕ) (t : Slot) (in_slots : 
   other_table i within other =
       table_at-set_other a.width old_words (get_or rows i t).start (t.start + l) p (sound.within i t within)
       (λ m below same.
-      let start : t.start ≡ (get_or rows k t).start = ap (λ (s : Slot). s.start) is in
+      let start : t.start ≡ (get_or rows k t).start = ap (λ (s : StoredRow). s.start) is in
       other (sym (sound.apart k i l m t in_slots within in_row below (omega arith) (omega arith))))
 
   placed_item : (i : ℕ) (d : PlacedRow) → i < length rows → placed_of a.width new_words (get_or rows i t) ≡ get_or (set (map (placed_of a.width old_words) rows) k (placed (placed_of a.width old_words t) l p)) i d
@@ -199,17 +199,17 @@ module _ (a : Inside) (sound : IsTabled a) (k l p : ℕ) (t : Slot) (in_slots : 
       ∙ ap (λ s. set olds k (placed s l p)) (sym here)
 
 -- ---- a table is made
-module _ (a : Inside) (sound : IsTabled a) (k : ℕ) (t : Slot) (in_slots : k < length a.rows.items) (positive : 0 < a.width) (is : t ≡ get_or a.rows.items k t) (unset : t.start ≡ 0) (u n : ℕ) (words : Reserved ℕ) (is_u : u + a.width ≡ a.untabled) (is_n : n ≡ length a.words.items) (more : words.items ≡ a.words.items ++ replicate a.width 0) (same_room : words.capacity ≡ a.words.capacity) where
-  abbrev before : List Slot
+module _ (a : Inside) (sound : IsTabled a) (k : ℕ) (t : StoredRow) (in_slots : k < length a.rows.items) (positive : 0 < a.width) (is : t ≡ get_or a.rows.items k t) (unset : t.start ≡ 0) (u n : ℕ) (words : Reserved ℕ) (is_u : u + a.width ≡ a.untabled) (is_n : n ≡ length a.words.items) (more : words.items ≡ a.words.items ++ replicate a.width 0) (same_room : words.capacity ≡ a.words.capacity) where
+  abbrev before : List StoredRow
   before = a.rows.items
 
   abbrev zeros : List ℕ
   zeros = replicate a.width 0
 
-  abbrev new_slot : Slot
+  abbrev new_slot : StoredRow
   new_slot = record t { start = n }
 
-  abbrev after : List Slot
+  abbrev after : List StoredRow
   after = set before k new_slot
 
   abbrev pub made : Inside
@@ -218,16 +218,16 @@ module _ (a : Inside) (sound : IsTabled a) (k : ℕ) (t : Slot) (in_slots : k < 
   words_long : length words.items ≡ n + a.width
   words_long = ap length more ∙ omega (arith, length-append a.words.items zeros, length-replicate {A = ℕ} a.width 0)
 
-  start-made : (d : Slot) → (get_or after k d).start ≡ n
-  start-made d = ap (λ (s : Slot). s.start) (get_or-set_same before k new_slot d in_slots)
+  start-made : (d : StoredRow) → (get_or after k d).start ≡ n
+  start-made d = ap (λ (s : StoredRow). s.start) (get_or-set_same before k new_slot d in_slots)
 
-  start-kept : (i : ℕ) (d : Slot) → i ≢ k → (get_or after i d).start ≡ (get_or before i d).start
-  start-kept i d other = ap (λ (s : Slot). s.start) (get_or-set_other before k i new_slot d other)
+  start-kept : (i : ℕ) (d : StoredRow) → i ≢ k → (get_or after i d).start ≡ (get_or before i d).start
+  start-kept i d other = ap (λ (s : StoredRow). s.start) (get_or-set_other before k i new_slot d other)
 
-  below : (i : ℕ) (d : Slot) → i < length before → (get_or before i d).start + a.width ≤ n
+  below : (i : ℕ) (d : StoredRow) → i < length before → (get_or before i d).start + a.width ≤ n
   below i d within = rw is_n (sound.within i d within)
 
-  apart-made : (i j l m : ℕ) (d : Slot) → i < length after → j < length after → l < a.width → m < a.width → 0 < (get_or after i d).start → (get_or after i d).start + l ≡ (get_or after j d).start + m → i ≡ j
+  apart-made : (i j l m : ℕ) (d : StoredRow) → i < length after → j < length after → l < a.width → m < a.width → 0 < (get_or after i d).start → (get_or after i d).start + l ≡ (get_or after j d).start + m → i ≡ j
   apart-made i j l m d i_in j_in l_in m_in set_i same =
       let i_old : i < length before = omega (arith, length-set before k new_slot) in
       let j_old : j < length before = omega (arith, length-set before k new_slot) in
@@ -257,16 +257,16 @@ module _ (a : Inside) (sound : IsTabled a) (k : ℕ) (t : Slot) (in_slots : k < 
     narrow = sound.narrow;
     zeros = let first = zeros_first a sound in rw more (table_at-append a.width a.words.items zeros 0 (omega arith) ∙ sound.zeros);
     within =
-        All-set (λ (s : Slot). s.start + a.width ≤ length words.items) before k new_slot (omega (arith, words_long))
+        All-set (λ (s : StoredRow). s.start + a.width ≤ length words.items) before k new_slot (omega (arith, words_long))
         (λ i d h. let far = below i d h in let long = words_long in omega arith);
     behind =
-        All-set (λ (s : Slot). 0 < s.start → a.width ≤ s.start) before k new_slot
+        All-set (λ (s : StoredRow). 0 < s.start → a.width ≤ s.start) before k new_slot
         (λ h. let first = zeros_first a sound in omega arith) sound.behind;
     apart = apart-made;
     counted =
         let sum = sum_by-set (untabled_in a.width) before k new_slot t in_slots in
         let first = zeros_first a sound in
-        let was : untabled_in a.width (get_or before k t) ≡ a.width = subst (λ (s : Slot). untabled_in a.width s ≡ a.width) is (rw unset refl) in
+        let was : untabled_in a.width (get_or before k t) ≡ a.width = subst (λ (s : StoredRow). untabled_in a.width s ≡ a.width) is (rw unset refl) in
         let now : untabled_in a.width new_slot ≡ 0 = rw (ne_eqb n 0 (λ e. absurd (omega arith))) refl in
         let counted = sound.counted in
         omega arith;
@@ -335,14 +335,14 @@ pub has_both : (a : Inside) → (placed_rows a).has_room ≡ true → length a.w
 has_both a h = both_hold (vec_len a.rows) (vec_capacity a.rows) (length a.words.items + a.untabled + a.width) a.words.capacity h
 
 -- two reads of a slot
-pub same_slot : (slots : List Slot) (k : ℕ) → k < length slots → (x y : Slot) → x ≡ get_or slots k x → y ≡ get_or slots k y → y.start ≡ x.start
+pub same_slot : (slots : List StoredRow) (k : ℕ) → k < length slots → (x y : StoredRow) → x ≡ get_or slots k x → y ≡ get_or slots k y → y.start ≡ x.start
 same_slot slots k there x y is_x is_y =
-    ap (λ (s : Slot). s.start) (is_y ∙ get_or_default slots k y x there ∙ sym is_x)
+    ap (λ (s : StoredRow). s.start) (is_y ∙ get_or_default slots k y x there ∙ sym is_x)
 
 -- the words of its table were counted
-pub untabled_enough : (a : Inside) → IsTabled a → (k : ℕ) (t : Slot) → k < length a.rows.items → t ≡ get_or a.rows.items k t → t.start ≡ 0 → a.width ≤ a.untabled
+pub untabled_enough : (a : Inside) → IsTabled a → (k : ℕ) (t : StoredRow) → k < length a.rows.items → t ≡ get_or a.rows.items k t → t.start ≡ 0 → a.width ≤ a.untabled
 untabled_enough a sound k t there is unset =
     let all = get_or-le-sum_by (untabled_in a.width) a.rows.items k t there in
-    let here : untabled_in a.width (get_or a.rows.items k t) ≡ a.width = subst (λ (s : Slot). untabled_in a.width s ≡ a.width) is (rw unset refl) in
+    let here : untabled_in a.width (get_or a.rows.items k t) ≡ a.width = subst (λ (s : StoredRow). untabled_in a.width s ≡ a.width) is (rw unset refl) in
     let counted = sound.counted in
     omega arith

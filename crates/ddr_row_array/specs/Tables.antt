@@ -1,6 +1,6 @@
 -- Where the places of the stored rows' lines stand among the words.
 use Rattle.std.specs.Prelude.{◌≡◌, ℕ, ◌+◌, ◌<◌, ◌≤◌, ◌^◌, ◌==◌, ◌&&◌, nat_le, nat_lt, if◌then◌else◌, List, length, map, take, drop, replicate, sum_by, slice_index_or, All, vec_len, vec_capacity}
-use Rattle.ddr_row_array.specs.declared.slot.Slot.{Slot}
+use Rattle.ddr_row_array.specs.declared.slot.StoredRow.{StoredRow}
 use Rattle.ddr_row_array.specs.declared.slot.Slots.TheInside.{Inside}
 use Rattle.ddr_row_array.specs.Placed.{PlacedRow, PlacedRows}
 
@@ -8,7 +8,7 @@ use Rattle.ddr_row_array.specs.Placed.{PlacedRow, PlacedRows}
 abbrev pub table_at : ℕ → List ℕ → ℕ → List ℕ
 table_at width words start = take width (drop start words)
 
-abbrev pub placed_of : ℕ → List ℕ → Slot → PlacedRow
+abbrev pub placed_of : ℕ → List ℕ → StoredRow → PlacedRow
 placed_of width words s = record { address = s.address; places = table_at width words s.start }
 
 abbrev pub placed_rows : Inside → PlacedRows
@@ -19,7 +19,7 @@ placed_rows a = record {
 }
 
 -- how many words the row's table takes that was not made
-abbrev pub untabled_in : ℕ → Slot → ℕ
+abbrev pub untabled_in : ℕ → StoredRow → ℕ
 untabled_in width s = if s.start == 0 then width else 0
 
 pub record IsTabled (a : Inside) : Type 0 where
@@ -31,7 +31,7 @@ pub record IsTabled (a : Inside) : Type 0 where
   -- the tables stand behind the zeros
   pub behind : All (λ s. 0 < s.start → a.width ≤ s.start) a.rows.items
   -- no two rows share a word, but for the zeros
-  pub apart : (i j l m : ℕ) (d : Slot) → i < length a.rows.items → j < length a.rows.items → l < a.width → m < a.width
+  pub apart : (i j l m : ℕ) (d : StoredRow) → i < length a.rows.items → j < length a.rows.items → l < a.width → m < a.width
       → 0 < (slice_index_or a.rows.items i d).start → (slice_index_or a.rows.items i d).start + l ≡ (slice_index_or a.rows.items j d).start + m → i ≡ j
   -- there is room for each table that was not made
   pub counted : a.untabled ≡ sum_by (untabled_in a.width) a.rows.items

@@ -19,7 +19,7 @@ pub struct RowAddress {
 
 /// A row that is stored.
 #[derive(Drop)]
-struct Slot {
+struct StoredRow {
     address: RowAddress,
     // Where its table begins among the words: at `ZEROS` until a line of it is entered.
     start: usize,
@@ -33,7 +33,7 @@ const ZEROS: usize = 0;
 pub struct Slots {
     // How many lines a row has.
     width: usize,
-    rows: Vec<Slot>,
+    rows: Vec<StoredRow>,
     // The words of zeros, and behind them the tables.
     words: Arena<usize>,
     // How many words the tables take that were not made.
@@ -102,7 +102,7 @@ impl Slots {
         ensures width { self.new.width ≡ self.old.width }
         ensures items { self.new.items ≡ self.old.items ++ (record { address = address; places = replicate self.old.width 0 }) ∷ [] }
     {
-        self.rows.push_reserved(Slot {
+        self.rows.push_reserved(StoredRow {
             address,
             start: ZEROS,
         });

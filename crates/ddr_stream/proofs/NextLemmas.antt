@@ -20,11 +20,10 @@ use Rattle.ddr_capture.specs.declared.feed.Found.{Found}
 use Rattle.ddr_capture.specs.declared.feed.Found.TheVariants as found
 use Rattle.ddr_capture.specs.declared.feed.Refusal.{Refusal}
 use Rattle.ddr_capture.specs.declared.feed.Refusal.TheVariants as refusals
-use Rattle.ddr_capture.specs.declared.feed.TheConstants.{LONGEST_LINE}
+use Rattle.ddr_capture.specs.declared.feed.TheConstants.{LONGEST_LINE, MOST_LINES}
 use Rattle.ddr_capture.proofs.LineLemmas.{lines_step, long_first}
 use Rattle.ddr_stream.specs.declared.ask.Ask.{Ask}
 use Rattle.ddr_stream.specs.declared.placing.Placed.{Placed}
-use Rattle.ddr_stream.specs.declared.placing.TheConstants.{MOST_LINES}
 use Rattle.ddr_stream.specs.declared.requests.Requests.{Requests}
 use Rattle.ddr_stream.specs.Next.{IsNext, next_of, in_front_of, left_in, line_fault, pushed}
 use Rattle.ddr_stream.specs.Requests.{no_requests, with_request, with_requests}

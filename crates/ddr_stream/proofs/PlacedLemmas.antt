@@ -16,10 +16,9 @@ use Rattle.ddr_text.specs.declared.fault.Fault.TheVariants as faults
 use Rattle.ddr_text.specs.declared.fault.LineFault.{LineFault}
 use Rattle.ddr_text.specs.declared.fault.LineFault.TheVariants.{NoSuch, NotUtf8, Number, Spaces, TooLong, Word}
 use Rattle.ddr_text.specs.Script.{LARGEST, fields_of, has_space_at_end}
-use Rattle.ddr_capture.specs.declared.feed.TheConstants.{LONGEST_LINE}
+use Rattle.ddr_capture.specs.declared.feed.TheConstants.{LONGEST_LINE, MOST_LINES}
 use Rattle.ddr_stream.specs.declared.line.Sent.{Sent}
 use Rattle.ddr_stream.specs.declared.placing.Placed.{Placed}
-use Rattle.ddr_stream.specs.declared.placing.TheConstants.{MOST_LINES}
 use Rattle.ddr_stream.specs.Line.{address_of, address_of_dramsim3, address_of_ramulator2, at_of, for_port, is_skipped, kind_of, kind_of_ramulator2, of_dramsim3, of_four, of_own, of_ramulator2, of_three, of_two, sent_of, white_fields_of, ◌>>=◌}
 use Rattle.ddr_stream.specs.Stream.{ask_of, next_port, of_line, of_said, of_text, within}
 use Rattle.ddr_stream.specs.Waiting.{IsStreamFault}

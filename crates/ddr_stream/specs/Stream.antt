@@ -11,11 +11,10 @@ use Rattle.ddr_text.specs.declared.fault.Fault.TheVariants.{InputTooLong, Replay
 use Rattle.ddr_text.specs.declared.fault.LineFault.{LineFault}
 use Rattle.ddr_text.specs.declared.fault.LineFault.TheVariants.{NotUtf8, TooLong}
 use Rattle.ddr_text.specs.Instructions.{◌>>>◌}
-use Rattle.ddr_capture.specs.declared.feed.TheConstants.{LONGEST_LINE}
+use Rattle.ddr_capture.specs.declared.feed.TheConstants.{LONGEST_LINE, MOST_LINES}
 use Rattle.ddr_stream.specs.declared.ask.Ask.{Ask}
 use Rattle.ddr_stream.specs.declared.line.Sent.{Sent}
 use Rattle.ddr_stream.specs.declared.placing.Placed.{Placed}
-use Rattle.ddr_stream.specs.declared.placing.TheConstants.{MOST_LINES}
 use Rattle.ddr_stream.specs.Line.{is_skipped, sent_of}
 
 -- of each port its requests, in order

@@ -1,7 +1,7 @@
 -- What contracts see of a `Stream`.
 use Rattle.std.specs.Prelude.{◌≡◌, ◌≤◌}
 use Rattle.ddr_capture.specs.Feed.{IsWell, waiting}
-use Rattle.ddr_stream.specs.declared.placing.TheConstants.{MOST_LINES}
+use Rattle.ddr_capture.specs.declared.feed.TheConstants.{MOST_LINES}
 use Rattle.ddr_stream.specs.declared.stream.Stream.TheInside.{Inside}
 use Rattle.ddr_stream.specs.Waiting.{IsSized, Waiting}
 

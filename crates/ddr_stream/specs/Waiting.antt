@@ -8,7 +8,7 @@ use Rattle.ddr_text.specs.declared.command.Reading.{Reading}
 use Rattle.ddr_text.specs.declared.fault.Fault.{Fault}
 use Rattle.ddr_text.specs.declared.fault.Fault.TheVariants as faults
 use Rattle.ddr_text.specs.Instructions.{◌>>>◌}
-use Rattle.ddr_stream.specs.declared.placing.TheConstants.{MOST_LINES}
+use Rattle.ddr_capture.specs.declared.feed.TheConstants.{MOST_LINES}
 use Rattle.ddr_stream.specs.declared.requests.Requests.{Requests}
 use Rattle.ddr_stream.specs.Requests.{no_requests, with_requests}
 use Rattle.ddr_stream.specs.Stream.{Queues, queue_at, rest_of}

@@ -8,13 +8,10 @@ use crate::ask::Ask;
 use crate::capacity::capacity;
 use crate::line::{Sent, is_skipped, parse_line};
 use ddr_address_map::map::Map;
-use ddr_capture::feed::LONGEST_LINE;
+use ddr_capture::feed::{LONGEST_LINE, MOST_LINES};
 use ddr_text::command::Reading;
 use ddr_text::fault::{Fault, LineFault};
 use std::str;
-
-/// The most lines of a stream.
-pub const MOST_LINES: u64 = 0xffff_ffff_ffff_fffe;
 
 /// A request, and the port that it is for.
 #[derive(Clone, Copy, Debug, PartialEq, Eq)]

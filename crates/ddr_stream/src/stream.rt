@@ -11,11 +11,11 @@ ghost use Rattle.ddr_stream.specs.Stream.{queue_at};
 ghost use Rattle.ddr_stream.specs.Waiting.{All, IsAhead, IsReadOn, IsSaidFault, IsSame, IsSized, IsStreamFault, Knows, all_in, begun, popped};
 
 use crate::ask::Ask;
-use crate::placing::{MOST_LINES, Placed, of_line};
+use crate::placing::{Placed, of_line};
 use crate::queue::Queue;
 use crate::requests::Requests;
 use ddr_address_map::map::Map;
-use ddr_capture::feed::{Feed, Found, Refusal, without_return};
+use ddr_capture::feed::{Feed, Found, MOST_LINES, Refusal, without_return};
 use ddr_text::command::Reading;
 use ddr_text::fault::{Fault, LineFault};
 use ddr_text::source::Source;

@@ -13,7 +13,7 @@ use Rattle.ddr_trace.specs.Reader.{IsAnswer, records_in, trace_of}
 use Rattle.ddr_trace.specs.Traces.{Recorded}
 use Rattle.ddr_trace.proofs.BackLemmas.{text_back}
 use Rattle.ddr_text.specs.Canonical.{IsCanonical, IsCommandThen, bank_then, number_then, target_then}
-use Rattle.ddr_text.specs.declared.canonical.Bank.{Bank}
+use Rattle.ddr_text.specs.declared.canonical.BankNumbers.{BankNumbers}
 use Rattle.ddr_text.specs.declared.canonical.Target.{Target}
 
 -- what is said of an outcome where there is one
@@ -53,11 +53,11 @@ pub write_auto_said : (text behind rest : List ℕ) (t : Target) → text ≡ co
 unfolding record_text command_fields
 write_auto_said text behind rest t e f cycle = rw (e, f) (sym (simp append_assoc))
 
-pub activate_said : (text behind fields last rest : List ℕ) (b : Bank) (row : ℕ) → text ≡ codes "ACT," ++ behind → behind ≡ bank_then b fields → fields ≡ number_then row 44 last → last ≡ 10 ∷ rest → IsCommandThen text (Act b.rank b.group b.bank row) rest
+pub activate_said : (text behind fields last rest : List ℕ) (b : BankNumbers) (row : ℕ) → text ≡ codes "ACT," ++ behind → behind ≡ bank_then b fields → fields ≡ number_then row 44 last → last ≡ 10 ∷ rest → IsCommandThen text (Act b.rank b.group b.bank row) rest
 unfolding record_text command_fields
 activate_said text behind fields last rest b row e f h i cycle = rw (e, f, h, i) (sym (simp append_assoc))
 
-pub precharge_said : (text behind last rest : List ℕ) (b : Bank) → text ≡ codes "PRE," ++ behind → behind ≡ bank_then b last → last ≡ 44 ∷ 10 ∷ rest → IsCommandThen text (Pre b.rank b.group b.bank) rest
+pub precharge_said : (text behind last rest : List ℕ) (b : BankNumbers) → text ≡ codes "PRE," ++ behind → behind ≡ bank_then b last → last ≡ 44 ∷ 10 ∷ rest → IsCommandThen text (Pre b.rank b.group b.bank) rest
 unfolding record_text command_fields
 precharge_said text behind last rest b e f h cycle = rw (e, f, h) (sym (simp append_assoc))
 

@@ -7,7 +7,7 @@ use Rattle.ddr_trace.specs.declared.command.Command.{Command}
 use Rattle.ddr_trace.specs.Reader.{FitsText}
 use Rattle.ddr_trace.specs.Text.{command_fields, record_text, trace_text}
 use Rattle.ddr_trace.specs.Traces.{Recorded}
-use Rattle.ddr_text.specs.declared.canonical.Bank.{Bank}
+use Rattle.ddr_text.specs.declared.canonical.BankNumbers.{BankNumbers}
 use Rattle.ddr_text.specs.declared.canonical.Target.{Target}
 
 -- the text is what is written of the trace, which fits a text of this geometry
@@ -21,7 +21,7 @@ abbrev pub number_then : ℕ → ℕ → List ℕ → List ℕ
 number_then number mark rest = decimal number ++ (mark ∷ rest)
 
 -- the numbers of a bank
-abbrev pub bank_then : Bank → List ℕ → List ℕ
+abbrev pub bank_then : BankNumbers → List ℕ → List ℕ
 bank_then b rest = number_then b.rank 44 (number_then b.group 44 (number_then b.bank 44 rest))
 
 -- the numbers of a line, its first column the last of them

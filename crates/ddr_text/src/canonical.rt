@@ -25,7 +25,7 @@ const HEADER: &[u8] = b"cycle,cmd,rank,group,bank,row,col\n";
 
 /// A bank, by its numbers.
 #[derive(Clone, Copy)]
-struct Bank {
+struct BankNumbers {
     rank: u32,
     group: u32,
     bank: u32,
@@ -261,13 +261,13 @@ fn take_target(text: &[u8]) -> Option<(Target, &[u8])>
 }
 
 /// The numbers of a bank, with a comma behind each.
-fn take_bank(text: &[u8]) -> Option<(Bank, &[u8])>
+fn take_bank(text: &[u8]) -> Option<(BankNumbers, &[u8])>
     ensures { IfSome result (λ taken. text.now ≡ bank_then taken.0 taken.1.now) }
 {
     let (rank, rest) = take_index(text, b',')?;
     let (group, rest) = take_index(rest, b',')?;
     let (bank, rest) = take_index(rest, b',')?;
-    Some((Bank { rank, group, bank }, rest))
+    Some((BankNumbers { rank, group, bank }, rest))
 }
 
 /// The line that begins at a column, and the line feed behind the column's number.

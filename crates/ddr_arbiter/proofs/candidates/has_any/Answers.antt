@@ -1,7 +1,7 @@
 -- One more place, of a candidate or not.
 use Rattle.std.proofs.Common.{sym, ap, ◌∙◌, arith}
 use Rattle.std.specs.List.{list_any, range_with_len}
-use Rattle.ddr_arbiter.specs.Served.{is_candidate}
+use Rattle.ddr_arbiter.specs.CandidateSet.{is_candidate}
 use Rattle.ddr_arbiter.proofs.PlaceLemmas.{any_here, any_none_more}
 use Rattle.ddr_arbiter.proofs.candidates.has_any.Goals as goal
 

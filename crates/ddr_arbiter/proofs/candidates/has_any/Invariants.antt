@@ -1,6 +1,6 @@
 use Rattle.std.proofs.Common.{◌≡◌, false}
 use Rattle.std.specs.List.{list_any, range_with_len}
-use Rattle.ddr_arbiter.specs.Served.{is_candidate}
+use Rattle.ddr_arbiter.specs.CandidateSet.{is_candidate}
 use Rattle.ddr_arbiter.proofs.candidates.has_any.Given as goal
 
 abbrev pub invariant-loop-place : goal.invariant-loop-place

@@ -1,6 +1,6 @@
 use Rattle.ddr_arbiter.specs.Choice.{can_column}
 use Rattle.ddr_arbiter.specs.Known.{AreKnown}
-use Rattle.ddr_arbiter.specs.Served.{is_candidate}
+use Rattle.ddr_arbiter.specs.CandidateSet.{is_candidate}
 use Rattle.ddr_arbiter.proofs.PlaceLemmas.{NoneAmong}
 use Rattle.ddr_arbiter.proofs.columns.column_place.Given as goal
 

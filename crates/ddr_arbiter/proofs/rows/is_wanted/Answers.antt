@@ -2,7 +2,7 @@
 use Rattle.std.proofs.Common.{◌≡◌, ℕ, Some, sym, ap, ◌∙◌, arith, inl, inr}
 use Rattle.std.proofs.lemmas.Bool.{cases_eq}
 use Rattle.ddr_hazards.specs.Banks.{in_bank}
-use Rattle.ddr_arbiter.specs.Served.{wants}
+use Rattle.ddr_arbiter.specs.CandidateSet.{wants}
 use Rattle.ddr_arbiter.proofs.BankPlaceLemmas.{all_listed, ended}
 use Rattle.ddr_arbiter.proofs.RowLemmas.{found_wanted, none_wanted}
 use Rattle.ddr_arbiter.proofs.rows.is_wanted.Goals as goal

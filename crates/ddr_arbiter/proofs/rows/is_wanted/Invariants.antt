@@ -1,6 +1,6 @@
 use Rattle.std.proofs.Common.{◌≡◌, ℕ, ◌<◌, Some, false}
 use Rattle.ddr_hazards.specs.Banks.{in_bank}
-use Rattle.ddr_arbiter.specs.Served.{wants}
+use Rattle.ddr_arbiter.specs.CandidateSet.{wants}
 use Rattle.ddr_arbiter.proofs.rows.is_wanted.Given as goal
 
 abbrev pub invariant-loop-k : goal.invariant-loop-k

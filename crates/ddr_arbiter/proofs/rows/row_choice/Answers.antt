@@ -6,7 +6,7 @@ use Rattle.ddr_address_map.specs.declared.place.Place.{Place}
 use Rattle.ddr_arbiter.specs.declared.choice.Choice.TheVariants as choice
 use Rattle.ddr_arbiter.specs.Choice.{is_something, row_choice_at}
 use Rattle.ddr_arbiter.specs.Known.{MarkTells}
-use Rattle.ddr_arbiter.specs.Served.{is_candidate, places_of}
+use Rattle.ddr_arbiter.specs.CandidateSet.{is_candidate, places_of}
 use Rattle.ddr_arbiter.proofs.KnownLemmas.{table_start}
 use Rattle.ddr_arbiter.proofs.PlaceLemmas.{chosen_among, none_more, not_chosen}
 use Rattle.ddr_arbiter.proofs.rows.row_choice.Goals as goal

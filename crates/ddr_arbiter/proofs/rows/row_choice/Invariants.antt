@@ -1,6 +1,6 @@
 use Rattle.ddr_arbiter.specs.Choice.{is_something, row_choice_at}
 use Rattle.ddr_arbiter.specs.Known.{AreDone}
-use Rattle.ddr_arbiter.specs.Served.{is_candidate, places_of}
+use Rattle.ddr_arbiter.specs.CandidateSet.{is_candidate, places_of}
 use Rattle.ddr_arbiter.proofs.PlaceLemmas.{NoneAmong}
 use Rattle.ddr_arbiter.proofs.rows.row_choice.Given as goal
 

@@ -2,7 +2,7 @@
 use Rattle.std.proofs.Common.{sym, ap, ◌∙◌}
 use Rattle.std.proofs.lemmas.Bool.{eq-eqb, ne_eqb}
 use Rattle.ddr_legality.specs.Bus.{is_legal_now}
-use Rattle.ddr_arbiter.specs.Served.{places_of}
+use Rattle.ddr_arbiter.specs.CandidateSet.{places_of}
 use Rattle.ddr_arbiter.proofs.RowLemmas.{active_done, own_waits, precharges, refused_or_wanted, wanted_or_refused}
 use Rattle.ddr_arbiter.proofs.rows.step_at.Goals as goal
 

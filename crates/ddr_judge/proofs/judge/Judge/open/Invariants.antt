@@ -4,6 +4,6 @@ use Rattle.ddr_judge.proofs.judge.Judge.open.Given as goal
 
 abbrev pub invariant-loop-channel : goal.invariant-loop-channel
 invariant-loop-channel l = record {
-  each : length l.lanes.items ≡ l._channel;
-  heard : HeardEach l.lanes.items l.config l.start [];
+  each : length l.judges.items ≡ l._channel;
+  heard : HeardEach l.judges.items l.config l.start [];
 }

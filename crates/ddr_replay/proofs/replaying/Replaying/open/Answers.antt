@@ -8,7 +8,7 @@ use Rattle.ddr_world.specs.Kept.{state_of}
 use Rattle.ddr_ledger.specs.Ledgers.{Ledger}
 use Rattle.ddr_replay.specs.Told.{IsKept, channel_of, head_of, wanted_of}
 use Rattle.ddr_replay.specs.View.{Replay}
-use Rattle.ddr_ledger.specs.declared.served.Served.{Served}
+use Rattle.ddr_ledger.specs.declared.released.ReleasedRequest.{ReleasedRequest}
 use Rattle.ddr_replay.proofs.ToldLemmas.{begun_told}
 use Rattle.ddr_replay.proofs.replaying.Replaying.open.Goals as goal
 
@@ -24,7 +24,7 @@ invariant_of-result c =
       counted = omega (arith, none, c.requires.new);
       noted = noted_new c.args.config.now (state_of c.in_ok-world.world) 0 0 c.in_ok-open.field-0 c.in_ok-open.ensures c.in_ok-world.ensures.state;
       watched = c.channel_of.ensures ∙ ap channel_of (sym c.in_ok-teller.ensures.wanted);
-      kept = subst (λ (xs : List Served). IsKept c.in_ok-teller.teller.tale xs) (sym rows) c.in_ok-teller.ensures.kept;
+      kept = subst (λ (xs : List ReleasedRequest). IsKept c.in_ok-teller.teller.tale xs) (sym rows) c.in_ok-teller.ensures.kept;
     }
 
 pub returns-clause-told : goal.returns-clause-told

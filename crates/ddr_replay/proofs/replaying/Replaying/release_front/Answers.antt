@@ -7,7 +7,7 @@ use Rattle.ddr_world.specs.Served.{front_service}
 use Rattle.ddr_rounds.specs.Rounds.{items_of}
 use Rattle.ddr_rounds.proofs.EventLemmas.{front_answered, front_fewer}
 use Rattle.ddr_replay.specs.declared.books.Books.{Books}
-use Rattle.ddr_ledger.specs.declared.served.Served.{Served}
+use Rattle.ddr_ledger.specs.declared.released.ReleasedRequest.{ReleasedRequest}
 use Rattle.ddr_replay.specs.Runs.{released_by}
 use Rattle.ddr_replay.specs.Told.{IsKept, channel_of, wanted_of}
 use Rattle.ddr_replay.specs.View.{Replay, Tells, replay_of, run_of}
@@ -38,7 +38,7 @@ invariant_of-self-2 c =
       counted = omega (arith, c.self.invariant.counted, fewer);
       noted = noted_heard a.config (state_of a.world) (state_of c.release.new.world) a.books.noting c.release.new.watcher.noting c.self.invariant.noted (noting_heard books c.release.new.watcher (state_of a.world) (state_of c.release.new.world) c.release.ensures.heard);
       watched = ap (λ (b : Books). b.watched) same ∙ c.self.invariant.watched ∙ ap channel_of (sym c.note_release.ensures.wanted);
-      kept = subst (λ (xs : List Served). IsKept teller.tale xs) (sym (ap (λ (b : Books). b.ledger.served) same)) (c.note_release.ensures.kept c.self.invariant.kept);
+      kept = subst (λ (xs : List ReleasedRequest). IsKept teller.tale xs) (sym (ap (λ (b : Books). b.ledger.served) same)) (c.note_release.ensures.kept c.self.invariant.kept);
     }
 
 pub returns-clause-released : goal.returns-clause-released

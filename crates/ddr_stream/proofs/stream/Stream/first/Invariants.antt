@@ -1,5 +1,5 @@
 use Rattle.std.proofs.Common.{◌≡◌, ◌+◌, ◌-◌, cond}
-use Rattle.ddr_stream.specs.declared.placing.TheConstants.{MOST_LINES}
+use Rattle.ddr_capture.specs.declared.feed.TheConstants.{MOST_LINES}
 use Rattle.std.specs.List.{slice_get}
 use Rattle.ddr_stream.specs.Stream.{queue_at}
 use Rattle.ddr_stream.specs.Waiting.{IsReadOn, IsSame, all_in}

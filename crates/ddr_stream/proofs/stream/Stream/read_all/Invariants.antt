@@ -1,5 +1,5 @@
 use Rattle.std.proofs.Common.{◌≡◌, ◌+◌, ◌-◌, cond}
-use Rattle.ddr_stream.specs.declared.placing.TheConstants.{MOST_LINES}
+use Rattle.ddr_capture.specs.declared.feed.TheConstants.{MOST_LINES}
 use Rattle.ddr_stream.specs.Waiting.{IsReadOn, IsSame, all_in}
 use Rattle.ddr_stream.proofs.stream.Stream.read_all.Given as goal
 

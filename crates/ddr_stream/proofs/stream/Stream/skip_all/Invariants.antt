@@ -1,5 +1,5 @@
 use Rattle.std.proofs.Common.{◌+◌, ◌-◌, cond, ◌≤◌}
-use Rattle.ddr_stream.specs.declared.placing.TheConstants.{MOST_LINES}
+use Rattle.ddr_capture.specs.declared.feed.TheConstants.{MOST_LINES}
 use Rattle.ddr_stream.specs.Waiting.{IsReadOn, all_in, rest_in}
 use Rattle.ddr_stream.proofs.NextLemmas.{HaveSameFault}
 use Rattle.ddr_stream.proofs.stream.Stream.skip_all.Given as goal
