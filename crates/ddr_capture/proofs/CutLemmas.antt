@@ -6,7 +6,7 @@ use Rattle.std.proofs.lemmas.List.{length-map, length-take-le, take_all}
 use Rattle.std.proofs.lemmas.List.Elements.{filter-append}
 use Rattle.std.proofs.lemmas.List.Splits.{length-slice_split, slice_split_first, slice_split_none}
 use Rattle.std.proofs.lemmas.List.Sums.{fails_before_first, position_or_len_is}
-use Rattle.ddr_trace.proofs.FieldLemmas.{header_not_seven}
+use Rattle.ddr_trace_text.proofs.FieldLemmas.{header_not_seven}
 use Rattle.ddr_text.specs.declared.fault.LineFault.TheVariants.{Fields}
 use Rattle.ddr_text.specs.Script.{fields_of}
 use Rattle.ddr_capture.specs.Fields.{cut, trimmed, trimmed_cut}

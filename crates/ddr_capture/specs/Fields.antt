@@ -3,7 +3,7 @@ use Rattle.std.specs.Prelude.{ℕ, ◌+◌, ◌-◌, ◌*◌, ◌^◌, ◌&&◌,
 use Rattle.std.specs.Char.{digit_value, is_ascii_whitespace}
 use Rattle.std.specs.List.{prefix_len, slice_split, suffix_len}
 use Rattle.std.specs.Str.{bytes_eq}
-use Rattle.ddr_trace.specs.Parse.{index_of}
+use Rattle.ddr_trace_text.specs.Parse.{index_of}
 
 -- what stands between the commas
 abbrev pub cut : List ℕ → List (List ℕ)

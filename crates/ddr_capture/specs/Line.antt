@@ -2,9 +2,9 @@
 use Rattle.std.specs.Prelude.{ℕ, ◌≤◌, ◌^◌, Bool, ◌&&◌, ◌||◌, if◌then◌else◌, List, [], ◌∷◌, codes, Option, Some, None, option_map, Result, Ok, Err}
 use Rattle.std.specs.Option.{ok_or, option_map_or}
 use Rattle.std.specs.Str.{bytes_eq}
-use Rattle.ddr_trace.specs.declared.parse.Parsed.{Parsed}
-use Rattle.ddr_trace.specs.declared.parse.Parsed.TheVariants as record_says
-use Rattle.ddr_trace.specs.Parse.{◌>>=◌, cycle_of, is_header, record_of}
+use Rattle.ddr_trace_text.specs.declared.parse.Parsed.{Parsed}
+use Rattle.ddr_trace_text.specs.declared.parse.Parsed.TheVariants as record_says
+use Rattle.ddr_trace_text.specs.Parse.{◌>>=◌, cycle_of, is_header, record_of}
 use Rattle.ddr_text.specs.declared.command.Format.{Format}
 use Rattle.ddr_text.specs.declared.command.Format.TheVariants.{Own, Dramsim3, Ramulator2}
 use Rattle.ddr_text.specs.declared.fault.LineFault.{LineFault}

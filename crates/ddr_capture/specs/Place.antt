@@ -2,7 +2,7 @@
 use Rattle.std.specs.Prelude.{Option, Some}
 use Rattle.ddr_trace.specs.declared.command.Command.{Command}
 use Rattle.ddr_trace.specs.declared.command.Command.TheVariants as commands
-use Rattle.ddr_trace.specs.Parse.{◌>>=◌}
+use Rattle.ddr_trace_text.specs.Parse.{◌>>=◌}
 use Rattle.ddr_capture.specs.declared.place.CommandKind.{CommandKind}
 use Rattle.ddr_capture.specs.declared.place.CommandKind.TheVariants as kinds
 use Rattle.ddr_capture.specs.declared.place.PartialPlace.{PartialPlace}

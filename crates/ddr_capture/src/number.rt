@@ -1,11 +1,11 @@
 //! The decimal numbers of a line.
 //!
-//! `ddr_trace` reads them, and nothing of this crate stands below.
+//! `ddr_trace_text` reads them, and nothing of this crate stands below.
 ghost use Rattle.std.specs.Prelude.{◌≡◌, ◌≤◌, IfSome};
-ghost use Rattle.ddr_trace.specs.Parse.{cycle_of, index_of};
+ghost use Rattle.ddr_trace_text.specs.Parse.{cycle_of, index_of};
 
 use ddr_timing::units::CLOCK_STOP;
-use ddr_trace::number::parse_number;
+use ddr_trace_text::number::parse_number;
 
 /// The cycle that a field spells, at most `CLOCK_STOP`.
 pub(crate) fn cycle_of(field: &[u8]) -> Option<u64>

@@ -1,16 +1,16 @@
 //! A line of this project's own form: a record of a trace's text, whose fields have no quotation marks.
 //!
-//! `cuts` stands below, and `line` above. `ddr_trace` says what a record is, and reads its fields.
+//! `cuts` stands below, and `line` above. `ddr_trace_text` says what a record is, and reads its fields.
 ghost use Rattle.std.specs.Prelude.{◌≡◌, ◌≢◌, IfNone, IfOk, IfSome, length};
-ghost use Rattle.ddr_trace.specs.Parse as trace;
-ghost use Rattle.ddr_trace.specs.Parse.{fields_in};
+ghost use Rattle.ddr_trace_text.specs.Parse as trace;
+ghost use Rattle.ddr_trace_text.specs.Parse.{fields_in};
 ghost use Rattle.ddr_capture.specs.Fields.{cut};
 ghost use Rattle.ddr_capture.specs.Line.{IsEarly, is_name, of_own, said_of_one};
 
 use crate::cuts::{four_cut, last_cuts};
 use crate::line::Said;
 use ddr_text::fault::LineFault;
-use ddr_trace::parse::{Address, Parsed, Record};
+use ddr_trace_text::parse::{Address, Parsed, Record};
 
 /// What a line says.
 #[tactic(auto, using(crate::proofs::CutLemmas::not_seven))]

@@ -5,7 +5,7 @@ use Rattle.std.specs.Str.Lines.{lines}
 use Rattle.std.proofs.lemmas.Bool.{cond-false, cond-true, lt-ltb}
 use Rattle.std.proofs.lemmas.Slice.Eq.{bytes_eq-Decides}
 use Rattle.ddr_trace.specs.declared.command.Entry.{Entry}
-use Rattle.ddr_trace.specs.declared.text.TraceError.{TraceError}
+use Rattle.ddr_trace_text.specs.declared.text.TraceError.{TraceError}
 use Rattle.ddr_trace.specs.Traces.{Recorded}
 use Rattle.ddr_text.specs.declared.command.Format.TheVariants.{Own}
 use Rattle.ddr_text.specs.declared.fault.Fault.TheVariants as faults

@@ -2,7 +2,7 @@
 use Rattle.std.specs.Prelude.{◌≡◌, ℕ, ◌+◌, ◌<◌, List, [], ◌∷◌, ◌++◌, length, IfSome, Option, Result, Ok, Err}
 use Rattle.std.specs.Str.Lines.{lines}
 use Rattle.ddr_trace.specs.declared.command.Entry.{Entry}
-use Rattle.ddr_trace.specs.declared.text.TraceError.TheVariants as error
+use Rattle.ddr_trace_text.specs.declared.text.TraceError.TheVariants as error
 use Rattle.ddr_trace.specs.Traces.{Recorded}
 use Rattle.ddr_text.specs.declared.fault.Fault.{Fault}
 use Rattle.ddr_text.specs.declared.fault.Fault.TheVariants as faults

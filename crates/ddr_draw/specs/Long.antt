@@ -4,8 +4,8 @@ use Rattle.std.specs.Str.{bytes_eq}
 use Rattle.std.specs.Str.Lines.{lines}
 use Rattle.ddr_timing.specs.declared.config.Config.{Config}
 use Rattle.ddr_trace.specs.declared.command.Entry.{Entry}
-use Rattle.ddr_trace.specs.declared.text.TraceError.{TraceError}
-use Rattle.ddr_trace.specs.declared.text.TraceError.TheVariants as error
+use Rattle.ddr_trace_text.specs.declared.text.TraceError.{TraceError}
+use Rattle.ddr_trace_text.specs.declared.text.TraceError.TheVariants as error
 use Rattle.ddr_trace.specs.Traces.{Recorded}
 use Rattle.ddr_text.specs.declared.command.Format.TheVariants.{Own}
 use Rattle.ddr_text.specs.declared.fault.Fault.{Fault}

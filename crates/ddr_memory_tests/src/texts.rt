@@ -3,9 +3,9 @@ use super::Met;
 use crate::entries::{act, is_trace, rd, wr};
 use crate::layers::again;
 use ddr_trace::command::Entry;
-use ddr_trace::reader::read_trace;
-use ddr_trace::text::{TraceError, write_trace};
 use ddr_trace::trace::Trace;
+use ddr_trace_text::reader::read_trace;
+use ddr_trace_text::text::{TraceError, write_trace};
 use std::alloc::{AllocError, Global};
 
 /// A write and a read of one line: the write RCD behind the ACT, the read WTR_L behind the write's data.

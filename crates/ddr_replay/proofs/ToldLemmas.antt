@@ -6,7 +6,7 @@ use Rattle.std.specs.List.{fold, slice_get}
 use Rattle.std.proofs.lemmas.Grind.{flat_map-append}
 use Rattle.ddr_reorder.specs.declared.reply.Service.{Service}
 use Rattle.ddr_trace.specs.declared.command.Entry.{Entry}
-use Rattle.ddr_trace.specs.Text.{command_fields, header, record_text}
+use Rattle.ddr_trace_text.specs.Text.{command_fields, header, record_text}
 use Rattle.ddr_world.specs.Kept.{Kept, state_of}
 use Rattle.ddr_world.specs.Promise.{trace_at}
 use Rattle.ddr_timing.specs.declared.config.Config.{Config}

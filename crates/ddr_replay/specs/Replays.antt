@@ -10,7 +10,7 @@ use Rattle.ddr_replay.specs.declared.order.Order.{Order}
 use Rattle.ddr_replay.specs.declared.taken.Taking.{Taking}
 use Rattle.ddr_replay.specs.declared.wanted.Wanted.{Wanted}
 use Rattle.ddr_replay.specs.declared.wanted.Wanted.TheVariants as told
-use Rattle.ddr_trace.specs.Text.{trace_text}
+use Rattle.ddr_trace_text.specs.Text.{trace_text}
 use Rattle.ddr_world.specs.State.{State}
 use Rattle.ddr_capture.specs.Front.{IsConfigRefused, IsOpened}
 use Rattle.ddr_text.specs.Instructions.{◌>>>◌}

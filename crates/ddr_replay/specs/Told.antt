@@ -2,7 +2,7 @@
 use Rattle.std.specs.Prelude.{◌≡◌, ◌<◌, ℕ, ◌-◌, Bool, true, false, List, [], ◌++◌, drop, flat_map, length, map, Option, Some, None}
 use Rattle.std.specs.Option.{option_map_or}
 use Rattle.ddr_trace.specs.declared.command.Entry.{Entry}
-use Rattle.ddr_trace.specs.Text.{command_fields, header, record_text}
+use Rattle.ddr_trace_text.specs.Text.{command_fields, header, record_text}
 use Rattle.ddr_world.specs.Promise.{trace_at}
 use Rattle.ddr_world.specs.State.{State}
 use Rattle.ddr_ledger.specs.Drampower.{drampower_line}

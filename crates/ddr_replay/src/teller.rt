@@ -4,7 +4,7 @@
 ghost use Rattle.std.specs.Prelude.{◌≡◌, List, [], ◌∷◌, ◌++◌, IfErr, IfOk, IsErrOf, IsOk, OnOk};
 ghost use Rattle.std.specs.Io.KnownBytes.{Appends};
 ghost use Rattle.ddr_text.specs.Sink.{write_fault};
-ghost use Rattle.ddr_trace.specs.Text.{command_fields, header, record_text};
+ghost use Rattle.ddr_trace_text.specs.Text.{command_fields, header, record_text};
 ghost use Rattle.ddr_trace.specs.declared.command.Entry.{Entry};
 ghost use Rattle.ddr_ledger.specs.Ledgers.{noted};
 ghost use Rattle.ddr_replay.specs.Told.{IsKept, IsNoted, LeavesOut, command_text, head_of, row_text, wanted_of};
@@ -21,7 +21,7 @@ use ddr_reorder::reply::Service;
 use ddr_text::fault::Fault;
 use ddr_text::sink::Sink;
 use ddr_trace::command::Entry;
-use ddr_trace::text::{entry_text, head_text};
+use ddr_trace_text::text::{entry_text, head_text};
 use std::alloc::{AllocError, Global};
 
 /// What is wanted of a replay, and what is kept of it until its end.

@@ -24,7 +24,7 @@ use ddr_measure::timed::Timed;
 use ddr_stream::requests::Requests;
 use ddr_text::fault::Fault;
 use ddr_timing::config::Config;
-use ddr_trace::text::end_text;
+use ddr_trace_text::text::end_text;
 use ddr_world::world::World;
 use std::alloc::Global;
 

@@ -16,7 +16,7 @@ use Rattle.ddr_world.specs.History.{front_of}
 use Rattle.ddr_world.specs.Kept.{Kept, KeptSide, side_of, state_of}
 use Rattle.ddr_world.specs.State.{State, ChannelSide}
 use Rattle.ddr_channel.specs.Kept as channel_kept
-use Rattle.ddr_trace.specs.Text.{trace_text}
+use Rattle.ddr_trace_text.specs.Text.{trace_text}
 use Rattle.std.proofs.lemmas.Option.{slice_get-map}
 use Rattle.ddr_world.specs.Step.{Step, made, step}
 use Rattle.ddr_rounds.specs.Rounds.{after, channels_served, items_of, outstanding, until_refused}

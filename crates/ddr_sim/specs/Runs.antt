@@ -3,7 +3,7 @@ use Rattle.std.specs.Prelude.{ℕ, ◌==◌, suc, zero, if◌then◌else◌, Lis
 use Rattle.std.specs.Option.{option_map_or}
 use Rattle.ddr_ports.specs.Asked.{Asked}
 use Rattle.ddr_timing.specs.declared.config.Config.{Config}
-use Rattle.ddr_trace.specs.Text.{trace_text}
+use Rattle.ddr_trace_text.specs.Text.{trace_text}
 use Rattle.ddr_world.specs.Events.{Submit, Take, End}
 use Rattle.ddr_world.specs.State.{State, opened}
 use Rattle.ddr_world.specs.Step.{Step, step}

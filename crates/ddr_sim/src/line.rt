@@ -12,7 +12,7 @@ use arrayvec::ArrayVec;
 use ddr_address_map::request::Kind;
 use ddr_reorder::reply::Reply;
 use ddr_timing::units::LINE_BYTES;
-use ddr_trace::number::MOST_DIGITS;
+use ddr_trace_text::number::MOST_DIGITS;
 
 /// A line, for which there is room: three numbers of at most 20 digits each, two digits for each byte of a line of memory,
 /// and at most ten bytes between them.

@@ -2,11 +2,11 @@
 //!
 //! `ddr_channel` and `ddr_trace` stand below, and `simulation` above.
 ghost use Rattle.std.specs.Prelude.{◌≡◌, true, IfErr, IfOk};
-ghost use Rattle.ddr_trace.specs.Text.{trace_text};
+ghost use Rattle.ddr_trace_text.specs.Text.{trace_text};
 
 use ddr_channel::channel::Channel;
 use ddr_text::fault::Fault;
-use ddr_trace::text::write_trace;
+use ddr_trace_text::text::write_trace;
 use std::alloc::Global;
 
 /// The text of the trace of a channel that keeps it.

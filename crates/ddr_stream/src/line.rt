@@ -5,7 +5,7 @@
 //! space around them. Other lines are empty, or comments, which begin with `#`.
 ghost use Rattle.std.specs.Prelude.{◌≡◌, IfNone, IfSome, drop, false, map, true};
 ghost use Rattle.std.specs.Option.{ok_or};
-ghost use Rattle.ddr_trace.specs.Numbers.{number_of};
+ghost use Rattle.ddr_trace_text.specs.Numbers.{number_of};
 ghost use Rattle.ddr_text.specs.Script.{LARGEST, has_space_at_end};
 ghost use Rattle.ddr_text.specs.declared.fault.LineFault.TheVariants.{Number, Word};
 ghost use Rattle.ddr_stream.specs.Line.{address_of, address_of_dramsim3, address_of_ramulator2, at_of, has_either_mark, is_skipped, kind_of, kind_of_dramsim3, kind_of_ramulator2, of_dramsim3, of_four, of_own, of_ramulator2, of_three, of_two, sent_of};
@@ -17,7 +17,7 @@ use ddr_text::command::Format;
 use ddr_text::fault::LineFault;
 use ddr_text::script;
 use ddr_text::script::fields;
-use ddr_trace::number::parse_number;
+use ddr_trace_text::number::parse_number;
 
 /// What a line asks for, and at which port.
 #[derive(Clone, Copy, Debug, PartialEq, Eq)]

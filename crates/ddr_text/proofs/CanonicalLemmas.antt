@@ -8,10 +8,10 @@ use Rattle.std.proofs.lemmas.List.{length-append}
 use Rattle.ddr_timing.specs.declared.geometry.Geometry.{Geometry}
 use Rattle.ddr_trace.specs.declared.command.Command.TheVariants.{Act, Rd, Wr, RdAuto, WrAuto, Pre, PreAll, Refresh}
 use Rattle.ddr_trace.specs.declared.command.Entry.{Entry}
-use Rattle.ddr_trace.specs.Text.{command_fields, end_fields, header, record_text, trace_text}
-use Rattle.ddr_trace.specs.Reader.{IsAnswer, records_in, trace_of}
+use Rattle.ddr_trace_text.specs.Text.{command_fields, end_fields, header, record_text, trace_text}
+use Rattle.ddr_trace_text.specs.Reader.{IsAnswer, records_in, trace_of}
 use Rattle.ddr_trace.specs.Traces.{Recorded}
-use Rattle.ddr_trace.proofs.BackLemmas.{text_back}
+use Rattle.ddr_trace_text.proofs.BackLemmas.{text_back}
 use Rattle.ddr_text.specs.Canonical.{IsCanonical, IsCommandThen, bank_then, number_then, target_then}
 use Rattle.ddr_text.specs.declared.canonical.BankNumbers.{BankNumbers}
 use Rattle.ddr_text.specs.declared.canonical.Target.{Target}

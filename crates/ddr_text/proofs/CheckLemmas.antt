@@ -5,10 +5,10 @@ use Rattle.std.specs.Io.KnownBytes.{Appends}
 use Rattle.ddr_text.specs.Input.{IsText}
 use Rattle.ddr_timing.specs.declared.config.Config.{Config}
 use Rattle.ddr_trace.specs.declared.checker.Fault as checker
-use Rattle.ddr_trace.specs.declared.text.TraceError.{TraceError}
-use Rattle.ddr_trace.specs.declared.text.TraceError.TheVariants as error
-use Rattle.ddr_trace.specs.Reader.{IsAnswer, records_in, trace_of}
-use Rattle.ddr_trace.proofs.RefusalLemmas.{NotWrite}
+use Rattle.ddr_trace_text.specs.declared.text.TraceError.{TraceError}
+use Rattle.ddr_trace_text.specs.declared.text.TraceError.TheVariants as error
+use Rattle.ddr_trace_text.specs.Reader.{IsAnswer, records_in, trace_of}
+use Rattle.ddr_trace_text.proofs.RefusalLemmas.{NotWrite}
 use Rattle.ddr_trace.specs.Traces.{Recorded}
 use Rattle.ddr_text.specs.declared.fault.Fault.{Fault}
 use Rattle.ddr_text.specs.declared.fault.Fault.TheVariants as faults

@@ -4,8 +4,8 @@ use Rattle.std.specs.Fmt.{decimal}
 use Rattle.ddr_timing.specs.declared.geometry.Geometry.{Geometry}
 use Rattle.ddr_timing.specs.declared.units.TheConstants.{LINE_COLUMNS}
 use Rattle.ddr_trace.specs.declared.command.Command.{Command}
-use Rattle.ddr_trace.specs.Reader.{FitsText}
-use Rattle.ddr_trace.specs.Text.{command_fields, record_text, trace_text}
+use Rattle.ddr_trace_text.specs.Reader.{FitsText}
+use Rattle.ddr_trace_text.specs.Text.{command_fields, record_text, trace_text}
 use Rattle.ddr_trace.specs.Traces.{Recorded}
 use Rattle.ddr_text.specs.declared.canonical.BankNumbers.{BankNumbers}
 use Rattle.ddr_text.specs.declared.canonical.Target.{Target}

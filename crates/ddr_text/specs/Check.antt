@@ -4,11 +4,11 @@ use Rattle.std.specs.Fmt.{decimal}
 use Rattle.std.specs.Io.KnownBytes.{Appends}
 use Rattle.ddr_timing.specs.declared.config.Config.{Config}
 use Rattle.ddr_trace.specs.declared.checker.Fault as checker
-use Rattle.ddr_trace.specs.declared.text.TraceError.{TraceError}
-use Rattle.ddr_trace.specs.declared.text.TraceError.TheVariants as error
+use Rattle.ddr_trace_text.specs.declared.text.TraceError.{TraceError}
+use Rattle.ddr_trace_text.specs.declared.text.TraceError.TheVariants as error
 use Rattle.ddr_trace.specs.Legality.{IsFirstFault, IsLegal, IsRefreshed}
 use Rattle.ddr_trace.specs.Names.{name_of}
-use Rattle.ddr_trace.specs.Reader.{records_in, trace_of}
+use Rattle.ddr_trace_text.specs.Reader.{records_in, trace_of}
 use Rattle.ddr_trace.specs.Traces.{Recorded}
 use Rattle.ddr_text.specs.declared.fault.Fault.{Fault}
 use Rattle.ddr_text.specs.declared.fault.Fault.TheVariants as faults

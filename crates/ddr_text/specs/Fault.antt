@@ -2,8 +2,8 @@
 use Rattle.std.specs.Prelude.{ℕ, Bool, true, false}
 use Rattle.ddr_timing.specs.declared.error.ConfigError.{ConfigError}
 use Rattle.ddr_timing.specs.declared.error.ConfigError.TheVariants as refusals
-use Rattle.ddr_trace.specs.declared.text.TraceError.{TraceError}
-use Rattle.ddr_trace.specs.declared.text.TraceError.TheVariants as traces
+use Rattle.ddr_trace_text.specs.declared.text.TraceError.{TraceError}
+use Rattle.ddr_trace_text.specs.declared.text.TraceError.TheVariants as traces
 use Rattle.ddr_text.specs.declared.fault.Fault.{Fault}
 use Rattle.ddr_text.specs.declared.fault.Fault.TheVariants as faults
 

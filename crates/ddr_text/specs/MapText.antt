@@ -12,7 +12,7 @@ use Rattle.ddr_address_map.specs.Map.{place_of}
 use Rattle.ddr_address_map.specs.declared.place.Place.{Place}
 use Rattle.ddr_text.specs.declared.fault.Fault.{Fault}
 use Rattle.ddr_text.specs.declared.fault.Fault.TheVariants as faults
-use Rattle.ddr_trace.specs.Numbers.{number_of}
+use Rattle.ddr_trace_text.specs.Numbers.{number_of}
 use Rattle.ddr_text.specs.Body.{HasInputFault, HasParts, parts_of}
 use Rattle.ddr_text.specs.Input.{IsText}
 use Rattle.ddr_text.specs.Script.{LARGEST}

@@ -8,7 +8,7 @@ use Rattle.hex.specs.Hex.{decode_of, decode_sized}
 use Rattle.ddr_ports.specs.Asked as asks
 use Rattle.ddr_ports.specs.Asked.{Asked}
 use Rattle.ddr_timing.specs.declared.units.TheConstants.{LINE_BYTES}
-use Rattle.ddr_trace.specs.Numbers.{number_of}
+use Rattle.ddr_trace_text.specs.Numbers.{number_of}
 use Rattle.ddr_text.specs.declared.script.Instruction as kept
 use Rattle.ddr_text.specs.declared.script.Instruction.TheVariants as as_kept
 

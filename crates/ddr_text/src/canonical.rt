@@ -1,11 +1,11 @@
 //! Traces in the one form in which they are written, read straight from the bytes.
 //!
-//! Below stand `ddr_trace`, whose `write_trace` writes this form and whose `read_trace` reads every other form too, and
-//! `ddr_timing`; `check` stands above. Each function here takes one thing off the front of a text and gives what stands
+//! Below stand `ddr_trace_text`, whose `write_trace` writes this form and whose `read_trace` reads every other form too, `ddr_trace`
+//! and `ddr_timing`; `check` stands above. Each function here takes one thing off the front of a text and gives what stands
 //! behind it, or None where the text begins with something else.
 ghost use Rattle.std.specs.Prelude.{◌≡◌, ◌≤◌, ◌<◌, ◌*◌, ◌++◌, IfSome, length, true};
 ghost use Rattle.ddr_trace.specs.Rules.{is_in};
-ghost use Rattle.ddr_trace.specs.Text.{command_fields, end_fields, record_text};
+ghost use Rattle.ddr_trace_text.specs.Text.{command_fields, end_fields, record_text};
 ghost use Rattle.ddr_text.specs.Canonical.{IsCanonical, IsCommandThen, bank_then, number_then, target_then};
 
 use ddr_timing::geometry::Geometry;

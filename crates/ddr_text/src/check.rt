@@ -1,10 +1,10 @@
 //! Whether a trace is legal: a configuration and a trace's text in, a verdict out.
 //!
-//! `input`, `body`, `canonical`, `writing`, `ddr_legality` and `ddr_trace` stand below, and the program above. `ddr_explain`
-//! reads and judges a trace by the functions here.
+//! `input`, `body`, `canonical`, `writing`, `ddr_legality`, `ddr_trace` and `ddr_trace_text` stand below, and the program above.
+//! `ddr_explain` reads and judges a trace by the functions here.
 ghost use Rattle.std.specs.Prelude.{◌≡◌, ◌≢◌, IfErr, IfOk, IfSome, IsErrOf, IsTrue, Ok, string_bytes};
 ghost use Rattle.ddr_trace.specs.declared.checker.Fault as checker;
-ghost use Rattle.ddr_trace.specs.Reader.{IsAnswer, records_in, trace_of};
+ghost use Rattle.ddr_trace_text.specs.Reader.{IsAnswer, records_in, trace_of};
 ghost use Rattle.ddr_text.specs.Check.{HasCheckFault, IsChecked, IsVerdict, SaysTrace, in_memory, verdict_text};
 ghost use Rattle.ddr_text.specs.Fault.{is_before_output};
 
@@ -20,9 +20,9 @@ use ddr_timing::config::Config;
 use ddr_timing::geometry::Geometry;
 use ddr_timing::profile::PROFILE_S;
 use ddr_trace::checker;
-use ddr_trace::reader::read_trace;
-use ddr_trace::text::TraceError;
 use ddr_trace::trace::Trace;
+use ddr_trace_text::reader::read_trace;
+use ddr_trace_text::text::TraceError;
 use std::alloc::{AllocError, Global};
 
 /// Reads a trace, and writes `legal`, or `fault PLACE RULE` for its first fault; answers whether it is legal. It

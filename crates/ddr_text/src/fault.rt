@@ -7,7 +7,7 @@ ghost use Rattle.ddr_text.specs.Fault.{status_of};
 
 use ddr_timing::error::ConfigError;
 use ddr_timing::key::Key;
-use ddr_trace::text::TraceError;
+use ddr_trace_text::text::TraceError;
 use std::alloc::{AllocError, AllocFailed};
 use thiserror::Error;
 

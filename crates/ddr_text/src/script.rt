@@ -1,10 +1,10 @@
 //! The lines of a script.
 //!
-//! Below stand `hexadecimal`, which reads the bytes, and `ddr_trace`, which reads the numbers; above stand `instructions` and
-//! `map`. A line that does something is an instruction: a word and its fields, with one or more spaces between two. Other
-//! lines are empty, or comments, which begin with `#`.
+//! Below stand `hexadecimal`, which reads the bytes, and `ddr_trace_text`, which reads the numbers; above stand `instructions` and `map`. A
+//! line that does something is an instruction: a word and its fields, with one or more spaces between two. Other lines are empty, or
+//! comments, which begin with `#`.
 ghost use Rattle.std.specs.Prelude.{◌≡◌, ◌≤◌, ◌<◌, ◌++◌, IfOk, map, take};
-ghost use Rattle.ddr_trace.specs.Numbers.{number_of};
+ghost use Rattle.ddr_trace_text.specs.Numbers.{number_of};
 ghost use Rattle.ddr_text.specs.declared.script.LineError.TheVariants.{OutOfMemory};
 ghost use Rattle.ddr_text.specs.Lines.{Gives};
 ghost use Rattle.ddr_text.specs.Script.{LARGEST, bytes_of, cycle_of, enable_of, fields_of, instruction_of, is_skipped, just_bytes_of, kept_field, masked_of, of_fields, of_five, of_four, of_two, port_of, read_of, view, write_of};
@@ -13,7 +13,7 @@ use crate::hexadecimal::{decode, decode_into};
 use arrayvec::ArrayVec;
 use ddr_address_map::request::Line;
 use ddr_timing::units::LINE_BYTES;
-use ddr_trace::number::parse_number;
+use ddr_trace_text::number::parse_number;
 use std::alloc::{AllocError, AllocFailed, Global};
 
 /// The greatest length that a line reads.

@@ -1,15 +1,9 @@
-pub mod BackLemmas
 pub mod BankLemmas
 pub mod BusLemmas
 pub mod Earlier
 pub mod CountedLemmas
 pub mod FaultLemmas
-pub mod FieldLemmas
 pub mod LowestLemmas
-pub mod NumberLemmas
 pub mod PlaceLemmas
-pub mod ReadLemmas
-pub mod RefusalLemmas
 pub mod SpacingLemmas
-pub mod TextLemmas
 pub mod WindowLemmas

@@ -5,9 +5,4 @@ pub mod Rules
 pub mod Spacing
 pub mod Legality
 pub mod Names
-pub mod Table
-pub mod Text
 pub mod Traces
-pub mod Numbers
-pub mod Parse
-pub mod Reader

@@ -5,9 +5,9 @@ use super::{Ending, check_last, config_with};
 use ddr_samples::sample::sample;
 use ddr_timing::profile::PROFILE_S;
 use ddr_trace::command::{Command, Entry};
-use ddr_trace::reader::read_trace;
 use ddr_trace::rule::Rule;
-use ddr_trace::text::write_trace;
+use ddr_trace_text::reader::read_trace;
+use ddr_trace_text::text::write_trace;
 use std::test::Fail;
 
 const OPENED: Entry = act!(0, 0, 0, 0);

@@ -1,5 +1,5 @@
 //! Numbers at the ends of what a field may spell.
-use ddr_trace::number::parse_number;
+use ddr_trace_text::number::parse_number;
 
 /// A field, the most that its number may be, and the number.
 const ENDS: &[(&[u8], u64, Option<u64>)] = &[

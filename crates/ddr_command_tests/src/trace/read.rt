@@ -2,8 +2,8 @@
 use super::entries::{act, pre, pre_all, rd, refresh, wr};
 use super::text::WRITE_THEN_READ;
 use ddr_trace::command::Entry;
-use ddr_trace::reader::read_trace;
-use ddr_trace::text::{TraceError, write_trace};
+use ddr_trace_text::reader::read_trace;
+use ddr_trace_text::text::{TraceError, write_trace};
 use std::alloc::{AllocError, Global};
 use std::io;
 use std::io::{ErrorKind, Read};

@@ -2,7 +2,7 @@
 use super::entries::{act, pre, pre_all, rd, refresh, wr};
 use ddr_trace::command::{Command, Entry};
 use ddr_trace::rule::Rule;
-use ddr_trace::text::{TraceError, write_trace};
+use ddr_trace_text::text::{TraceError, write_trace};
 use std::alloc::Global;
 use std::io;
 use std::io::{ErrorKind, Write};

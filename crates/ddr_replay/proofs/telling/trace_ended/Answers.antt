@@ -2,7 +2,7 @@
 use Rattle.std.proofs.Common.{List, ℕ, ◌++◌, ap, ap₂, sym, ◌∙◌}
 use Rattle.std.specs.List.{flat_map}
 use Rattle.ddr_trace.specs.declared.command.Entry.{Entry}
-use Rattle.ddr_trace.specs.Text.{command_fields, end_fields, header, record_text, trace_text}
+use Rattle.ddr_trace_text.specs.Text.{command_fields, end_fields, header, record_text, trace_text}
 use Rattle.ddr_counting.proofs.NotingLemmas.{trace_of_channel}
 use Rattle.ddr_replay.proofs.TellingLemmas.{text_there}
 use Rattle.ddr_replay.proofs.telling.trace_ended.Goals as goal

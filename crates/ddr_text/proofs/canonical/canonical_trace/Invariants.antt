@@ -3,7 +3,7 @@ use Rattle.std.specs.Prelude.{nat_le}
 use Rattle.std.specs.List.{flat_map, list_all}
 use Rattle.ddr_timing.specs.declared.units.TheConstants.{CLOCK_STOP}
 use Rattle.ddr_trace.specs.Rules.{is_in}
-use Rattle.ddr_trace.specs.Text.{command_fields, header, record_text}
+use Rattle.ddr_trace_text.specs.Text.{command_fields, header, record_text}
 use Rattle.ddr_text.proofs.canonical.canonical_trace.Given as goal
 
 abbrev pub invariant-lines : goal.invariant-lines

@@ -1,5 +1,5 @@
 use Rattle.std.proofs.Common.{◌∙◌}
-use Rattle.ddr_trace.specs.Text.{command_fields}
+use Rattle.ddr_trace_text.specs.Text.{command_fields}
 use Rattle.ddr_text.proofs.CanonicalLemmas.{line_short}
 use Rattle.ddr_text.proofs.canonical.take_entry.Goals as goal
 

@@ -2,8 +2,8 @@ use Rattle.std.proofs.Common.{Ok, refl, sym, subst, ◌∙◌}
 use Rattle.ddr_text.specs.Input.{IsText}
 use Rattle.std.proofs.lemmas.Result.{err_from_is_err_and}
 use Rattle.ddr_timing.specs.declared.profile.TheConstants.{PROFILE_S}
-use Rattle.ddr_trace.specs.Reader.{records_in, trace_of}
-use Rattle.ddr_trace.proofs.RefusalLemmas.{trace_not}
+use Rattle.ddr_trace_text.specs.Reader.{records_in, trace_of}
+use Rattle.ddr_trace_text.proofs.RefusalLemmas.{trace_not}
 use Rattle.ddr_text.proofs.CheckLemmas.{not_read, not_written, parts_fault, trace_fault, trace_said}
 use Rattle.ddr_text.proofs.check.read_checked.Goals as goal
 

@@ -1,5 +1,5 @@
 use Rattle.std.proofs.Common.{Ok, subst}
-use Rattle.ddr_trace.specs.Reader.{IsAnswer, records_in, trace_of}
+use Rattle.ddr_trace_text.specs.Reader.{IsAnswer, records_in, trace_of}
 use Rattle.ddr_text.proofs.CanonicalLemmas.{canonical_answer}
 use Rattle.ddr_text.proofs.check.trace_in.Goals as goal
 

@@ -1,0 +1,8 @@
+use Rattle.std.proofs.Common.{◌≡◌, [], ◌++◌, take, map}
+use Rattle.std.specs.Fmt.{decimal}
+use Rattle.csv.specs.Records.{fields_of, partial_of}
+use Rattle.ddr_trace_text.proofs.text.push_numbers.Given as goal
+
+abbrev pub invariant-loop-number : goal.invariant-loop-number
+invariant-loop-number l =
+    record { fields : fields_of l.fields ≡ fields_of l.initial.fields ++ map decimal (take l.number-index l.numbers); partial : partial_of l.fields ≡ [] }

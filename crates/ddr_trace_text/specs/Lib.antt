@@ -1,0 +1,5 @@
+pub mod Table
+pub mod Text
+pub mod Numbers
+pub mod Parse
+pub mod Reader
