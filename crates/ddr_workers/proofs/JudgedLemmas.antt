@@ -20,7 +20,7 @@ use Rattle.ddr_arbiter.specs.Laws.{command_of}
 use Rattle.ddr_judge.specs.declared.fault.Fault.{Fault}
 use Rattle.ddr_judge.specs.declared.judge.Judge.{Judge}
 use Rattle.ddr_judge.specs.Judged.{HasJudged, channels_of, commands_of, end_of}
-use Rattle.ddr_judge.specs.Records.{Record, entries_of, lane}
+use Rattle.ddr_judge.specs.Records.{Record, entries_of, of_channel}
 use Rattle.ddr_judge.specs.Verdict.{IsVerdict}
 use Rattle.ddr_judge.proofs.JudgedLemmas.{commands_within}
 use Rattle.ddr_past.specs.declared.past.Past.{Past}
@@ -28,23 +28,23 @@ use Rattle.ddr_world.specs.declared.item.Item.{Item}
 use Rattle.ddr_world.specs.declared.item.Item.TheVariants.{Request, End}
 use Rattle.ddr_world.specs.Items.{Takes}
 use Rattle.ddr_workers.specs.declared.judged.JudgedChannel.TheInside.{Inside}
-use Rattle.ddr_workers.specs.declared.judged.TheConstants.{LANE}
+use Rattle.ddr_workers.specs.declared.judged.TheConstants.{CHANNEL}
 use Rattle.ddr_workers.specs.Judged.{IsJudged, IsWhole, told}
 
 abbrev record_of : Entry → Record
-record_of e = record { channel = LANE; entry = e; line = e.cycle }
+record_of e = record { channel = CHANNEL; entry = e; line = e.cycle }
 
--- all that the judge was told came on the one lane
-lane_told : (entries : List Entry) → lane LANE (told entries) ≡ told entries
-lane_told [] = refl
-lane_told (e ∷ entries) = ap (λ (rs : List Record). record { channel = LANE; entry = e; line = e.cycle } ∷ rs) (lane_told entries)
+-- all that the judge was told came on the one channel
+channel_told : (entries : List Entry) → of_channel CHANNEL (told entries) ≡ told entries
+channel_told [] = refl
+channel_told (e ∷ entries) = ap (λ (rs : List Record). record { channel = CHANNEL; entry = e; line = e.cycle } ∷ rs) (channel_told entries)
 
 entries_told : (entries : List Entry) → entries_of (told entries) ≡ entries
 entries_told [] = refl
 entries_told (e ∷ entries) = ap (λ (es : List Entry). e ∷ es) (entries_told entries)
 
-entries_are : (entries : List Entry) → entries_of (lane LANE (told entries)) ≡ entries
-entries_are entries = ap entries_of (lane_told entries) ∙ entries_told entries
+entries_are : (entries : List Entry) → entries_of (of_channel CHANNEL (told entries)) ≡ entries
+entries_are entries = ap entries_of (channel_told entries) ∙ entries_told entries
 
 -- a call that issues nothing
 pub whole_kept : (a : Inside) (k : Kept) → IsWhole a → k.config ≡ a.channel.config → k.start ≡ a.channel.start → k.trace ≡ a.channel.trace → a.channel.now ≤ k.now → IsWhole (record a { channel = k })
@@ -62,11 +62,11 @@ whole_kept a k whole config start trace later = record {
 -- a cycle that issues a command, of which the judge is told
 pub whole_told : (a : Inside) (k : Kept) (judge : Judge) (commands : Past Entry) (e : Entry) (line : ℕ) → IsWhole a → k.config ≡ a.channel.config → k.start ≡ a.channel.start
     → k.trace ≡ a.channel.trace ++ e ∷ [] → k.now ≡ a.channel.now + 1 → line ≡ e.cycle → e.cycle ≡ a.channel.now → commands.items ≡ a.commands.items ++ e ∷ [] → end_of judge ≡ max (end_of a.judge) (e.cycle + 1)
-    → ((c : Config) (start : ℕ) (records : List Record) → HasJudged a.judge c start records → HasJudged judge c start (records ++ record { channel = LANE; entry = e; line = line } ∷ []))
+    → ((c : Config) (start : ℕ) (records : List Record) → HasJudged a.judge c start records → HasJudged judge c start (records ++ record { channel = CHANNEL; entry = e; line = line } ∷ []))
     → IsWhole (record a { channel = k; judge = judge; commands = commands })
 whole_told a k judge commands e line whole config start trace clock at_cycle now behind end hears =
-    let grown : told (a.channel.trace ++ e ∷ []) ≡ told a.channel.trace ++ record { channel = LANE; entry = e; line = line } ∷ [] =
-    map-append record_of a.channel.trace (e ∷ []) ∙ ap (λ n. told a.channel.trace ++ record { channel = LANE; entry = e; line = n } ∷ []) (sym at_cycle) in
+    let grown : told (a.channel.trace ++ e ∷ []) ≡ told a.channel.trace ++ record { channel = CHANNEL; entry = e; line = line } ∷ [] =
+    map-append record_of a.channel.trace (e ∷ []) ∙ ap (λ n. told a.channel.trace ++ record { channel = CHANNEL; entry = e; line = n } ∷ []) (sym at_cycle) in
     record {
       first = whole.first ∙ sym start;
       commands = behind ∙ ap (λ (es : List Entry). es ++ e ∷ []) whole.commands ∙ sym trace;
@@ -89,10 +89,10 @@ whole_taken a k (Request r) noted noted' whole takes =
 whole_taken a k (End p) noted noted' whole takes = subst (λ (x : Kept). IsWhole (record a { channel = x })) (sym takes.0) whole
 
 -- the judge was told of no more commands than there were cycles
-pub heard_few : (a : Inside) → IsWhole a → commands_of a.judge LANE ≤ a.channel.now
+pub heard_few : (a : Inside) → IsWhole a → commands_of a.judge CHANNEL ≤ a.channel.now
 heard_few a whole =
-    let there : LANE < channels_of a.judge = omega (arith, whole.judged.channels, a.channel.config.geometry.channels_range) in
-    omega (arith, commands_within a.judge a.channel.config a.channel.start (told a.channel.trace) LANE whole.judged there, length-map a.channel.trace record_of, whole.few)
+    let there : CHANNEL < channels_of a.judge = omega (arith, whole.judged.channels, a.channel.config.geometry.channels_range) in
+    omega (arith, commands_within a.judge a.channel.config a.channel.start (told a.channel.trace) CHANNEL whole.judged there, length-map a.channel.trace record_of, whole.few)
 
 pub none_issued : (o : Option Issued) (trace : List Entry) → ((i : Issued) → o ≡ Some i → ⊥) → with_issued o trace ≡ trace
 none_issued None trace none = refl
@@ -119,13 +119,13 @@ issued_now s i is =
 
 -- what the verdict says
 
-pub judged_none : (c : Config) (start end : ℕ) (entries : List Entry) → IsVerdict c start end (lane LANE (told entries)) None → IsJudged c (record { start = start; end = end; entries = entries }) None
+pub judged_none : (c : Config) (start end : ℕ) (entries : List Entry) → IsVerdict c start end (of_channel CHANNEL (told entries)) None → IsJudged c (record { start = start; end = end; entries = entries }) None
 judged_none c start end entries verdict = record {
   legal = λ none. subst (λ (es : List Entry). IsLegal c start end es × IsRefreshed c start end es) (entries_are entries) verdict;
   first = tt;
 }
 
-pub judged_fault : (c : Config) (start end : ℕ) (entries : List Entry) (f : Fault) → IsVerdict c start end (lane LANE (told entries)) (Some f)
+pub judged_fault : (c : Config) (start end : ℕ) (entries : List Entry) (f : Fault) → IsVerdict c start end (of_channel CHANNEL (told entries)) (Some f)
     → IsJudged c (record { start = start; end = end; entries = entries }) (Some (record { place = f.place; rule = f.rule }))
 judged_fault c start end entries f verdict = record {
   legal = λ none. absurd (let impossible = none in cc);

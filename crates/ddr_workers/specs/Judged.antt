@@ -8,11 +8,11 @@ use Rattle.ddr_trace.specs.Traces.{Recorded}
 use Rattle.ddr_judge.specs.Judged.{HasJudged, end_of}
 use Rattle.ddr_judge.specs.Records.{Record}
 use Rattle.ddr_workers.specs.declared.judged.JudgedChannel.TheInside.{Inside}
-use Rattle.ddr_workers.specs.declared.judged.TheConstants.{LANE}
+use Rattle.ddr_workers.specs.declared.judged.TheConstants.{CHANNEL}
 
 -- the commands of a channel as its judge is told them: in place of a line stands the cycle
 abbrev pub told : List Entry → List Record
-told entries = map (λ e. record { channel = LANE; entry = e; line = e.cycle }) entries
+told entries = map (λ e. record { channel = CHANNEL; entry = e; line = e.cycle }) entries
 
 -- the judge was told each command that the channel issued, in order, and no other
 pub record IsWhole (a : Inside) : Type 0 where

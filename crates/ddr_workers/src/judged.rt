@@ -30,8 +30,8 @@ use ddr_world::item::Item;
 use std::alloc::{AllocError, Global};
 use std::marker::Model;
 
-/// The lane of the judge on which the channel's commands come. It has one for each channel of a configuration.
-const LANE: u32 = 0;
+/// The channel of the judge on which the worker's commands come. It has one for each channel of a configuration.
+const CHANNEL: u32 = 0;
 
 /// A channel, and a judge that was told each command that it issued. Contracts see the channel.
 #[derive(Drop)]
@@ -141,7 +141,7 @@ impl JudgedChannel {
     {
         let cycle = self.channel.now();
         if let Some(issued) = self.channel.cycle_observed()? {
-            self.judge.pass(LANE, &issued.entry, cycle);
+            self.judge.pass(CHANNEL, &issued.entry, cycle);
             self.commands = self.commands.and(&issued.entry);
         }
         Ok(())
@@ -190,7 +190,7 @@ impl JudgedChannel {
     fn first_fault(&self) -> Option<Fault>
         ensures { IsJudged self.entry.now.config (record { start = self.entry.now.start; end = self.entry.now.now; entries = self.entry.now.trace }) result }
     {
-        let fault = self.judge.verdict(LANE, self.channel.now())?;
+        let fault = self.judge.verdict(CHANNEL, self.channel.now())?;
         Some(Fault {
             place: fault.place as usize,
             rule: fault.rule,
